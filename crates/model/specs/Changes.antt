@@ -1,0 +1,45 @@
+-- Document 01, "The calls": the elementary changes of a state. A set of rows is a test.
+use mathlib.Core.Bool.{Bool, true, cond, _&&_}
+use Prim.Native.Nat.{ℕ, _/_, _%_}
+use lib.Dec.{leb, eqb}
+use Rattle.seq.specs.Below.{anyBelow}
+use Rattle.seq.specs.Each.{each}
+use Rattle.model.specs.declared.Cause.{Cause}
+use Rattle.model.specs.declared.Condition.the-variants.{Killed}
+use Rattle.model.specs.declared.Content.{Content}
+use Rattle.model.specs.declared.Content.the-variants.{Empty, Filled}
+use Rattle.model.specs.declared.Row.{Row}
+use Rattle.model.specs.declared.Slot.{Slot}
+use Rattle.model.specs.declared.Holding.{Holding}
+use Rattle.model.specs.declared.State.{State}
+use Rattle.model.specs.State.{noHolding, rowAt, slotAt, holdingAt, withRows, withTable, withHoldings}
+use Rattle.model.specs.Words.{isWrite}
+
+-- a write pin whose arrival is at most the clock: when it goes, the slot becomes dirty
+unfoldable pub written : ℕ → Holding → Bool
+written clock h = isWrite (h .pin) && leb (h .arrival) clock
+
+abbrev pub dirtiedContent : Content → Content
+dirtiedContent Empty = Empty
+dirtiedContent (Filled page arrival dirty lowest) = Filled page arrival true lowest
+
+unfoldable pub dirtied : Slot → Slot
+dirtied x = record { content = dirtiedContent (x .content); touch = x .touch }
+
+-- all holdings of some rows go
+unfoldable pub released : (ℕ → Bool) → State → State
+released some s =
+    withHoldings (withTable s (each (λ slot x. cond (anyBelow 32 (λ row. some row && written (s .clock) (holdingAt s slot row))) (dirtied x) x) (s .table)))
+    (each (λ k h. cond (some (k % 32)) noHolding h) (s .holdings))
+
+-- the mark of a killed row
+abbrev pub killedRow : Cause → Row
+killedRow cause = record { condition = Killed cause; deadline = 0 }
+
+-- a kill drops all holdings of a row and marks it: here of some rows, for one cause
+unfoldable pub killed : (ℕ → Bool) → Cause → State → State
+killed some cause s = withRows (released some s) (each (λ row x. cond (some row) (killedRow cause) x) (s .rows))
+
+-- the holders of a slot lose it
+unfoldable pub cleared : ℕ → State → State
+cleared slot s = withHoldings s (each (λ k h. cond (eqb (k / 32) slot) noHolding h) (s .holdings))

@@ -1,0 +1,4 @@
+pub mod Parties
+pub mod State
+pub mod Words
+pub mod Changes

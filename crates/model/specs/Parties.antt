@@ -1,0 +1,36 @@
+-- Document 01, "The parties": rows, classes, the access rule, priority.
+use mathlib.Core.Bool.{Bool, cond}
+use Prim.Native.Nat.{ℕ, _+_, _*_, _/_, _%_}
+use lib.Dec.{leb, ltb, eqb}
+use Rattle.seq.specs.Order.{lexLess}
+use Rattle.model.specs.declared.Mode.{Mode}
+use Rattle.model.specs.declared.Mode.the-variants.{Read, Write}
+
+-- each level has eight rows of its own, numbers 0 to 7; over all levels a row is one number below 32
+abbrev pub rowOf : ℕ → ℕ → ℕ
+rowOf level number = level * 8 + number
+
+abbrev pub levelOf : ℕ → ℕ
+levelOf row = row / 8
+
+abbrev pub numberOf : ℕ → ℕ
+numberOf row = row % 8
+
+-- class = page / 1,024, rounded down
+abbrev pub classOf : ℕ → ℕ
+classOf page = page / 1024
+
+-- mode 0 is read, 1 is write
+abbrev pub modeOf : ℕ → Mode
+modeOf mode = cond (eqb mode 0) Read Write
+
+-- reading needs level ≥ class; writing needs level ≤ class (Bell-LaPadula)
+unfoldable pub allowed : ℕ → ℕ → Mode → Bool
+allowed level class Read = leb class level
+allowed level class Write = leb level class
+
+-- priority compares level, then deadline, then row number; smaller is better
+unfoldable pub better : ℕ → ℕ → ℕ → ℕ → Bool
+better row deadline other deadline′ =
+    lexLess (levelOf row) (levelOf other)
+    (lexLess deadline deadline′ (ltb (numberOf row) (numberOf other)))

@@ -1,0 +1,65 @@
+-- Document 01, "State": the empty values, the fresh state, what stands at a row, a slot and a holding, and a state with one part replaced.
+use mathlib.Core.List.{List}
+use Prim.Native.Nat.{ℕ, _+_, _*_}
+use lib.ListN.{getD, set, replicate}
+use Rattle.model.specs.declared.Condition.the-variants.{Free}
+use Rattle.model.specs.declared.Content.the-variants.{Empty}
+use Rattle.model.specs.declared.Pin.the-variants.{Absent}
+use Rattle.model.specs.declared.Row.{Row}
+use Rattle.model.specs.declared.Slot.{Slot}
+use Rattle.model.specs.declared.Holding.{Holding}
+use Rattle.model.specs.declared.State.{State}
+
+abbrev pub freeRow : Row
+freeRow = record { condition = Free; deadline = 0 }
+
+abbrev pub emptySlot : Slot
+emptySlot = record { content = Empty; touch = 0 }
+
+abbrev pub noHolding : Holding
+noHolding = record { pin = Absent; arrival = 0; touch = 0 }
+
+-- a fresh start: clock 0, every row free, all slots and all 2,048 holdings empty
+unfoldable pub noHoldings : List Holding
+noHoldings = replicate 2048 noHolding
+
+unfoldable pub fresh : ℕ → ℕ → State
+fresh slots delay = record {
+  slots = slots;
+  delay = delay;
+  clock = 0;
+  rows = replicate 32 freeRow;
+  table = replicate 64 emptySlot;
+  holdings = noHoldings;
+}
+
+abbrev pub rowAt : State → ℕ → Row
+rowAt s row = getD (s .rows) row freeRow
+
+abbrev pub slotAt : State → ℕ → Slot
+slotAt s slot = getD (s .table) slot emptySlot
+
+-- the holding of a row on a slot
+abbrev pub holdingAt : State → ℕ → ℕ → Holding
+holdingAt s slot row = getD (s .holdings) (slot * 32 + row) noHolding
+
+abbrev pub withClock : State → ℕ → State
+withClock s clock = record { slots = s .slots; delay = s .delay; clock = clock; rows = s .rows; table = s .table; holdings = s .holdings }
+
+abbrev pub withRows : State → List Row → State
+withRows s rows = record { slots = s .slots; delay = s .delay; clock = s .clock; rows = rows; table = s .table; holdings = s .holdings }
+
+abbrev pub withTable : State → List Slot → State
+withTable s table = record { slots = s .slots; delay = s .delay; clock = s .clock; rows = s .rows; table = table; holdings = s .holdings }
+
+abbrev pub withHoldings : State → List Holding → State
+withHoldings s holdings = record { slots = s .slots; delay = s .delay; clock = s .clock; rows = s .rows; table = s .table; holdings = holdings }
+
+abbrev pub putRow : State → ℕ → Row → State
+putRow s row x = withRows s (set (s .rows) row x)
+
+abbrev pub putSlot : State → ℕ → Slot → State
+putSlot s slot x = withTable s (set (s .table) slot x)
+
+abbrev pub putHolding : State → ℕ → ℕ → Holding → State
+putHolding s slot row x = withHoldings s (set (s .holdings) (slot * 32 + row) x)

@@ -1,0 +1,131 @@
+-- Document 01, "Refusals": of those that apply to a call the smallest number is given, and 0 stands for none. Refusals 1 and 18 are found before a state is there.
+use mathlib.Core.Bool.{Bool, true, false, cond, _&&_, _||_, not}
+use mathlib.Core.List.{List, [], _∷_}
+use Prim.Native.Nat.{ℕ}
+use lib.Dec.{leb, ltb, eqb}
+use Rattle.seq.specs.Below.{atFound}
+use Rattle.model.specs.declared.Condition.{Condition}
+use Rattle.model.specs.declared.Condition.the-variants.{Free, Idle, Fetching, Waiting, Killed}
+use Rattle.model.specs.declared.Mode.{Mode}
+use Rattle.model.specs.declared.Mode.the-variants.{Read, Write}
+use Rattle.model.specs.declared.State.{State}
+use Rattle.model.specs.Parties.{rowOf, classOf, modeOf, allowed}
+use Rattle.model.specs.State.{rowAt, holdingAt}
+use Rattle.model.specs.Words.{pins, slotOf}
+
+-- refusals by rising number, each with whether it applies: the first that does
+abbrev pub smallest : List (ℕ × Bool) → ℕ
+smallest [] = 0
+smallest (r ∷ rs) = cond (r .1) (r .0) (smallest rs)
+
+abbrev pub isFree : Condition → Bool
+isFree Free = true
+isFree Idle = false
+isFree (Fetching due) = false
+isFree (Waiting page mode) = false
+isFree (Killed cause) = false
+
+abbrev pub isKilled : Condition → Bool
+isKilled Free = false
+isKilled Idle = false
+isKilled (Fetching due) = false
+isKilled (Waiting page mode) = false
+isKilled (Killed cause) = true
+
+-- fetching or waiting
+abbrev pub isBusy : Condition → Bool
+isBusy Free = false
+isBusy Idle = false
+isBusy (Fetching due) = true
+isBusy (Waiting page mode) = true
+isBusy (Killed cause) = false
+
+abbrev pub isWaiting : Condition → Bool
+isWaiting Free = false
+isWaiting Idle = false
+isWaiting (Fetching due) = false
+isWaiting (Waiting page mode) = true
+isWaiting (Killed cause) = false
+
+abbrev pub isRead : Mode → Bool
+isRead Read = true
+isRead Write = false
+
+abbrev pub conditionAt : State → ℕ → ℕ → Condition
+conditionAt s level number = rowAt s (rowOf level number) .condition
+
+-- the row pins the page
+unfoldable pub pinsPage : State → ℕ → ℕ → Bool
+pinsPage s row page = atFound (slotOf s page) (λ slot. pins s slot row) false
+
+unfoldable pub startRefusal : ℕ → ℕ → ℕ
+startRefusal slots delay =
+    smallest (
+    (2, not (leb 1 slots && leb slots 64))
+    ∷ (3, not (leb 1 delay && leb delay 255))
+    ∷ [])
+
+unfoldable pub beginRefusal : State → ℕ → ℕ → ℕ → ℕ
+beginRefusal s level number deadline =
+    smallest (
+    (4, ltb 3 level)
+    ∷ (5, ltb 7 number)
+    ∷ (8, not (isFree (conditionAt s level number)))
+    ∷ (12, leb deadline (s .clock))
+    ∷ [])
+
+unfoldable pub requestRefusal : State → ℕ → ℕ → ℕ → ℕ → ℕ
+requestRefusal s level number page mode =
+    smallest (
+    (4, ltb 3 level)
+    ∷ (5, ltb 7 number)
+    ∷ (6, ltb 4095 page)
+    ∷ (7, ltb 1 mode)
+    ∷ (9, isFree (conditionAt s level number))
+    ∷ (10, isKilled (conditionAt s level number))
+    ∷ (11, isBusy (conditionAt s level number))
+    ∷ (13, isRead (modeOf mode) && not (allowed level (classOf page) (modeOf mode)))
+    ∷ (14, not (isRead (modeOf mode)) && not (allowed level (classOf page) (modeOf mode)))
+    ∷ [])
+
+unfoldable pub retryRefusal : State → ℕ → ℕ → ℕ
+retryRefusal s level number =
+    smallest (
+    (4, ltb 3 level)
+    ∷ (5, ltb 7 number)
+    ∷ (9, isFree (conditionAt s level number))
+    ∷ (10, isKilled (conditionAt s level number))
+    ∷ (16, not (isWaiting (conditionAt s level number)))
+    ∷ [])
+
+unfoldable pub unpinRefusal : State → ℕ → ℕ → ℕ → ℕ
+unpinRefusal s level number page =
+    smallest (
+    (4, ltb 3 level)
+    ∷ (5, ltb 7 number)
+    ∷ (6, ltb 4095 page)
+    ∷ (9, isFree (conditionAt s level number))
+    ∷ (10, isKilled (conditionAt s level number))
+    ∷ (11, isBusy (conditionAt s level number))
+    ∷ (15, not (pinsPage s (rowOf level number) page))
+    ∷ [])
+
+unfoldable pub endRefusal : State → ℕ → ℕ → ℕ
+endRefusal s level number =
+    smallest (
+    (4, ltb 3 level)
+    ∷ (5, ltb 7 number)
+    ∷ (9, isFree (conditionAt s level number))
+    ∷ [])
+
+unfoldable pub tickRefusal : State → ℕ
+tickRefusal s = smallest ((17, leb 4000000000 (s .clock)) ∷ [])
+
+unfoldable pub lookRefusal : ℕ → ℕ → ℕ
+lookRefusal level number = smallest ((4, ltb 3 level) ∷ (5, ltb 7 number) ∷ [])
+
+unfoldable pub viewRefusal : ℕ → ℕ → ℕ
+viewRefusal level page = smallest ((4, ltb 3 level) ∷ (6, ltb 4095 page) ∷ [])
+
+unfoldable pub countRefusal : ℕ → ℕ
+countRefusal level = smallest ((4, ltb 3 level) ∷ [])

@@ -1,0 +1,41 @@
+-- A call as its kind and its numbers, what it does to a state, and what a list of calls is answered.
+use mathlib.Core.List.{List, [], _∷_}
+use Prim.Native.Nat.{ℕ}
+use Rattle.model.specs.declared.State.{State}
+use Rattle.model.specs.declared.Outcome.{Outcome}
+use Rattle.model.specs.declared.Answer.{Answer}
+use Rattle.rules.specs.Calls.{started, begun, requested, retried, unpinned, ended, ticked, lookedAt, viewed, counted}
+
+-- slots and delay; level, row number, and deadline, or page and mode, or page; level and row number; level and page; level
+pub data Call : Type 0 where
+  start : ℕ → ℕ → Call
+  begin : ℕ → ℕ → ℕ → Call
+  request : ℕ → ℕ → ℕ → ℕ → Call
+  retry : ℕ → ℕ → Call
+  unpin : ℕ → ℕ → ℕ → Call
+  end : ℕ → ℕ → Call
+  tick : Call
+  look : ℕ → ℕ → Call
+  view : ℕ → ℕ → Call
+  count : ℕ → Call
+
+unfoldable pub outcome : State → Call → Outcome
+outcome s (start slots delay) = started s slots delay
+outcome s (begin level number deadline) = begun s level number deadline
+outcome s (request level number page mode) = requested s level number page mode
+outcome s (retry level number) = retried s level number
+outcome s (unpin level number page) = unpinned s level number page
+outcome s (end level number) = ended s level number
+outcome s tick = ticked s
+outcome s (look level number) = lookedAt s level number
+outcome s (view level page) = viewed s level page
+outcome s (count level) = counted s level
+
+-- the state after a list of calls, and their answers
+unfoldable pub after : State → List Call → State
+after s [] = s
+after s (c ∷ cs) = after (outcome s c .state) cs
+
+unfoldable pub answers : State → List Call → List Answer
+answers s [] = []
+answers s (c ∷ cs) = let o = outcome s c in o .answer ∷ answers (o .state) cs

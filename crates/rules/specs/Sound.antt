@@ -1,0 +1,102 @@
+-- Document 01, "State": what sound means, sentence by sentence.
+use mathlib.Core.Bool.{Bool, true, false, cond, _&&_, _||_, not}
+use Prim.Native.Nat.{ℕ, _+_, _-_, _^_}
+use lib.Dec.{leb, ltb, eqb}
+use lib.ListN.{length}
+use Rattle.seq.specs.Below.{allBelow, countBelow}
+use Rattle.model.specs.declared.Condition.{Condition}
+use Rattle.model.specs.declared.Condition.the-variants.{Free, Idle, Fetching, Waiting, Killed}
+use Rattle.model.specs.declared.Content.{Content}
+use Rattle.model.specs.declared.Content.the-variants.{Empty, Filled}
+use Rattle.model.specs.declared.Pin.{Pin}
+use Rattle.model.specs.declared.Pin.the-variants.{Absent, Unpinned, Read, Write}
+use Rattle.model.specs.declared.Mode.the-variants as Mode
+use Rattle.model.specs.declared.State.{State}
+use Rattle.model.specs.Parties.{levelOf, classOf, allowed}
+use Rattle.model.specs.State.{rowAt, slotAt, holdingAt}
+use Rattle.model.specs.Words.{isLive, isFilled, isHeld, isPin, pageIn, arrivalIn, lowestIn, hasPage, holds, pins, conflict}
+
+-- the arrays have their sizes, and the numbers of the whole state are in range
+unfoldable pub soundNumbers : State → Bool
+soundNumbers s =
+    eqb (length (s .rows)) 32 && eqb (length (s .table)) 64 && eqb (length (s .holdings)) 2048
+    && leb 1 (s .slots) && leb (s .slots) 64 && leb 1 (s .delay) && leb (s .delay) 255 && leb (s .clock) 4000000000
+
+-- a page, its class within reach of the pin
+abbrev pub pinAllowed : ℕ → ℕ → Pin → Bool
+pinAllowed level page Absent = true
+pinAllowed level page Unpinned = true
+pinAllowed level page Read = allowed level (classOf page) Mode.Read
+pinAllowed level page Write = allowed level (classOf page) Mode.Write
+
+-- the holding has arrived, or is none
+unfoldable pub arrived : State → ℕ → ℕ → Bool
+arrived s slot row = not (holds s slot row) || leb (holdingAt s slot row .arrival) (s .clock)
+
+-- the row pins the slot's page, which arrives at the tick
+unfoldable pub awaits : State → ℕ → ℕ → ℕ → Bool
+awaits s row due slot = pins s slot row && eqb (holdingAt s slot row .arrival) due
+
+-- a slot: empty ones are zero; of a filled one the page and the lowest level are in range,
+-- its touch is at most the clock, and its arrival at most clock + delay
+abbrev pub soundContent : State → Content → ℕ → Bool
+soundContent s Empty touch = eqb touch 0
+soundContent s (Filled page arrival dirty lowest) touch =
+    leb page 4095 && leb lowest 3 && leb touch (s .clock) && leb arrival (s .clock + s .delay)
+
+-- slots past the number started with are empty
+unfoldable pub soundSlot : State → ℕ → Bool
+soundSlot s slot =
+    soundContent s (slotAt s slot .content) (slotAt s slot .touch)
+    && (ltb slot (s .slots) || not (isFilled (slotAt s slot .content)))
+
+-- two slots have not one page
+unfoldable pub samePage : State → ℕ → ℕ → Bool
+samePage s slot other =
+    isFilled (slotAt s slot .content) && hasPage (pageIn (slotAt s slot .content)) (slotAt s other .content)
+
+unfoldable pub soundPages : State → Bool
+soundPages s = allBelow 64 (λ slot. allBelow slot (λ other. not (samePage s slot other)))
+
+-- a row: a free or killed one is zero but for its mark; a live row's deadline is above the clock;
+-- a fetching row pins one page whose arrival is its due tick, above the clock, and its other holdings have arrived;
+-- all holdings of an idle or waiting row have arrived; a waiting row's mode is allowed for its page
+abbrev pub soundCondition : State → ℕ → Condition → ℕ → Bool
+soundCondition s row Free deadline = eqb deadline 0
+soundCondition s row (Killed cause) deadline = eqb deadline 0
+soundCondition s row Idle deadline =
+    ltb (s .clock) deadline && ltb deadline (2 ^ 32) && allBelow 64 (λ slot. arrived s slot row)
+soundCondition s row (Fetching due) deadline =
+    ltb (s .clock) deadline && ltb deadline (2 ^ 32) && ltb (s .clock) due
+    && eqb (countBelow 64 (awaits s row due)) 1
+    && allBelow 64 (λ slot. arrived s slot row || awaits s row due slot)
+soundCondition s row (Waiting page mode) deadline =
+    ltb (s .clock) deadline && ltb deadline (2 ^ 32) && allBelow 64 (λ slot. arrived s slot row)
+    && leb page 4095 && allowed (levelOf row) (classOf page) mode
+
+unfoldable pub soundRow : State → ℕ → Bool
+soundRow s row = soundCondition s row (rowAt s row .condition) (rowAt s row .deadline)
+
+-- a holding: an empty one is zero; others only of live rows, and only in filled slots;
+-- its pin not against the access rule; its arrival at least its slot's and at most clock + delay;
+-- its touch at most the slot's; its level at least the slot's lowest
+unfoldable pub soundHolding : State → ℕ → ℕ → Bool
+soundHolding s slot row =
+    cond (holds s slot row)
+    (isLive (rowAt s row .condition) && isFilled (slotAt s slot .content)
+    && pinAllowed (levelOf row) (pageIn (slotAt s slot .content)) (holdingAt s slot row .pin)
+    && leb (arrivalIn (slotAt s slot .content)) (holdingAt s slot row .arrival)
+    && leb (holdingAt s slot row .arrival) (s .clock + s .delay)
+    && leb (holdingAt s slot row .touch) (slotAt s slot .touch)
+    && leb (lowestIn (slotAt s slot .content)) (levelOf row))
+    (eqb (holdingAt s slot row .arrival) 0 && eqb (holdingAt s slot row .touch) 0)
+
+-- no conflicting pins on a slot
+unfoldable pub soundPins : State → ℕ → Bool
+soundPins s slot =
+    allBelow 32 (λ row. allBelow row (λ other. not (conflict (holdingAt s slot row .pin) (holdingAt s slot other .pin))))
+
+unfoldable pub sound : State → Bool
+sound s =
+    soundNumbers s && allBelow 64 (soundSlot s) && soundPages s && allBelow 32 (soundRow s)
+    && allBelow 64 (λ slot. allBelow 32 (soundHolding s slot)) && allBelow 64 (soundPins s)

@@ -1,0 +1,107 @@
+-- What a test or a count over the numbers below n says of each of them.
+use mathlib.Core.Path.{_≡_, refl, _∙_, sym, ap}
+use mathlib.Core.Bool.{Bool, true, false, cond, _&&_, _||_, not}
+use Prim.Native.Nat.{ℕ, zero, suc, _+_, _<_, _≤_}
+use native.Mathlib.Numerals.{add-one}
+use native.Mathlib.Omega.{arith}
+use native.Mathlib.Decide.{ℕ-discrete}
+use Rattle.seq.specs.Below.{anyBelow, allBelow, countBelow}
+use Rattle.seq.proofs.Tests.{true-false, and-true, or-false, or-true-right, and-false-right, both-true}
+
+-- a number below n + 1 is below n, or n
+pub below-suc : (n i : ℕ) → i < suc n → (i ≡ n → ⊥) → i < n
+below-suc n i h m = omega arith
+
+module _ (p : ℕ → Bool) where
+  pub any-more : (n : ℕ) → anyBelow (n + 1) p ≡ anyBelow n p || p n
+  unfolding anyBelow
+  any-more n = rw add-one
+
+  pub any-none : (n i : ℕ) → anyBelow n p ≡ false → i < n → p i ≡ false
+  unfolding anyBelow
+  any-none zero i e h = absurd (omega arith)
+  any-none (suc n) i e h =
+      let q = or-false (anyBelow n p) (p n) e in
+      elim (ℕ-discrete i n) [
+        | yes s ↦ rw s (q .1)
+        | no s ↦ any-none n i (q .0) (below-suc n i h s)
+      ]
+
+  pub none-any : (n : ℕ) → ((i : ℕ) → i < n → p i ≡ false) → anyBelow n p ≡ false
+  unfolding anyBelow
+  none-any zero f = refl
+  none-any (suc n) f = rw (none-any n (λ i h. f i (omega arith)), f n (omega arith))
+
+  pub hit-any : (n i : ℕ) → i < n → p i ≡ true → anyBelow n p ≡ true
+  unfolding anyBelow
+  hit-any zero i h e = absurd (omega arith)
+  hit-any (suc n) i h e = elim (ℕ-discrete i n) [
+    | yes s ↦ or-true-right (anyBelow n p) (p n) (rw s at e)
+    | no s ↦ rw (hit-any n i (below-suc n i h s) e)
+  ]
+
+  pub any-hit : (n : ℕ) → anyBelow n p ≡ true → (i : ℕ) × (i < n) × (p i ≡ true)
+  unfolding anyBelow
+  any-hit zero e = true-false (sym e)
+  any-hit (suc n) e = go (anyBelow n p) refl (any-hit n)
+    where
+      go : (b : Bool) → anyBelow n p ≡ b → (anyBelow n p ≡ true → (i : ℕ) × (i < n) × (p i ≡ true)) → (i : ℕ) × (i < suc n) × (p i ≡ true)
+      go true q r = let x = r q in (x .0, omega (arith, x .1), x .2)
+      go false q r = (n, omega arith, rw q at e)
+
+  pub all-more : (n : ℕ) → allBelow (n + 1) p ≡ allBelow n p && p n
+  unfolding allBelow
+  all-more n = rw add-one
+
+  pub all-each : (n i : ℕ) → allBelow n p ≡ true → i < n → p i ≡ true
+  unfolding allBelow
+  all-each zero i e h = absurd (omega arith)
+  all-each (suc n) i e h =
+      let q = and-true (allBelow n p) (p n) e in
+      elim (ℕ-discrete i n) [
+        | yes s ↦ rw s (q .1)
+        | no s ↦ all-each n i (q .0) (below-suc n i h s)
+      ]
+
+  pub each-all : (n : ℕ) → ((i : ℕ) → i < n → p i ≡ true) → allBelow n p ≡ true
+  unfolding allBelow
+  each-all zero f = refl
+  each-all (suc n) f = both-true (each-all n (λ i h. f i (omega arith))) (f n (omega arith))
+
+  pub fail-all : (n i : ℕ) → i < n → p i ≡ false → allBelow n p ≡ false
+  unfolding allBelow
+  fail-all zero i h e = absurd (omega arith)
+  fail-all (suc n) i h e = elim (ℕ-discrete i n) [
+    | yes s ↦ and-false-right (allBelow n p) (p n) (rw s at e)
+    | no s ↦ rw (fail-all n i (below-suc n i h s) e)
+  ]
+
+  pub count-more : (n : ℕ) → countBelow (n + 1) p ≡ countBelow n p + cond (p n) 1 0
+  unfolding countBelow
+  count-more n = rw add-one
+
+  pub count-at-most : (n : ℕ) → countBelow n p ≤ n
+  unfolding countBelow
+  count-at-most zero = omega arith
+  count-at-most (suc n) = go (p n) (count-at-most n)
+    where
+      go : (b : Bool) → countBelow n p ≤ n → countBelow n p + cond b 1 0 ≤ suc n
+      go true h = omega arith
+      go false h = omega arith
+
+-- tests that agree on the numbers below n
+module _ (p q : ℕ → Bool) where
+  pub any-same : (n : ℕ) → ((i : ℕ) → i < n → p i ≡ q i) → anyBelow n p ≡ anyBelow n q
+  unfolding anyBelow
+  any-same zero f = refl
+  any-same (suc n) f = rw (any-same n (λ i h. f i (omega arith)), f n (omega arith))
+
+  pub all-same : (n : ℕ) → ((i : ℕ) → i < n → p i ≡ q i) → allBelow n p ≡ allBelow n q
+  unfolding allBelow
+  all-same zero f = refl
+  all-same (suc n) f = rw (all-same n (λ i h. f i (omega arith)), f n (omega arith))
+
+  pub count-same : (n : ℕ) → ((i : ℕ) → i < n → p i ≡ q i) → countBelow n p ≡ countBelow n q
+  unfolding countBelow
+  count-same zero f = refl
+  count-same (suc n) f = rw (count-same n (λ i h. f i (omega arith)), f n (omega arith))

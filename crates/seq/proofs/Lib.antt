@@ -1,0 +1,4 @@
+pub mod Tests
+pub mod BelowLaws
+pub mod PickLaws
+pub mod EachLaws
