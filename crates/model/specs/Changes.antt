@@ -1,7 +1,9 @@
 -- Document 01, "The calls": the elementary changes of a state. A set of rows is a test.
-use mathlib.Core.Bool.{Bool, true, cond, _&&_}
+use mathlib.Core.Bool.{Bool, true, false, cond, _&&_}
+use mathlib.Core.List.{List}
 use Prim.Native.Nat.{ℕ, _/_, _%_}
 use lib.Dec.{leb, eqb}
+use lib.ListN.{getD}
 use Rattle.seq.specs.Below.{anyBelow}
 use Rattle.seq.specs.Each.{each}
 use Rattle.model.specs.declared.Cause.{Cause}
@@ -12,7 +14,7 @@ use Rattle.model.specs.declared.Row.{Row}
 use Rattle.model.specs.declared.Slot.{Slot}
 use Rattle.model.specs.declared.Holding.{Holding}
 use Rattle.model.specs.declared.State.{State}
-use Rattle.model.specs.State.{noHolding, rowAt, slotAt, holdingAt, withRows, withTable, withHoldings}
+use Rattle.model.specs.State.{emptyHolding, holdingAt, withRows, withSlots, withHoldings}
 use Rattle.model.specs.Words.{isWrite}
 
 -- a write pin whose arrival is at most the clock: when it goes, the slot becomes dirty
@@ -26,11 +28,15 @@ dirtiedContent (Filled page arrival dirty lowest) = Filled page arrival true low
 unfoldable pub dirtied : Slot → Slot
 dirtied x = record { content = dirtiedContent (x .content); touch = x .touch }
 
+-- the rows that a list of marks names
+abbrev pub marked : List Bool → ℕ → Bool
+marked marks row = getD marks row false
+
 -- all holdings of some rows go
 unfoldable pub released : (ℕ → Bool) → State → State
 released some s =
-    withHoldings (withTable s (each (λ slot x. cond (anyBelow 32 (λ row. some row && written (s .clock) (holdingAt s slot row))) (dirtied x) x) (s .table)))
-    (each (λ k h. cond (some (k % 32)) noHolding h) (s .holdings))
+    withHoldings (withSlots s (each (λ slot x. cond (anyBelow 32 (λ row. some row && written (s .clock) (holdingAt s slot row))) (dirtied x) x) (s .slots)))
+    (each (λ k h. cond (some (k % 32)) emptyHolding h) (s .holdings))
 
 -- the mark of a killed row
 abbrev pub killedRow : Cause → Row
@@ -42,4 +48,4 @@ killed some cause s = withRows (released some s) (each (λ row x. cond (some row
 
 -- the holders of a slot lose it
 unfoldable pub cleared : ℕ → State → State
-cleared slot s = withHoldings s (each (λ k h. cond (eqb (k / 32) slot) noHolding h) (s .holdings))
+cleared slot s = withHoldings s (each (λ k h. cond (eqb (k / 32) slot) emptyHolding h) (s .holdings))

@@ -24,10 +24,26 @@ classOf page = page / 1024
 abbrev pub modeOf : ℕ → Mode
 modeOf mode = cond (eqb mode 0) Read Write
 
+abbrev pub modeNumber : Mode → ℕ
+modeNumber Read = 0
+modeNumber Write = 1
+
 -- reading needs level ≥ class; writing needs level ≤ class (Bell-LaPadula)
 unfoldable pub allowed : ℕ → ℕ → Mode → Bool
 allowed level class Read = leb class level
 allowed level class Write = leb level class
+
+-- the access to a page
+abbrev pub mayAccess : ℕ → ℕ → Mode → Bool
+mayAccess level page mode = allowed level (classOf page) mode
+
+-- the last tick of the clock
+abbrev pub lastClock : ℕ
+lastClock = 4000000000
+
+-- a deadline that the clock has reached
+abbrev pub isPast : ℕ → ℕ → Bool
+isPast clock deadline = leb deadline clock
 
 -- priority compares level, then deadline, then row number; smaller is better
 unfoldable pub better : ℕ → ℕ → ℕ → ℕ → Bool

@@ -16,50 +16,51 @@ freeRow = record { condition = Free; deadline = 0 }
 abbrev pub emptySlot : Slot
 emptySlot = record { content = Empty; touch = 0 }
 
-abbrev pub noHolding : Holding
-noHolding = record { pin = Absent; arrival = 0; touch = 0 }
+abbrev pub emptyHolding : Holding
+emptyHolding = record { pin = Absent; arrival = 0; touch = 0 }
 
--- a fresh start: clock 0, every row free, all slots and all 2,048 holdings empty
-unfoldable pub noHoldings : List Holding
-noHoldings = replicate 2048 noHolding
+-- all 2,048 holdings empty, 64 slots by 32 rows
+unfoldable pub emptyHoldings : List Holding
+emptyHoldings = replicate 2048 emptyHolding
 
+-- a fresh start: clock 0, every row free, all slots and all holdings empty
 unfoldable pub fresh : ℕ → ℕ → State
 fresh slots delay = record {
-  slots = slots;
+  size = slots;
   delay = delay;
   clock = 0;
   rows = replicate 32 freeRow;
-  table = replicate 64 emptySlot;
-  holdings = noHoldings;
+  slots = replicate 64 emptySlot;
+  holdings = emptyHoldings;
 }
 
 abbrev pub rowAt : State → ℕ → Row
 rowAt s row = getD (s .rows) row freeRow
 
 abbrev pub slotAt : State → ℕ → Slot
-slotAt s slot = getD (s .table) slot emptySlot
+slotAt s slot = getD (s .slots) slot emptySlot
 
 -- the holding of a row on a slot
 abbrev pub holdingAt : State → ℕ → ℕ → Holding
-holdingAt s slot row = getD (s .holdings) (slot * 32 + row) noHolding
+holdingAt s slot row = getD (s .holdings) (slot * 32 + row) emptyHolding
 
 abbrev pub withClock : State → ℕ → State
-withClock s clock = record { slots = s .slots; delay = s .delay; clock = clock; rows = s .rows; table = s .table; holdings = s .holdings }
+withClock s clock = record { size = s .size; delay = s .delay; clock = clock; rows = s .rows; slots = s .slots; holdings = s .holdings }
 
 abbrev pub withRows : State → List Row → State
-withRows s rows = record { slots = s .slots; delay = s .delay; clock = s .clock; rows = rows; table = s .table; holdings = s .holdings }
+withRows s rows = record { size = s .size; delay = s .delay; clock = s .clock; rows = rows; slots = s .slots; holdings = s .holdings }
 
-abbrev pub withTable : State → List Slot → State
-withTable s table = record { slots = s .slots; delay = s .delay; clock = s .clock; rows = s .rows; table = table; holdings = s .holdings }
+abbrev pub withSlots : State → List Slot → State
+withSlots s slots = record { size = s .size; delay = s .delay; clock = s .clock; rows = s .rows; slots = slots; holdings = s .holdings }
 
 abbrev pub withHoldings : State → List Holding → State
-withHoldings s holdings = record { slots = s .slots; delay = s .delay; clock = s .clock; rows = s .rows; table = s .table; holdings = holdings }
+withHoldings s holdings = record { size = s .size; delay = s .delay; clock = s .clock; rows = s .rows; slots = s .slots; holdings = holdings }
 
 abbrev pub putRow : State → ℕ → Row → State
 putRow s row x = withRows s (set (s .rows) row x)
 
 abbrev pub putSlot : State → ℕ → Slot → State
-putSlot s slot x = withTable s (set (s .table) slot x)
+putSlot s slot x = withSlots s (set (s .slots) slot x)
 
 abbrev pub putHolding : State → ℕ → ℕ → Holding → State
 putHolding s slot row x = withHoldings s (set (s .holdings) (slot * 32 + row) x)

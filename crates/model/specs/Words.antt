@@ -12,7 +12,6 @@ use Rattle.model.specs.declared.Content.{Content}
 use Rattle.model.specs.declared.Content.the-variants.{Empty, Filled}
 use Rattle.model.specs.declared.Pin.{Pin}
 use Rattle.model.specs.declared.Pin.the-variants.{Absent, Unpinned, Read, Write}
-use Rattle.model.specs.declared.Holding.{Holding}
 use Rattle.model.specs.declared.State.{State}
 use Rattle.model.specs.Parties.{levelOf, better}
 use Rattle.model.specs.State.{rowAt, slotAt, holdingAt}
@@ -112,6 +111,10 @@ isOpen s level slot = not (seen s level slot)
 unfoldable pub dormant : State → ℕ → Bool
 dormant s slot = isFilled (slotAt s slot .content) && not (anyBelow 32 (holds s slot))
 
+-- level 3 also sees dormant pages
+unfoldable pub seesDormant : State → ℕ → ℕ → Bool
+seesDormant s level slot = eqb level 3 && dormant s slot
+
 -- the first row has better priority than the second
 unfoldable pub outranks : State → ℕ → ℕ → Bool
 outranks s row other = better row (rowAt s row .deadline) other (rowAt s other .deadline)
@@ -140,4 +143,4 @@ latestTouch s level slot =
 
 -- the slot that has a page
 unfoldable pub slotOf : State → ℕ → Found
-slotOf s page = firstBelow (s .slots) (λ slot. hasPage page (slotAt s slot .content))
+slotOf s page = firstBelow (s .size) (λ slot. hasPage page (slotAt s slot .content))

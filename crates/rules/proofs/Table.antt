@@ -5,15 +5,15 @@ use Prim.Native.Nat.{ℕ, _+_, _*_}
 use Rattle.seq.specs.Below.{anyBelow, allBelow, countBelow, pickBelow}
 use Rattle.seq.specs.Each.{each, eachFrom}
 use Rattle.model.specs.Parties.{allowed, better}
-use Rattle.model.specs.State.{fresh, noHoldings}
-use Rattle.model.specs.Words.{conflict, stronger, seenHolder, seen, isOpen, dormant, outranks, bestHolder, strongestPin, leastArrival, latestTouch, slotOf}
+use Rattle.model.specs.State.{fresh, emptyHoldings}
+use Rattle.model.specs.Words.{conflict, stronger, seenHolder, seen, isOpen, dormant, seesDormant, outranks, bestHolder, strongestPin, leastArrival, latestTouch, slotOf}
 use Rattle.model.specs.Changes.{written, dirtied, released, killed, cleared}
 use Rattle.model.specs.declared.State.{State}
 use Rattle.model.specs.declared.Answer.{Answer}
 use Rattle.rules.specs.Answers.{word, value, slotTold, backTold}
-use Rattle.rules.specs.Choice.{stepA, beforeDormant, stepB, holderLevel, heldAbove, highest, pinnedAt, inC, inD, heldBeside, seenPin, inE, inF, beforeHeld, stepHeld, chosen}
+use Rattle.rules.specs.Choice.{stepA, beforeDormant, stepB, holderLevel, heldAbove, highestLevel, pinnedAt, inC, inD, heldAtOwnLevel, seenPin, inE, inF, beforeHeld, stepHeld, chosen}
 use Rattle.rules.specs.Refusals.{pinsPage, startRefusal, beginRefusal, requestRefusal, retryRefusal, unpinRefusal, endRefusal, tickRefusal, lookRefusal, viewRefusal, countRefusal}
-use Rattle.rules.specs.Calls.{started, begun, unpinnedAt, unpinned, ended, deliveredRow, isLate, deliveredAll, ticked, waiting, granted, conflicts, mustWait, step1, step2, step3, evicted, writeBack, filled, served, requested, retried, lookedAt, viewed, counted}
+use Rattle.rules.specs.Calls.{started, begun, unpinnedAt, unpinned, ended, deliveredRow, isLate, deliveredRows, lateKilled, advanced, ticked, waiting, granted, conflicts, mustWait, step1, step2, step3, pinnersKilled, writeBack, filled, served, requested, retried, lookedAt, viewed, counted}
 use Rattle.rules.specs.Run.{Call, start, begin, request, retry, unpin, end, tick, look, view, count, outcome, answers}
 
 -- an output line: word, value, slot plus one or 0, page to write back plus one or 0
@@ -213,5 +213,5 @@ abbrev lines : List Played → List Line
 lines ps = map line (answers (fresh 1 1) (map callOf ps))
 
 pub table-holds : map lines table ≡ map (map lineOf) table
-unfolding anyBelow allBelow countBelow pickBelow each eachFrom allowed better fresh noHoldings conflict stronger seenHolder seen isOpen dormant outranks bestHolder strongestPin leastArrival latestTouch slotOf written dirtied released killed cleared word value slotTold backTold stepA beforeDormant stepB holderLevel heldAbove highest pinnedAt inC inD heldBeside seenPin inE inF beforeHeld stepHeld chosen pinsPage startRefusal beginRefusal requestRefusal retryRefusal unpinRefusal endRefusal tickRefusal lookRefusal viewRefusal countRefusal started begun unpinnedAt unpinned ended deliveredRow isLate deliveredAll ticked waiting granted conflicts mustWait step1 step2 step3 evicted writeBack filled served requested retried lookedAt viewed counted outcome answers
+unfolding anyBelow allBelow countBelow pickBelow each eachFrom allowed better fresh emptyHoldings conflict stronger seenHolder seen isOpen dormant seesDormant outranks bestHolder strongestPin leastArrival latestTouch slotOf written dirtied released killed cleared word value slotTold backTold stepA beforeDormant stepB holderLevel heldAbove highestLevel pinnedAt inC inD heldAtOwnLevel seenPin inE inF beforeHeld stepHeld chosen pinsPage startRefusal beginRefusal requestRefusal retryRefusal unpinRefusal endRefusal tickRefusal lookRefusal viewRefusal countRefusal started begun unpinnedAt unpinned ended deliveredRow isLate deliveredRows lateKilled advanced ticked waiting granted conflicts mustWait step1 step2 step3 pinnersKilled writeBack filled served requested retried lookedAt viewed counted outcome answers
 table-holds = refl

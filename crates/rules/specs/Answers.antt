@@ -28,12 +28,12 @@ use Rattle.model.specs.declared.Answer.the-variants.{
   Open,
 }
 
--- the words: refused, started, begun, ready, fetch, wait, unpinned, ended, clock; look: none, idle, late, taken;
--- view: unseen, active, read, write, dormant; count: open
 abbrev pub causeWord : Cause → ℕ
 causeWord Late = 11
 causeWord Taken = 12
 
+-- the words: 0 refused, 1 started, 2 begun, 3 ready, 4 fetch, 5 wait, 6 unpinned, 7 ended, 8 clock;
+-- look: 9 none, 10 idle, 4 fetch, 5 wait, 11 late, 12 taken; view: 13 unseen, 14 active, 15 read, 16 write, 17 dormant; count: 18 open
 unfoldable pub word : Answer → ℕ
 word (Refused number) = 0
 word Started = 1

@@ -1,13 +1,12 @@
 -- Document 01, "The calls": the answer and the next state of each call.
-use mathlib.Core.Bool.{Bool, true, false, cond, _&&_, _||_, not}
+use mathlib.Core.Bool.{Bool, true, false, cond, _&&_, not}
 use Prim.Native.Nat.{ℕ, zero, suc, _+_, min}
-use lib.Dec.{leb, ltb, eqb}
+use lib.Dec.{leb, eqb}
 use Rattle.seq.specs.Below.{anyBelow, countBelow, atFound}
 use Rattle.seq.specs.Each.{each}
 use Rattle.seq.specs.declared.Found.{Found}
 use Rattle.seq.specs.declared.Found.the-variants.{At, Nowhere}
 use Rattle.model.specs.declared.Mode.{Mode}
-use Rattle.model.specs.declared.Mode.the-variants as Mode
 use Rattle.model.specs.declared.Cause.the-variants.{Late, Taken}
 use Rattle.model.specs.declared.Condition.{Condition}
 use Rattle.model.specs.declared.Condition.the-variants.{Free, Idle, Fetching, Waiting, Killed}
@@ -45,9 +44,9 @@ use Rattle.model.specs.declared.Answer.the-variants.{
   PageDormant,
   Open,
 }
-use Rattle.model.specs.Parties.{rowOf, levelOf, modeOf}
+use Rattle.model.specs.Parties.{rowOf, levelOf, modeOf, isPast}
 use Rattle.model.specs.State.{freeRow, fresh, rowAt, slotAt, holdingAt, withClock, withRows, putRow, putSlot, putHolding}
-use Rattle.model.specs.Words.{isLive, arrivalIn, lowestIn, pageIn, dirtyIn, isHeld, pinOf, conflict, stronger, pins, seen, isOpen, dormant, outranks, strongestPin, leastArrival, slotOf}
+use Rattle.model.specs.Words.{isLive, arrivalIn, pageIn, dirtyIn, isHeld, pinOf, conflict, stronger, pins, seen, isOpen, seesDormant, outranks, strongestPin, leastArrival, slotOf}
 use Rattle.model.specs.Changes.{written, dirtied, released, killed, cleared}
 use Rattle.rules.specs.Choice.{chosen}
 use Rattle.rules.specs.Refusals.{
@@ -108,16 +107,22 @@ delivered clock (Killed cause) = Killed cause
 unfoldable pub deliveredRow : ℕ → Row → Row
 deliveredRow clock x = record { condition = delivered clock (x .condition); deadline = x .deadline }
 
-unfoldable pub isLate : State → ℕ → Bool
-isLate s row = isLive (rowAt s row .condition) && leb (rowAt s row .deadline) (s .clock)
+unfoldable pub deliveredRows : State → State
+deliveredRows s = withRows s (each (λ row x. deliveredRow (s .clock) x) (s .rows))
 
-unfoldable pub deliveredAll : State → State
-deliveredAll s = withRows (withClock s (s .clock + 1)) (each (λ row x. deliveredRow (s .clock + 1) x) (s .rows))
+unfoldable pub isLate : State → ℕ → Bool
+isLate s row = isLive (rowAt s row .condition) && isPast (s .clock) (rowAt s row .deadline)
+
+unfoldable pub lateKilled : State → State
+lateKilled s = killed (isLate s) Late s
+
+unfoldable pub advanced : State → State
+advanced s = withClock s (s .clock + 1)
 
 unfoldable pub ticked : State → Outcome
 ticked s =
     unless (tickRefusal s) s
-    (record { state = killed (isLate (deliveredAll s)) Late (deliveredAll s); answer = Clock (s .clock + 1) })
+    (record { state = lateKilled (deliveredRows (advanced s)); answer = Clock (s .clock + 1) })
 
 -- a wait alters only the row's own condition
 unfoldable pub waiting : State → ℕ → ℕ → Mode → Outcome
@@ -173,14 +178,15 @@ step2 s row slot mode = granted s row slot mode (arrivalIn (slotAt s slot .conte
 unfoldable pub step3 : State → ℕ → ℕ → Mode → Outcome
 step3 s row slot mode = granted (killed (conflicts s row slot mode) Taken s) row slot mode (s .clock + s .delay) Nothing
 
--- rows that pin the chosen slot are killed, other holders lose it; a dirty page is reported for write-back
-unfoldable pub evicted : State → ℕ → State
-evicted s slot = killed (pins s slot) Taken s
+-- rows that pin the chosen slot are killed
+unfoldable pub pinnersKilled : State → ℕ → State
+pinnersKilled s slot = killed (pins s slot) Taken s
 
+-- a dirty page is reported for write-back
 unfoldable pub writeBack : Slot → Back
 writeBack x = cond (dirtyIn (x .content)) (Page (pageIn (x .content))) Nothing
 
--- the new page is clean, and its slot's arrival is the new holding's
+-- the other holders lose the slot; the new page is clean, and its slot's arrival is the new holding's
 unfoldable pub filled : State → ℕ → ℕ → ℕ → State
 filled s slot page level =
     putSlot (cleared slot s) slot (record { content = Filled page (s .clock + s .delay) false level; touch = s .clock })
@@ -189,14 +195,14 @@ filled s slot page level =
 abbrev pub intoSlot : Found → State → ℕ → ℕ → Mode → Outcome
 intoSlot Nowhere s row page mode = waiting s row page mode
 intoSlot (At slot) s row page mode =
-    granted (filled (evicted s slot) slot page (levelOf row)) row slot mode (s .clock + s .delay)
-    (writeBack (slotAt (evicted s slot) slot))
+    granted (filled (pinnersKilled s slot) slot page (levelOf row)) row slot mode (s .clock + s .delay)
+    (writeBack (slotAt (pinnersKilled s slot) slot))
 
 abbrev pub servedAt : Found → State → ℕ → ℕ → Mode → Outcome
 servedAt Nowhere s row page mode = intoSlot (chosen s row) s row page mode
 servedAt (At slot) s row page mode =
     cond (seen s (levelOf row) slot) (step1 s row slot page mode)
-    (cond (eqb (levelOf row) 3 && dormant s slot) (step2 s row slot mode)
+    (cond (seesDormant s (levelOf row) slot) (step2 s row slot mode)
     (step3 s row slot mode))
 
 unfoldable pub served : State → ℕ → ℕ → Mode → Outcome
@@ -206,13 +212,13 @@ unfoldable pub requested : State → ℕ → ℕ → ℕ → ℕ → Outcome
 requested s level number page mode =
     unless (requestRefusal s level number page mode) s (served s (rowOf level number) page (modeOf mode))
 
--- retry is the same for a waiting row's stored request
+-- retry is the same for a waiting row's stored request; rows in any other condition are refused before
 abbrev pub servedAgain : Condition → State → ℕ → Outcome
-servedAgain Free s row = record { state = s; answer = Wait }
-servedAgain Idle s row = record { state = s; answer = Wait }
-servedAgain (Fetching due) s row = record { state = s; answer = Wait }
+servedAgain Free s row = record { state = s; answer = Refused 9 }
+servedAgain Idle s row = record { state = s; answer = Refused 16 }
+servedAgain (Fetching due) s row = record { state = s; answer = Refused 16 }
 servedAgain (Waiting page mode) s row = served s row page mode
-servedAgain (Killed cause) s row = record { state = s; answer = Wait }
+servedAgain (Killed cause) s row = record { state = s; answer = Refused 10 }
 
 unfoldable pub retried : State → ℕ → ℕ → Outcome
 retried s level number =
@@ -242,7 +248,7 @@ abbrev pub viewedIn : Found → State → ℕ → Answer
 viewedIn Nowhere s level = PageUnseen
 viewedIn (At slot) s level =
     cond (seen s level slot) (viewedPin (strongestPin s level slot) (leastArrival s level slot))
-    (cond (eqb level 3 && dormant s slot) (PageDormant (arrivalIn (slotAt s slot .content))) PageUnseen)
+    (cond (seesDormant s level slot) (PageDormant (arrivalIn (slotAt s slot .content))) PageUnseen)
 
 unfoldable pub viewed : State → ℕ → ℕ → Outcome
 viewed s level page = unless (viewRefusal level page) s (record { state = s; answer = viewedIn (slotOf s page) s level })
@@ -250,4 +256,4 @@ viewed s level page = unless (viewRefusal level page) s (record { state = s; ans
 -- count a level's open slots
 unfoldable pub counted : State → ℕ → Outcome
 counted s level =
-    unless (countRefusal level) s (record { state = s; answer = Open (countBelow (s .slots) (isOpen s level)) })
+    unless (countRefusal level) s (record { state = s; answer = Open (countBelow (s .size) (isOpen s level)) })

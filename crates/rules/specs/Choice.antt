@@ -18,7 +18,7 @@ orElse (At slot) other = At slot
 
 -- a. empty, lowest slot number
 unfoldable pub stepA : State → Found
-stepA s = firstBelow (s .slots) (λ slot. not (isFilled (slotAt s slot .content)))
+stepA s = firstBelow (s .size) (λ slot. not (isFilled (slotAt s slot .content)))
 
 -- b. dormant: lowest level first, clean before dirty, least touch, slot number
 abbrev pub dirtyNumber : Bool → ℕ
@@ -32,7 +32,7 @@ beforeDormant s slot other =
     (ltb (slotAt s slot .touch) (slotAt s other .touch)))
 
 unfoldable pub stepB : State → Found
-stepB s = pickBelow (s .slots) (dormant s) (beforeDormant s)
+stepB s = pickBelow (s .size) (dormant s) (beforeDormant s)
 
 -- the level of a slot's best holder
 unfoldable pub holderLevel : State → ℕ → ℕ
@@ -42,9 +42,9 @@ holderLevel s slot = atFound (bestHolder s slot) levelOf 0
 unfoldable pub heldAbove : State → ℕ → ℕ → Bool
 heldAbove s row slot = anyBelow 32 (holds s slot) && not (seen s (levelOf row) slot)
 
--- the highest level M of a best holder among such slots
-unfoldable pub highest : State → ℕ → ℕ
-highest s row = atFound (pickBelow (s .slots) (heldAbove s row) (λ slot other. ltb (holderLevel s other) (holderLevel s slot))) (holderLevel s) 0
+-- M: the highest level of a best holder among such slots
+unfoldable pub highestLevel : State → ℕ → ℕ
+highestLevel s row = atFound (pickBelow (s .size) (heldAbove s row) (λ slot other. ltb (holderLevel s other) (holderLevel s slot))) (holderLevel s) 0
 
 -- a row of the level pins the slot
 unfoldable pub pinnedAt : State → ℕ → ℕ → Bool
@@ -53,14 +53,14 @@ pinnedAt s level slot = anyBelow 32 (λ row. eqb (levelOf row) level && pins s s
 -- c. held only above the requester's level, the level M of its best holder being the highest number found among such slots,
 -- no pin by a row of level M; d. the same M, pinned by level M
 unfoldable pub inC : State → ℕ → ℕ → Bool
-inC s row slot = heldAbove s row slot && eqb (holderLevel s slot) (highest s row) && not (pinnedAt s (highest s row) slot)
+inC s row slot = heldAbove s row slot && eqb (holderLevel s slot) (highestLevel s row) && not (pinnedAt s (highestLevel s row) slot)
 
 unfoldable pub inD : State → ℕ → ℕ → Bool
-inD s row slot = heldAbove s row slot && eqb (holderLevel s slot) (highest s row) && pinnedAt s (highest s row) slot
+inD s row slot = heldAbove s row slot && eqb (holderLevel s slot) (highestLevel s row) && pinnedAt s (highestLevel s row) slot
 
 -- seen holders all of the requester's level, none better than the requester
-unfoldable pub heldBeside : State → ℕ → ℕ → Bool
-heldBeside s row slot =
+unfoldable pub heldAtOwnLevel : State → ℕ → ℕ → Bool
+heldAtOwnLevel s row slot =
     seen s (levelOf row) slot
     && allBelow 32 (λ other. not (seenHolder s (levelOf row) slot other) || (eqb (levelOf other) (levelOf row) && not (outranks s other row)))
 
@@ -68,12 +68,12 @@ heldBeside s row slot =
 unfoldable pub seenPin : State → ℕ → ℕ → Bool
 seenPin s level slot = anyBelow 32 (λ row. leb (levelOf row) level && pins s slot row)
 
--- e. the same with no seen pin; f. the same with seen pins, none the requester's
+-- e. held so, with no seen pin; f. held so, with seen pins, none the requester's
 unfoldable pub inE : State → ℕ → ℕ → Bool
-inE s row slot = heldBeside s row slot && not (seenPin s (levelOf row) slot)
+inE s row slot = heldAtOwnLevel s row slot && not (seenPin s (levelOf row) slot)
 
 unfoldable pub inF : State → ℕ → ℕ → Bool
-inF s row slot = heldBeside s row slot && seenPin s (levelOf row) slot && not (pins s slot row)
+inF s row slot = heldAtOwnLevel s row slot && seenPin s (levelOf row) slot && not (pins s slot row)
 
 -- several in c, d, e or f: the one whose best holder has the worst priority,
 -- then the earliest latest touch by holders of that best holder's level, then smaller page
@@ -89,7 +89,7 @@ beforeHeld s slot other =
     (ltb (pageIn (slotAt s slot .content)) (pageIn (slotAt s other .content))))
 
 unfoldable pub stepHeld : State → (ℕ → Bool) → Found
-stepHeld s some = pickBelow (s .slots) some (beforeHeld s)
+stepHeld s some = pickBelow (s .size) some (beforeHeld s)
 
 -- the first step that applies; g. none
 unfoldable pub chosen : State → ℕ → Found

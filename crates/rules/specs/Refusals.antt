@@ -1,22 +1,22 @@
--- Document 01, "Refusals": of those that apply to a call the smallest number is given, and 0 stands for none. Refusals 1 and 18 are found before a state is there.
-use mathlib.Core.Bool.{Bool, true, false, cond, _&&_, _||_, not}
+-- Document 01, "Refusals": of those that apply to a call the firstToApply number is given, and 0 stands for none. Refusals 1 and 18 are found before a state is there.
+use mathlib.Core.Bool.{Bool, true, false, cond, _&&_, not}
 use mathlib.Core.List.{List, [], _∷_}
 use Prim.Native.Nat.{ℕ}
-use lib.Dec.{leb, ltb, eqb}
+use lib.Dec.{leb, ltb}
 use Rattle.seq.specs.Below.{atFound}
 use Rattle.model.specs.declared.Condition.{Condition}
 use Rattle.model.specs.declared.Condition.the-variants.{Free, Idle, Fetching, Waiting, Killed}
 use Rattle.model.specs.declared.Mode.{Mode}
 use Rattle.model.specs.declared.Mode.the-variants.{Read, Write}
 use Rattle.model.specs.declared.State.{State}
-use Rattle.model.specs.Parties.{rowOf, classOf, modeOf, allowed}
-use Rattle.model.specs.State.{rowAt, holdingAt}
+use Rattle.model.specs.Parties.{rowOf, modeOf, mayAccess, lastClock, isPast}
+use Rattle.model.specs.State.{rowAt}
 use Rattle.model.specs.Words.{pins, slotOf}
 
--- refusals by rising number, each with whether it applies: the first that does
-abbrev pub smallest : List (ℕ × Bool) → ℕ
-smallest [] = 0
-smallest (r ∷ rs) = cond (r .1) (r .0) (smallest rs)
+-- the refusals of a call by rising number, each with whether it applies: the first that does
+abbrev pub firstToApply : List (ℕ × Bool) → ℕ
+firstToApply [] = 0
+firstToApply (r ∷ rs) = cond (r .1) (r .0) (firstToApply rs)
 
 abbrev pub isFree : Condition → Bool
 isFree Free = true
@@ -60,23 +60,23 @@ pinsPage s row page = atFound (slotOf s page) (λ slot. pins s slot row) false
 
 unfoldable pub startRefusal : ℕ → ℕ → ℕ
 startRefusal slots delay =
-    smallest (
+    firstToApply (
     (2, not (leb 1 slots && leb slots 64))
     ∷ (3, not (leb 1 delay && leb delay 255))
     ∷ [])
 
 unfoldable pub beginRefusal : State → ℕ → ℕ → ℕ → ℕ
 beginRefusal s level number deadline =
-    smallest (
+    firstToApply (
     (4, ltb 3 level)
     ∷ (5, ltb 7 number)
     ∷ (8, not (isFree (conditionAt s level number)))
-    ∷ (12, leb deadline (s .clock))
+    ∷ (12, isPast (s .clock) deadline)
     ∷ [])
 
 unfoldable pub requestRefusal : State → ℕ → ℕ → ℕ → ℕ → ℕ
 requestRefusal s level number page mode =
-    smallest (
+    firstToApply (
     (4, ltb 3 level)
     ∷ (5, ltb 7 number)
     ∷ (6, ltb 4095 page)
@@ -84,13 +84,13 @@ requestRefusal s level number page mode =
     ∷ (9, isFree (conditionAt s level number))
     ∷ (10, isKilled (conditionAt s level number))
     ∷ (11, isBusy (conditionAt s level number))
-    ∷ (13, isRead (modeOf mode) && not (allowed level (classOf page) (modeOf mode)))
-    ∷ (14, not (isRead (modeOf mode)) && not (allowed level (classOf page) (modeOf mode)))
+    ∷ (13, isRead (modeOf mode) && not (mayAccess level page (modeOf mode)))
+    ∷ (14, not (isRead (modeOf mode)) && not (mayAccess level page (modeOf mode)))
     ∷ [])
 
 unfoldable pub retryRefusal : State → ℕ → ℕ → ℕ
 retryRefusal s level number =
-    smallest (
+    firstToApply (
     (4, ltb 3 level)
     ∷ (5, ltb 7 number)
     ∷ (9, isFree (conditionAt s level number))
@@ -100,7 +100,7 @@ retryRefusal s level number =
 
 unfoldable pub unpinRefusal : State → ℕ → ℕ → ℕ → ℕ
 unpinRefusal s level number page =
-    smallest (
+    firstToApply (
     (4, ltb 3 level)
     ∷ (5, ltb 7 number)
     ∷ (6, ltb 4095 page)
@@ -112,20 +112,20 @@ unpinRefusal s level number page =
 
 unfoldable pub endRefusal : State → ℕ → ℕ → ℕ
 endRefusal s level number =
-    smallest (
+    firstToApply (
     (4, ltb 3 level)
     ∷ (5, ltb 7 number)
     ∷ (9, isFree (conditionAt s level number))
     ∷ [])
 
 unfoldable pub tickRefusal : State → ℕ
-tickRefusal s = smallest ((17, leb 4000000000 (s .clock)) ∷ [])
+tickRefusal s = firstToApply ((17, leb lastClock (s .clock)) ∷ [])
 
 unfoldable pub lookRefusal : ℕ → ℕ → ℕ
-lookRefusal level number = smallest ((4, ltb 3 level) ∷ (5, ltb 7 number) ∷ [])
+lookRefusal level number = firstToApply ((4, ltb 3 level) ∷ (5, ltb 7 number) ∷ [])
 
 unfoldable pub viewRefusal : ℕ → ℕ → ℕ
-viewRefusal level page = smallest ((4, ltb 3 level) ∷ (6, ltb 4095 page) ∷ [])
+viewRefusal level page = firstToApply ((4, ltb 3 level) ∷ (6, ltb 4095 page) ∷ [])
 
 unfoldable pub countRefusal : ℕ → ℕ
-countRefusal level = smallest ((4, ltb 3 level) ∷ [])
+countRefusal level = firstToApply ((4, ltb 3 level) ∷ [])

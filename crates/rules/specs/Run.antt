@@ -6,18 +6,17 @@ use Rattle.model.specs.declared.Outcome.{Outcome}
 use Rattle.model.specs.declared.Answer.{Answer}
 use Rattle.rules.specs.Calls.{started, begun, requested, retried, unpinned, ended, ticked, lookedAt, viewed, counted}
 
--- slots and delay; level, row number, and deadline, or page and mode, or page; level and row number; level and page; level
 pub data Call : Type 0 where
-  start : ℕ → ℕ → Call
-  begin : ℕ → ℕ → ℕ → Call
-  request : ℕ → ℕ → ℕ → ℕ → Call
-  retry : ℕ → ℕ → Call
-  unpin : ℕ → ℕ → ℕ → Call
-  end : ℕ → ℕ → Call
+  start : (slots delay : ℕ) → Call
+  begin : (level number deadline : ℕ) → Call
+  request : (level number page mode : ℕ) → Call
+  retry : (level number : ℕ) → Call
+  unpin : (level number page : ℕ) → Call
+  end : (level number : ℕ) → Call
   tick : Call
-  look : ℕ → ℕ → Call
-  view : ℕ → ℕ → Call
-  count : ℕ → Call
+  look : (level number : ℕ) → Call
+  view : (level page : ℕ) → Call
+  count : (level : ℕ) → Call
 
 unfoldable pub outcome : State → Call → Outcome
 outcome s (start slots delay) = started s slots delay

@@ -1,6 +1,6 @@
--- Document 01, "State": what sound means, sentence by sentence.
-use mathlib.Core.Bool.{Bool, true, false, cond, _&&_, _||_, not}
-use Prim.Native.Nat.{ℕ, _+_, _-_, _^_}
+-- Document 01, "State": what sound means. Its sentences stand beside the tests of the whole state, a slot, a row and a holding.
+use mathlib.Core.Bool.{Bool, true, cond, _&&_, _||_, not}
+use Prim.Native.Nat.{ℕ, _+_}
 use lib.Dec.{leb, ltb, eqb}
 use lib.ListN.{length}
 use Rattle.seq.specs.Below.{allBelow, countBelow}
@@ -12,22 +12,22 @@ use Rattle.model.specs.declared.Pin.{Pin}
 use Rattle.model.specs.declared.Pin.the-variants.{Absent, Unpinned, Read, Write}
 use Rattle.model.specs.declared.Mode.the-variants as Mode
 use Rattle.model.specs.declared.State.{State}
-use Rattle.model.specs.Parties.{levelOf, classOf, allowed}
+use Rattle.model.specs.Parties.{levelOf, mayAccess, lastClock, isPast}
 use Rattle.model.specs.State.{rowAt, slotAt, holdingAt}
-use Rattle.model.specs.Words.{isLive, isFilled, isHeld, isPin, pageIn, arrivalIn, lowestIn, hasPage, holds, pins, conflict}
+use Rattle.model.specs.Words.{isLive, isFilled, pageIn, arrivalIn, lowestIn, hasPage, holds, pins, conflict}
 
 -- the arrays have their sizes, and the numbers of the whole state are in range
 unfoldable pub soundNumbers : State → Bool
 soundNumbers s =
-    eqb (length (s .rows)) 32 && eqb (length (s .table)) 64 && eqb (length (s .holdings)) 2048
-    && leb 1 (s .slots) && leb (s .slots) 64 && leb 1 (s .delay) && leb (s .delay) 255 && leb (s .clock) 4000000000
+    eqb (length (s .rows)) 32 && eqb (length (s .slots)) 64 && eqb (length (s .holdings)) 2048
+    && leb 1 (s .size) && leb (s .size) 64 && leb 1 (s .delay) && leb (s .delay) 255 && leb (s .clock) lastClock
 
--- a page, its class within reach of the pin
+-- no pin against the access rule
 abbrev pub pinAllowed : ℕ → ℕ → Pin → Bool
 pinAllowed level page Absent = true
 pinAllowed level page Unpinned = true
-pinAllowed level page Read = allowed level (classOf page) Mode.Read
-pinAllowed level page Write = allowed level (classOf page) Mode.Write
+pinAllowed level page Read = mayAccess level page Mode.Read
+pinAllowed level page Write = mayAccess level page Mode.Write
 
 -- the holding has arrived, or is none
 unfoldable pub arrived : State → ℕ → ℕ → Bool
@@ -48,13 +48,14 @@ soundContent s (Filled page arrival dirty lowest) touch =
 unfoldable pub soundSlot : State → ℕ → Bool
 soundSlot s slot =
     soundContent s (slotAt s slot .content) (slotAt s slot .touch)
-    && (ltb slot (s .slots) || not (isFilled (slotAt s slot .content)))
+    && (ltb slot (s .size) || not (isFilled (slotAt s slot .content)))
 
--- two slots have not one page
+-- both slots have one page
 unfoldable pub samePage : State → ℕ → ℕ → Bool
 samePage s slot other =
     isFilled (slotAt s slot .content) && hasPage (pageIn (slotAt s slot .content)) (slotAt s other .content)
 
+-- no page in two slots
 unfoldable pub soundPages : State → Bool
 soundPages s = allBelow 64 (λ slot. allBelow slot (λ other. not (samePage s slot other)))
 
@@ -65,14 +66,14 @@ abbrev pub soundCondition : State → ℕ → Condition → ℕ → Bool
 soundCondition s row Free deadline = eqb deadline 0
 soundCondition s row (Killed cause) deadline = eqb deadline 0
 soundCondition s row Idle deadline =
-    ltb (s .clock) deadline && ltb deadline (2 ^ 32) && allBelow 64 (λ slot. arrived s slot row)
+    not (isPast (s .clock) deadline) && allBelow 64 (λ slot. arrived s slot row)
 soundCondition s row (Fetching due) deadline =
-    ltb (s .clock) deadline && ltb deadline (2 ^ 32) && ltb (s .clock) due
+    not (isPast (s .clock) deadline) && ltb (s .clock) due
     && eqb (countBelow 64 (awaits s row due)) 1
     && allBelow 64 (λ slot. arrived s slot row || awaits s row due slot)
 soundCondition s row (Waiting page mode) deadline =
-    ltb (s .clock) deadline && ltb deadline (2 ^ 32) && allBelow 64 (λ slot. arrived s slot row)
-    && leb page 4095 && allowed (levelOf row) (classOf page) mode
+    not (isPast (s .clock) deadline) && allBelow 64 (λ slot. arrived s slot row)
+    && leb page 4095 && mayAccess (levelOf row) page mode
 
 unfoldable pub soundRow : State → ℕ → Bool
 soundRow s row = soundCondition s row (rowAt s row .condition) (rowAt s row .deadline)

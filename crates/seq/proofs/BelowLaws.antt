@@ -17,6 +17,10 @@ module _ (p : ℕ → Bool) where
   unfolding anyBelow
   any-more n = rw add-one
 
+  -- one turn of a loop
+  pub any-turn : (n : ℕ) (a b : Bool) → a ≡ anyBelow n p → b ≡ a || p n → b ≡ anyBelow (n + 1) p
+  any-turn n a b e q = rw any-more (q ∙ ap (λ (x : Bool). x || p n) e)
+
   pub any-none : (n i : ℕ) → anyBelow n p ≡ false → i < n → p i ≡ false
   unfolding anyBelow
   any-none zero i e h = absurd (omega arith)

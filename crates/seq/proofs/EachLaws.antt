@@ -83,6 +83,12 @@ module _ {A : Type 0} where
           | no q ↦ each-below-later n i d (omega arith) b ∙ sym (each-below-later (n + 1) i d (omega arith) b)
         ]
 
+    -- the same, as a loop has it: the list so far, and its element replaced
+    pub each-below-turn : (n : ℕ) (d : A) (l : List A) (y : A) → n < length xs → l ≡ eachBelow n f xs → y ≡ f n (getD l n d) → set l n y ≡ eachBelow (n + 1) f xs
+    each-below-turn n d l y h e q =
+        let s : getD l n d ≡ getD xs n d = ap (λ (m : List A). getD m n d) e ∙ each-below-later n n d (omega arith) h in
+        rw (e, q, s) (each-below-more n d h)
+
     -- the loop's end
     pub each-below-all : (n : ℕ) (d : A) → length xs ≤ n → eachBelow n f xs ≡ each f xs
     unfolding eachBelow

@@ -1,0 +1,97 @@
+-- What stands at a row, a slot and a holding after an elementary change.
+use mathlib.Core.Path.{_≡_, refl, sym, _∙_, ap}
+use mathlib.Core.Bool.{Bool, true, false, cond, _&&_}
+use mathlib.Core.List.{List}
+use Prim.Native.Nat.{ℕ, _+_, _*_, _/_, _%_, _<_, _≤_}
+use native.Mathlib.Omega.{arith}
+use native.Mathlib.Decide.{decLt}
+use lib.Dec.{eqb}
+use lib.ListN.{length, getD, List·getD-eq-default}
+use Rattle.seq.specs.Below.{anyBelow}
+use Rattle.seq.specs.Each.{each}
+use Rattle.seq.proofs.EachLaws.{each-at, each-length}
+use Rattle.model.specs.State.{freeRow, emptySlot, emptyHolding, rowAt, slotAt, holdingAt}
+use Rattle.model.specs.Changes.{written, dirtied, dirtiedContent, released, killed, killedRow, cleared}
+use Rattle.model.specs.declared.Cause.{Cause}
+use Rattle.model.specs.declared.Row.{Row}
+use Rattle.model.specs.declared.Slot.{Slot}
+use Rattle.model.specs.declared.Holding.{Holding}
+use Rattle.model.specs.declared.State.{State}
+use Rattle.model.proofs.StateLaws.{Sized, place-slot, place-row}
+
+-- a function that leaves the default: its element at any place, in the list or past its end
+each-any : {A : Type 0} (f : ℕ → A → A) (l : List A) (i : ℕ) (d : A) → (length l ≤ i → f i d ≡ d) → getD (each f l) i d ≡ f i (getD l i d)
+each-any f l i d still = elim (decLt i (length l)) [
+  | yes h ↦ each-at f l i d h
+  | no h ↦
+      let b : length l ≤ i = omega arith in
+      List·getD-eq-default (each f l) d {n = i} (rw (each-length f l) b) ∙ sym (still b) ∙ ap (f i) (sym (List·getD-eq-default l d {n = i} b))
+]
+
+cond-same : {A : Type 0} (b : Bool) (x : A) → cond b x x ≡ x
+cond-same true x = refl
+cond-same false x = refl
+
+-- some of the rows wrote the slot: one of them has a write pin on it that had arrived
+abbrev pub wroteSlot : (ℕ → Bool) → State → ℕ → Bool
+wroteSlot some s slot = anyBelow 32 (λ row. some row && written (s .clock) (holdingAt s slot row))
+
+module _ (some : ℕ → Bool) (s : State) (z : Sized s) where
+  pub released-holding : (slot row : ℕ) → row < 32 → holdingAt (released some s) slot row ≡ cond (some row) emptyHolding (holdingAt s slot row)
+  unfolding released
+  released-holding slot row h =
+      each-any (λ k x. cond (some (k % 32)) emptyHolding x) (s .holdings) (slot * 32 + row) emptyHolding (λ _. cond-same (some ((slot * 32 + row) % 32)) emptyHolding)
+      ∙ ap (λ (r : ℕ). cond (some r) emptyHolding (holdingAt s slot row)) (place-row slot row h)
+
+  pub released-slot : (slot : ℕ) → slot < 64 → slotAt (released some s) slot ≡ cond (wroteSlot some s slot) (dirtied (slotAt s slot)) (slotAt s slot)
+  unfolding released
+  released-slot slot h = each-at (λ i x. cond (wroteSlot some s i) (dirtied x) x) (s .slots) slot emptySlot (rw (z .slots) h)
+
+  pub released-row : (row : ℕ) → rowAt (released some s) row ≡ rowAt s row
+  unfolding released
+  released-row row = refl
+
+  pub sized-released : Sized (released some s)
+  unfolding released
+  sized-released = record { rows = z .rows; slots = each-length _ (s .slots) ∙ z .slots; holdings = each-length _ (s .holdings) ∙ z .holdings }
+
+  module _ (cause : Cause) where
+    pub killed-row : (row : ℕ) → row < 32 → rowAt (killed some cause s) row ≡ cond (some row) (killedRow cause) (rowAt s row)
+    unfolding killed
+    killed-row row h = each-at (λ i x. cond (some i) (killedRow cause) x) (s .rows) row freeRow (rw (z .rows) h)
+
+    pub killed-slot : (slot : ℕ) → slot < 64 → slotAt (killed some cause s) slot ≡ cond (wroteSlot some s slot) (dirtied (slotAt s slot)) (slotAt s slot)
+    unfolding killed
+    killed-slot slot h = released-slot slot h
+
+    pub killed-holding : (slot row : ℕ) → row < 32 → holdingAt (killed some cause s) slot row ≡ cond (some row) emptyHolding (holdingAt s slot row)
+    unfolding killed
+    killed-holding slot row h = released-holding slot row h
+
+    pub sized-killed : Sized (killed some cause s)
+    unfolding killed
+    sized-killed = record { rows = each-length _ (s .rows) ∙ z .rows; slots = sized-released .slots; holdings = sized-released .holdings }
+
+-- the number of slots, the delay and the clock stay
+pub killed-clock : (some : ℕ → Bool) (cause : Cause) (s : State) → killed some cause s .clock ≡ s .clock
+unfolding killed released
+killed-clock some cause s = refl
+
+pub killed-delay : (some : ℕ → Bool) (cause : Cause) (s : State) → killed some cause s .delay ≡ s .delay
+unfolding killed released
+killed-delay some cause s = refl
+
+pub killed-size : (some : ℕ → Bool) (cause : Cause) (s : State) → killed some cause s .size ≡ s .size
+unfolding killed released
+killed-size some cause s = refl
+
+module _ (gone : ℕ) (s : State) (z : Sized s) where
+  pub cleared-holding : (slot row : ℕ) → row < 32 → holdingAt (cleared gone s) slot row ≡ cond (eqb slot gone) emptyHolding (holdingAt s slot row)
+  unfolding cleared
+  cleared-holding slot row h =
+      each-any (λ k x. cond (eqb (k / 32) gone) emptyHolding x) (s .holdings) (slot * 32 + row) emptyHolding (λ _. cond-same (eqb ((slot * 32 + row) / 32) gone) emptyHolding)
+      ∙ ap (λ (i : ℕ). cond (eqb i gone) emptyHolding (holdingAt s slot row)) (place-slot slot row h)
+
+  pub sized-cleared : Sized (cleared gone s)
+  unfolding cleared
+  sized-cleared = record { rows = z .rows; slots = z .slots; holdings = each-length _ (s .holdings) ∙ z .holdings }

@@ -1,0 +1,4 @@
+pub mod StateLaws
+pub mod ChangeLaws
+pub mod Ranges
+pub mod Releasing

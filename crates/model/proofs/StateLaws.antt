@@ -1,0 +1,96 @@
+-- What stands at a row, a slot and a holding of a state with one of them replaced.
+use mathlib.Core.Path.{_≡_, refl, sym, _∙_, ap}
+use mathlib.Core.Bool.{Bool, true, false, cond, _&&_}
+use mathlib.Core.List.{List}
+use Prim.Native.Nat.{ℕ, _+_, _*_, _/_, _%_, _<_, _≤_}
+use native.Mathlib.Omega.{arith}
+use native.Mathlib.Decide.{ℕ-discrete}
+use borrow.Author.Tests.{eq-eqb, ne-eqb}
+use lib.Dec.{eqb}
+use lib.ListN.{length, getD, set, length-set, length-replicate, getD-replicate}
+use lib.Seq.{getD-set-same, getD-set-other}
+use Rattle.seq.proofs.Tests.{and-false-right}
+use Rattle.model.specs.State.{freeRow, emptySlot, emptyHolding, emptyHoldings, fresh, rowAt, slotAt, holdingAt, withClock, putRow, putSlot, putHolding}
+use Rattle.model.specs.declared.Row.{Row}
+use Rattle.model.specs.declared.Slot.{Slot}
+use Rattle.model.specs.declared.Holding.{Holding}
+use Rattle.model.specs.declared.State.{State}
+
+-- the arrays have their sizes
+pub record Sized (s : State) : Type 0 where
+  pub rows : length (s .rows) ≡ 32
+  pub slots : length (s .slots) ≡ 64
+  pub holdings : length (s .holdings) ≡ 2048
+
+-- an element of a list with one element replaced
+pub set-at : {A : Type 0} (l : List A) (k j : ℕ) (x d : A) → k < length l → getD (set l k x) j d ≡ cond (eqb j k) x (getD l j d)
+set-at l k j x d h = elim (ℕ-discrete j k) [
+  | yes e ↦ rw (e, eq-eqb k k refl) (getD-set-same l k x d h)
+  | no e ↦ rw (ne-eqb j k e) (getD-set-other l k j x d e)
+]
+
+-- the place of a holding tells its slot and its row
+pub place-slot : (slot row : ℕ) → row < 32 → (slot * 32 + row) / 32 ≡ slot
+place-slot slot row h = omega arith
+
+pub place-row : (slot row : ℕ) → row < 32 → (slot * 32 + row) % 32 ≡ row
+place-row slot row h = omega arith
+
+same-place : (slot row other row′ : ℕ) → row < 32 → row′ < 32 → eqb (other * 32 + row′) (slot * 32 + row) ≡ eqb other slot && eqb row′ row
+same-place slot row other row′ h h′ =
+    elim (ℕ-discrete other slot) [
+      | yes e ↦ elim (ℕ-discrete row′ row) [
+        | yes f ↦ eq-eqb (other * 32 + row′) (slot * 32 + row) (omega arith) ∙ sym (rw (eq-eqb other slot e) (eq-eqb row′ row f))
+        | no f ↦ ne-eqb (other * 32 + row′) (slot * 32 + row) (λ q. f (omega arith)) ∙ sym (rw (eq-eqb other slot e) (ne-eqb row′ row f))
+      ]
+      | no e ↦ ne-eqb (other * 32 + row′) (slot * 32 + row) (λ q. e (omega arith)) ∙ sym (rw (ne-eqb other slot e))
+    ]
+
+module _ (s : State) (z : Sized s) where
+  pub row-put : (row : ℕ) (x : Row) (other : ℕ) → row < 32 → rowAt (putRow s row x) other ≡ cond (eqb other row) x (rowAt s other)
+  row-put row x other h = set-at (s .rows) row other x freeRow (rw (z .rows) h)
+
+  pub slot-put : (slot : ℕ) (x : Slot) (other : ℕ) → slot < 64 → slotAt (putSlot s slot x) other ≡ cond (eqb other slot) x (slotAt s other)
+  slot-put slot x other h = set-at (s .slots) slot other x emptySlot (rw (z .slots) h)
+
+  pub holding-put : (slot row : ℕ) (x : Holding) (other row′ : ℕ) → slot < 64 → row < 32 → row′ < 32
+      → holdingAt (putHolding s slot row x) other row′ ≡ cond (eqb other slot && eqb row′ row) x (holdingAt s other row′)
+  holding-put slot row x other row′ h r r′ =
+      set-at (s .holdings) (slot * 32 + row) (other * 32 + row′) x emptyHolding (rw (z .holdings) (omega arith))
+      ∙ ap (λ (b : Bool). cond b x (holdingAt s other row′)) (same-place slot row other row′ r r′)
+
+  pub sized-put-row : (row : ℕ) (x : Row) → Sized (putRow s row x)
+  sized-put-row row x = record { rows = length-set (s .rows) row x ∙ z .rows; slots = z .slots; holdings = z .holdings }
+
+  pub sized-put-slot : (slot : ℕ) (x : Slot) → Sized (putSlot s slot x)
+  sized-put-slot slot x = record { rows = z .rows; slots = length-set (s .slots) slot x ∙ z .slots; holdings = z .holdings }
+
+  pub sized-put-holding : (slot row : ℕ) (x : Holding) → Sized (putHolding s slot row x)
+  sized-put-holding slot row x = record { rows = z .rows; slots = z .slots; holdings = length-set (s .holdings) (slot * 32 + row) x ∙ z .holdings }
+
+  pub sized-clock : (clock : ℕ) → Sized (withClock s clock)
+  sized-clock clock = record { rows = z .rows; slots = z .slots; holdings = z .holdings }
+
+-- the fresh state, at each place
+replicate-at : {A : Type 0} (n i : ℕ) (x : A) → getD (lib.ListN.replicate n x) i x ≡ x
+replicate-at n i x = elim (native.Mathlib.Decide.decLt i n) [
+  | yes h ↦ getD-replicate n i x x h
+  | no h ↦ lib.ListN.List·getD-eq-default (lib.ListN.replicate n x) x {n = i} (rw (length-replicate n x) (omega arith))
+]
+
+module _ (slots delay : ℕ) where
+  pub fresh-row : (row : ℕ) → rowAt (fresh slots delay) row ≡ freeRow
+  unfolding fresh
+  fresh-row row = replicate-at 32 row freeRow
+
+  pub fresh-slot : (slot : ℕ) → slotAt (fresh slots delay) slot ≡ emptySlot
+  unfolding fresh
+  fresh-slot slot = replicate-at 64 slot emptySlot
+
+  pub fresh-holding : (slot row : ℕ) → holdingAt (fresh slots delay) slot row ≡ emptyHolding
+  unfolding fresh emptyHoldings
+  fresh-holding slot row = replicate-at 2048 (slot * 32 + row) emptyHolding
+
+  pub fresh-sized : Sized (fresh slots delay)
+  unfolding fresh emptyHoldings
+  fresh-sized = record { rows = length-replicate 32 freeRow; slots = length-replicate 64 emptySlot; holdings = length-replicate 2048 emptyHolding }

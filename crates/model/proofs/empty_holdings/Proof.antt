@@ -1,0 +1,14 @@
+use mathlib.Core.Path.{refl}
+use Rattle.model.specs.State.{emptyHoldings}
+use Rattle.model.proofs.empty_holdings.Statement.{statement}
+use Rattle.model.proofs.empty_holdings.Tie as tie
+use Rattle.model.proofs.empty_holdings.Reads as reads
+use Rattle.model.proofs.empty_holdings.Lts as lts
+
+-- src/lib.rt:116:1
+returns : tie.Need-returns
+unfolding emptyHoldings
+returns c = refl
+
+pub empty-holdings-spec : {M : Type 1} → statement M
+empty-holdings-spec = tie.close (tie.spec returns)

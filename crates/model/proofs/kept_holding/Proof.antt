@@ -1,0 +1,16 @@
+use borrow.Author.Needs.{needs}
+use Rattle.model.proofs.kept_holding.Statement.{statement}
+use Rattle.model.proofs.kept_holding.Tie as tie
+use Rattle.model.proofs.kept_holding.Reads as reads
+use Rattle.model.proofs.kept_holding.Lts as lts
+
+-- src/lib.rt:327:9
+returns : tie.Need-returns
+returns c = simp (c .if1 .taken)
+
+-- src/lib.rt:323:1
+returns-2 : tie.Need-returns-2
+returns-2 c = search needs
+
+pub kept-holding-spec : {M : Type 1} → statement M
+kept-holding-spec = tie.close (tie.spec returns returns-2)
