@@ -4,3 +4,4 @@ pub mod Choice
 pub mod Refusals
 pub mod Calls
 pub mod Run
+pub mod Secrecy

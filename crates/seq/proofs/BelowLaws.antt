@@ -109,3 +109,80 @@ module _ (p q : ℕ → Bool) where
   unfolding countBelow
   count-same zero f = refl
   count-same (suc n) f = rw (count-same n (λ i h. f i (omega arith)), f n (omega arith))
+
+-- exactly one number below n passes
+pub record One (p : ℕ → Bool) (n : ℕ) : Type 0 where
+  pub at : ℕ
+  pub below : at < n
+  pub passes : p at ≡ true
+  pub only : (i : ℕ) → i < n → p i ≡ true → i ≡ at
+
+module _ (p : ℕ → Bool) where
+  pub count-none : (n : ℕ) → ((i : ℕ) → i < n → p i ≡ false) → countBelow n p ≡ 0
+  unfolding countBelow
+  count-none zero f = refl
+  count-none (suc n) f = rw (count-none n (λ i h. f i (omega arith)), f n (omega arith))
+
+  pub none-count : (n : ℕ) → countBelow n p ≡ 0 → (i : ℕ) → i < n → p i ≡ false
+  unfolding countBelow
+  none-count zero e i h = absurd (omega arith)
+  none-count (suc n) e i h = go (p n) refl (λ z. none-count n z i)
+    where
+      go : (b : Bool) → p n ≡ b → (countBelow n p ≡ 0 → i < n → p i ≡ false) → p i ≡ false
+      go true q r = absurd (let z = rw q at e in omega arith)
+      go false q r =
+          let z = rw q at e in
+          elim (ℕ-discrete i n) [
+            | yes s ↦ rw s q
+            | no s ↦ r (omega arith) (below-suc n i h s)
+          ]
+
+  pub count-one : (n : ℕ) → countBelow n p ≡ 1 → One p n
+  unfolding countBelow
+  count-one zero e = absurd (omega arith)
+  count-one (suc n) e = go (p n) refl (count-one n)
+    where
+      go : (b : Bool) → p n ≡ b → (countBelow n p ≡ 1 → One p n) → One p (suc n)
+      go true q r =
+          let z : countBelow n p ≡ 0 = (let y = rw q at e in omega arith) in
+          record {
+            at = n;
+            below = omega arith;
+            passes = q;
+            only = λ i h w. elim (ℕ-discrete i n) [
+              | yes s ↦ s
+              | no s ↦ true-false (sym w ∙ none-count n z i (below-suc n i h s))
+            ];
+          }
+      go false q r =
+          let o = r (let y = rw q at e in omega arith) in
+          record {
+            at = o .at;
+            below = omega (arith, o .below);
+            passes = o .passes;
+            only = λ i h w. elim (ℕ-discrete i n) [
+              | yes s ↦ true-false (sym w ∙ ap p s ∙ q)
+              | no s ↦ o .only i (below-suc n i h s) w
+            ];
+          }
+
+  pub one-count : (n : ℕ) → One p n → countBelow n p ≡ 1
+  unfolding countBelow
+  one-count zero o = absurd (omega (arith, o .below))
+  one-count (suc n) o = go (p n) refl (one-count n)
+    where
+      go : (b : Bool) → p n ≡ b → (One p n → countBelow n p ≡ 1) → countBelow n p + cond (p n) 1 0 ≡ 1
+      go true q r =
+          let a : n ≡ o .at = o .only n (omega arith) q in
+          let z : countBelow n p ≡ 0 = count-none n (λ i h. go2 i h a (p i) refl) in
+          rw (q, z)
+        where
+          go2 : (i : ℕ) → i < n → n ≡ o .at → (b : Bool) → p i ≡ b → p i ≡ false
+          go2 i h a true w = absurd (let y = o .only i (omega arith) w in omega arith)
+          go2 i h a false w = w
+      go false q r = elim (ℕ-discrete (o .at) n) [
+        | yes s ↦ true-false (sym (o .passes) ∙ ap p s ∙ q)
+        | no s ↦
+            let b = below-suc n (o .at) (o .below) s in
+            rw q (let y = r (record { at = o .at; below = b; passes = o .passes; only = λ i h w. o .only i (omega arith) w }) in omega arith)
+      ]

@@ -14,6 +14,15 @@ pub and-true : (a b : Bool) → a && b ≡ true → (a ≡ true) × (b ≡ true)
 and-true true b e = (refl, e)
 and-true false b e = true-false (cc)
 
+pub and-left : (a b : Bool) → a && b ≡ true → a ≡ true
+and-left a b e = and-true a b e .0
+
+pub and-right : (a b : Bool) → a && b ≡ true → b ≡ true
+and-right a b e = and-true a b e .1
+
+-- each part of a conjunction that is true: `search parts`
+pub ruleset parts = (and-left, and-right)
+
 pub both-true : {a b : Bool} → a ≡ true → b ≡ true → a && b ≡ true
 both-true p q = rw (p, q)
 

@@ -1,0 +1,249 @@
+-- What sound says of a state, as facts; and that these facts are all that it says.
+use mathlib.Core.Path.{_≡_, refl, sym, _∙_, ap, subst}
+use mathlib.Core.Bool.{Bool, true, false, cond, _&&_, _||_, not}
+use Prim.Native.Nat.{ℕ, zero, suc, _+_, _<_, _≤_}
+use native.Mathlib.Omega.{arith}
+use native.Mathlib.Decide.{ℕ-discrete, decLt}
+use borrow.Author.Tests.{ltb-true, leb-true, eqb-true, ltb-false, leb-false, lt-ltb, le-leb, eq-eqb, lt-leb, le-ltb, not-true, not-false}
+use lib.Dec.{leb, ltb, eqb}
+use lib.ListN.{length}
+use Rattle.seq.specs.Below.{allBelow, countBelow}
+use Rattle.seq.proofs.Tests.{true-false, parts, and-true, both-true, not-true-false, or-true-right}
+use Rattle.seq.proofs.BelowLaws.{all-each, each-all, One, count-one, one-count}
+use Rattle.model.specs.declared.Condition.{Condition}
+use Rattle.model.specs.declared.Condition.the-variants.{Free, Idle, Fetching, Waiting, Killed}
+use Rattle.model.specs.declared.Content.{Content}
+use Rattle.model.specs.declared.Content.the-variants.{Empty, Filled}
+use Rattle.model.specs.declared.Pin.{Pin}
+use Rattle.model.specs.declared.Pin.the-variants.{Absent, Unpinned, Read, Write}
+use Rattle.model.specs.declared.Holding.{Holding}
+use Rattle.model.specs.declared.State.{State}
+use Rattle.model.specs.Parties.{levelOf, mayAccess, lastClock, isPast}
+use Rattle.model.specs.State.{emptySlot, emptyHolding, rowAt, slotAt, holdingAt}
+use Rattle.model.specs.Words.{isLive, isFilled, pageIn, arrivalIn, lowestIn, hasPage, isHeld, holds, pins, conflict}
+use Rattle.model.proofs.StateLaws.{Sized}
+use Rattle.rules.specs.Sound.{soundNumbers, pinAllowed, arrived, awaits, soundContent, soundSlot, samePage, soundPages, soundCondition, soundRow, soundHolding, soundPins, sound}
+
+-- a slot
+pub record SlotSound (s : State) (slot : ℕ) : Type 0 where
+  pub empty : isFilled (slotAt s slot .content) ≡ false → slotAt s slot .touch ≡ 0
+  pub page : isFilled (slotAt s slot .content) ≡ true → pageIn (slotAt s slot .content) ≤ 4095
+  pub lowest : isFilled (slotAt s slot .content) ≡ true → lowestIn (slotAt s slot .content) ≤ 3
+  pub touch : slotAt s slot .touch ≤ s .clock
+  pub arrival : isFilled (slotAt s slot .content) ≡ true → arrivalIn (slotAt s slot .content) ≤ s .clock + s .delay
+  pub started : isFilled (slotAt s slot .content) ≡ true → slot < s .size
+
+-- a row in each condition
+pub record Settled (s : State) (row d : ℕ) : Type 0 where
+  pub deadline : s .clock < d
+  pub arrived : (slot : ℕ) → slot < 64 → holds s slot row ≡ true → holdingAt s slot row .arrival ≤ s .clock
+
+pub record Awaiting (s : State) (row tick d : ℕ) : Type 0 where
+  pub deadline : s .clock < d
+  pub due : s .clock < tick
+  pub one : One (awaits s row tick) 64
+  pub others : (slot : ℕ) → slot < 64 → holds s slot row ≡ true → awaits s row tick slot ≡ false → holdingAt s slot row .arrival ≤ s .clock
+
+abbrev pub RowSound : State → ℕ → Condition → ℕ → Type 0
+RowSound s row Free deadline = deadline ≡ 0
+RowSound s row Idle deadline = Settled s row deadline
+RowSound s row (Fetching due) deadline = Awaiting s row due deadline
+RowSound s row (Waiting page mode) deadline = Settled s row deadline × (page ≤ 4095) × (mayAccess (levelOf row) page mode ≡ true)
+RowSound s row (Killed cause) deadline = deadline ≡ 0
+
+-- a holding that is there
+pub record Held (s : State) (slot row : ℕ) : Type 0 where
+  pub live : isLive (rowAt s row .condition) ≡ true
+  pub filled : isFilled (slotAt s slot .content) ≡ true
+  pub allowed : pinAllowed (levelOf row) (pageIn (slotAt s slot .content)) (holdingAt s slot row .pin) ≡ true
+  pub after : arrivalIn (slotAt s slot .content) ≤ holdingAt s slot row .arrival
+  pub arrival : holdingAt s slot row .arrival ≤ s .clock + s .delay
+  pub touch : holdingAt s slot row .touch ≤ slotAt s slot .touch
+  pub lowest : lowestIn (slotAt s slot .content) ≤ levelOf row
+
+pub record Sound (s : State) : Type 0 where
+  pub sized : Sized s
+  pub size-least : 1 ≤ s .size
+  pub size-most : s .size ≤ 64
+  pub delay-least : 1 ≤ s .delay
+  pub delay-most : s .delay ≤ 255
+  pub clock-most : s .clock ≤ lastClock
+  pub slot : (i : ℕ) → i < 64 → SlotSound s i
+  pub one-slot : (i j : ℕ) → i < 64 → j < 64 → isFilled (slotAt s i .content) ≡ true → isFilled (slotAt s j .content) ≡ true
+      → pageIn (slotAt s i .content) ≡ pageIn (slotAt s j .content) → i ≡ j
+  pub row : (r : ℕ) → r < 32 → RowSound s r (rowAt s r .condition) (rowAt s r .deadline)
+  pub held : (i r : ℕ) → i < 64 → r < 32 → holds s i r ≡ true → Held s i r
+  pub unheld : (i r : ℕ) → i < 64 → r < 32 → holds s i r ≡ false → holdingAt s i r ≡ emptyHolding
+  pub no-conflict : (i r q : ℕ) → i < 64 → r < 32 → q < 32 → (r ≡ q → ⊥) → conflict (holdingAt s i r .pin) (holdingAt s i q .pin) ≡ false
+
+-- ---- from the test to the facts
+
+conflict-sym : (p q : Pin) → conflict p q ≡ conflict q p
+unfolding conflict
+conflict-sym Absent Absent = refl
+conflict-sym Absent Unpinned = refl
+conflict-sym Absent Read = refl
+conflict-sym Absent Write = refl
+conflict-sym Unpinned Absent = refl
+conflict-sym Unpinned Unpinned = refl
+conflict-sym Unpinned Read = refl
+conflict-sym Unpinned Write = refl
+conflict-sym Read Absent = refl
+conflict-sym Read Unpinned = refl
+conflict-sym Read Read = refl
+conflict-sym Read Write = refl
+conflict-sym Write Absent = refl
+conflict-sym Write Unpinned = refl
+conflict-sym Write Read = refl
+conflict-sym Write Write = refl
+
+slot-facts : (s : State) (i : ℕ) → soundSlot s i ≡ true → SlotSound s i
+unfolding soundSlot
+slot-facts s i e =
+    let h = and-true (soundContent s (slotAt s i .content) (slotAt s i .touch)) (ltb i (s .size) || not (isFilled (slotAt s i .content))) e in
+    go (slotAt s i .content) refl (h .0) (h .1)
+  where
+    go : (c : Content) → slotAt s i .content ≡ c → soundContent s (slotAt s i .content) (slotAt s i .touch) ≡ true
+        → ltb i (s .size) || not (isFilled (slotAt s i .content)) ≡ true → SlotSound s i
+    go Empty q h k =
+        let z = eqb-true (slotAt s i .touch) 0 (rw q at h) in
+        record {
+          empty = λ _. z;
+          page = λ f. true-false (sym (rw q at f));
+          lowest = λ f. true-false (sym (rw q at f));
+          touch = omega arith;
+          arrival = λ f. true-false (sym (rw q at f));
+          started = λ f. true-false (sym (rw q at f));
+        }
+    go (Filled p a d l) q h k =
+        let h′ = rw q at h in
+        record {
+          empty = λ f. true-false (rw q at f);
+          page = λ _. rw q (leb-true p 4095 (search parts depth 20));
+          lowest = λ _. rw q (leb-true l 3 (search parts depth 20));
+          touch = leb-true (slotAt s i .touch) (s .clock) (search parts depth 20);
+          arrival = λ _. rw q (leb-true a (s .clock + s .delay) (search parts depth 20));
+          started = λ _. last (ltb i (s .size)) refl (rw q at k);
+        }
+      where
+        last : (b : Bool) → ltb i (s .size) ≡ b → ltb i (s .size) || false ≡ true → i < s .size
+        last true w k = ltb-true i (s .size) w
+        last false w k = true-false (sym (rw w at k))
+
+arrived-fact : (s : State) (i r : ℕ) → arrived s i r ≡ true → holds s i r ≡ true → holdingAt s i r .arrival ≤ s .clock
+unfolding arrived
+arrived-fact s i r e h = leb-true (holdingAt s i r .arrival) (s .clock) (rw h at e)
+
+row-facts : (s : State) (r : ℕ) (c : Condition) (d : ℕ) → soundCondition s r c d ≡ true → RowSound s r c d
+row-facts s r Free d e = eqb-true d 0 e
+row-facts s r (Killed cause) d e = eqb-true d 0 e
+row-facts s r Idle d e = record {
+  deadline = leb-false d (s .clock) (not-true (isPast (s .clock) d) (search parts depth 20));
+  arrived = λ i b. arrived-fact s i r (all-each (λ slot. arrived s slot r) 64 i (search parts depth 20) b);
+}
+row-facts s r (Fetching due) d e = record {
+  deadline = leb-false d (s .clock) (not-true (isPast (s .clock) d) (search parts depth 20));
+  due = ltb-true (s .clock) due (search parts depth 20);
+  one = count-one (awaits s r due) 64 (eqb-true (countBelow 64 (awaits s r due)) 1 (search parts depth 20));
+  others = λ i b h w. last i h w (arrived s i r) refl (all-each (λ slot. arrived s slot r || awaits s r due slot) 64 i (search parts depth 20) b);
+}
+  where
+    last : (i : ℕ) → holds s i r ≡ true → awaits s r due i ≡ false → (b : Bool) → arrived s i r ≡ b → arrived s i r || awaits s r due i ≡ true → holdingAt s i r .arrival ≤ s .clock
+    last i h w true q k = arrived-fact s i r q h
+    last i h w false q k = true-false (sym (rw (q, w) at k))
+row-facts s r (Waiting page mode) d e = (
+  record {
+    deadline = leb-false d (s .clock) (not-true (isPast (s .clock) d) (search parts depth 20));
+    arrived = λ i b. arrived-fact s i r (all-each (λ slot. arrived s slot r) 64 i (search parts depth 20) b);
+  },
+  leb-true page 4095 (search parts depth 20),
+  search parts depth 20,
+)
+
+held-facts : (s : State) (i r : ℕ) → soundHolding s i r ≡ true → holds s i r ≡ true → Held s i r
+unfolding soundHolding
+held-facts s i r e h =
+    let k = rw h at e in
+    record {
+      live = search parts depth 20;
+      filled = search parts depth 20;
+      allowed = search parts depth 20;
+      after = leb-true (arrivalIn (slotAt s i .content)) (holdingAt s i r .arrival) (search parts depth 20);
+      arrival = leb-true (holdingAt s i r .arrival) (s .clock + s .delay) (search parts depth 20);
+      touch = leb-true (holdingAt s i r .touch) (slotAt s i .touch) (search parts depth 20);
+      lowest = leb-true (lowestIn (slotAt s i .content)) (levelOf r) (search parts depth 20);
+    }
+
+no-holding : (h : Holding) → isHeld (h .pin) ≡ false → h .arrival ≡ 0 → h .touch ≡ 0 → h ≡ emptyHolding
+no-holding h e a t = go (h .pin) refl
+  where
+    go : (p : Pin) → h .pin ≡ p → h ≡ emptyHolding
+    go Absent q = λ j. record { pin = q j; arrival = a j; touch = t j }
+    go Unpinned q = true-false (rw q at e)
+    go Read q = true-false (rw q at e)
+    go Write q = true-false (rw q at e)
+
+unheld-facts : (s : State) (i r : ℕ) → soundHolding s i r ≡ true → holds s i r ≡ false → holdingAt s i r ≡ emptyHolding
+unfolding soundHolding
+unheld-facts s i r e h =
+    let k = and-true (eqb (holdingAt s i r .arrival) 0) (eqb (holdingAt s i r .touch) 0) (rw h at e) in
+    no-holding (holdingAt s i r) h (eqb-true (holdingAt s i r .arrival) 0 (k .0)) (eqb-true (holdingAt s i r .touch) 0 (k .1))
+
+-- what holds of each pair of different numbers by the larger first, holds of each pair
+pairs : (P : ℕ → ℕ → Type 0) → ((i j : ℕ) → P i j → P j i) → (n : ℕ) → ((i j : ℕ) → i < n → j < i → P i j) → (i j : ℕ) → i < n → j < n → (i ≡ j → ⊥) → P i j
+pairs P sy n f i j a b m = elim (decLt j i) [
+  | yes h ↦ f i j a h
+  | no h ↦ sy j i (f j i b (let k = m in elim (ℕ-discrete i j) [ yes e ↦ absurd (k e) | no e ↦ omega arith ]))
+]
+
+has-page : (c d : Content) → isFilled d ≡ true → pageIn c ≡ pageIn d → hasPage (pageIn c) d ≡ true
+has-page c Empty f e = true-false (sym f)
+has-page c (Filled p a x l) f e = eq-eqb p (pageIn c) (sym e)
+
+has-page-back : (n : ℕ) (d : Content) → hasPage n d ≡ true → (isFilled d ≡ true) × (pageIn d ≡ n)
+has-page-back n Empty e = true-false (sym e)
+has-page-back n (Filled p a x l) e = (refl, eqb-true p n e)
+
+pages-facts : (s : State) → soundPages s ≡ true → (i j : ℕ) → i < 64 → j < 64 → isFilled (slotAt s i .content) ≡ true → isFilled (slotAt s j .content) ≡ true
+    → pageIn (slotAt s i .content) ≡ pageIn (slotAt s j .content) → i ≡ j
+unfolding soundPages samePage
+pages-facts s e i j a b f g q = elim (ℕ-discrete i j) [
+  | yes m ↦ m
+  | no m ↦ absurd (pairs (λ x y. isFilled (slotAt s x .content) ≡ true → isFilled (slotAt s y .content) ≡ true → pageIn (slotAt s x .content) ≡ pageIn (slotAt s y .content) → ⊥)
+      (λ x y h u v w. h v u (sym w)) 64
+      (λ x y c d u v w.
+      let k = all-each (λ other. not (isFilled (slotAt s x .content) && hasPage (pageIn (slotAt s x .content)) (slotAt s other .content))) x y
+      (all-each (λ slot. allBelow slot (λ other. not (isFilled (slotAt s slot .content) && hasPage (pageIn (slotAt s slot .content)) (slotAt s other .content)))) 64 x e c) d in
+      true-false (sym (both-true u (has-page (slotAt s x .content) (slotAt s y .content) v w)) ∙ not-true (isFilled (slotAt s x .content) && hasPage (pageIn (slotAt s x .content)) (slotAt s y .content)) k))
+      i j a b m f g q)
+]
+
+pins-facts : (s : State) (i : ℕ) → soundPins s i ≡ true → (r q : ℕ) → r < 32 → q < 32 → (r ≡ q → ⊥) → conflict (holdingAt s i r .pin) (holdingAt s i q .pin) ≡ false
+unfolding soundPins
+pins-facts s i e r q a b m =
+    pairs (λ x y. conflict (holdingAt s i x .pin) (holdingAt s i y .pin) ≡ false)
+    (λ x y h. conflict-sym (holdingAt s i y .pin) (holdingAt s i x .pin) ∙ h) 32
+    (λ x y c d. not-true (conflict (holdingAt s i x .pin) (holdingAt s i y .pin)) (all-each (λ other. not (conflict (holdingAt s i x .pin) (holdingAt s i other .pin))) x y
+    (all-each (λ row. allBelow row (λ other. not (conflict (holdingAt s i row .pin) (holdingAt s i other .pin)))) 32 x e c) d))
+    r q a b m
+
+pub facts : (s : State) → sound s ≡ true → Sound s
+unfolding sound soundNumbers soundRow
+facts s e = record {
+  sized = record {
+    rows = eqb-true (length (s .rows)) 32 (search parts depth 20);
+    slots = eqb-true (length (s .slots)) 64 (search parts depth 20);
+    holdings = eqb-true (length (s .holdings)) 2048 (search parts depth 20);
+  };
+  size-least = leb-true 1 (s .size) (search parts depth 20);
+  size-most = leb-true (s .size) 64 (search parts depth 20);
+  delay-least = leb-true 1 (s .delay) (search parts depth 20);
+  delay-most = leb-true (s .delay) 255 (search parts depth 20);
+  clock-most = leb-true (s .clock) lastClock (search parts depth 20);
+  slot = λ i b. slot-facts s i (all-each (soundSlot s) 64 i (search parts depth 20) b);
+  one-slot = pages-facts s (search parts depth 20);
+  row = λ q b. row-facts s q (rowAt s q .condition) (rowAt s q .deadline) (all-each (soundRow s) 32 q (search parts depth 20) b);
+  held = λ i q a b. held-facts s i q (all-each (soundHolding s i) 32 q (all-each (λ slot. allBelow 32 (soundHolding s slot)) 64 i (search parts depth 20) a) b);
+  unheld = λ i q a b. unheld-facts s i q (all-each (soundHolding s i) 32 q (all-each (λ slot. allBelow 32 (soundHolding s slot)) 64 i (search parts depth 20) a) b);
+  no-conflict = λ i q o a. pins-facts s i (all-each (soundPins s) 64 i (search parts depth 20) a) q o;
+}
