@@ -1,0 +1,112 @@
+-- The slot that has a page, and the holdings on it, in a sound state and after each change.
+use mathlib.Core.Path.{_≡_, refl, sym, _∙_, ap}
+use mathlib.Core.Bool.{Bool, true, false, cond, _&&_, _||_, not}
+use Prim.Native.Nat.{ℕ, _+_, _*_, _<_, _≤_}
+use native.Mathlib.Omega.{arith}
+use native.Mathlib.Decide.{ℕ-discrete}
+use borrow.Author.Tests.{eqb-true, eq-eqb, ne-eqb}
+use lib.Dec.{leb, eqb}
+use Rattle.seq.specs.Below.{pickBelow, atFound}
+use Rattle.seq.specs.declared.Found.{Found}
+use Rattle.seq.specs.declared.Found.the-variants.{At, Nowhere}
+use Rattle.seq.proofs.Tests.{true-false, not-true-false}
+use Rattle.seq.proofs.PickLaws.{pick-is, pick-none, pick-some, none-pick, pick-same, at-nowhere, at-same}
+use Rattle.model.specs.declared.Cause.{Cause}
+use Rattle.model.specs.declared.Content.{Content}
+use Rattle.model.specs.declared.Content.the-variants.{Empty, Filled}
+use Rattle.model.specs.declared.Holding.{Holding}
+use Rattle.model.specs.declared.Slot.{Slot}
+use Rattle.model.specs.declared.State.{State}
+use Rattle.model.specs.State.{emptySlot, emptyHolding, rowAt, slotAt, holdingAt, putRow, putSlot, putHolding}
+use Rattle.model.specs.Words.{isFilled, pageIn, hasPage, holds, slotOf}
+use Rattle.model.specs.Changes.{dirtied, dirtiedContent, released, killed, cleared}
+use Rattle.model.proofs.StateLaws.{Sized, holding-put, slot-put}
+use Rattle.model.proofs.ChangeLaws.{wroteSlot, released-holding, released-slot, killed-holding, killed-slot, cleared-holding}
+use Rattle.rules.proofs.SoundFacts.{Sound, SlotSound}
+use Rattle.rules.proofs.Alike.{holdingOn}
+
+-- a slot has a page if it is filled with it
+pub has-page : (page : ℕ) (c : Content) → isFilled c ≡ true → pageIn c ≡ page → hasPage page c ≡ true
+has-page page Empty f e = true-false (sym f)
+has-page page (Filled p arrival dirty lowest) f e = eq-eqb p page e
+
+pub page-has : (page : ℕ) (c : Content) → hasPage page c ≡ true → (isFilled c ≡ true) × (pageIn c ≡ page)
+page-has page Empty e = true-false (sym e)
+page-has page (Filled p arrival dirty lowest) e = (refl, eqb-true p page e)
+
+-- what the search found
+pub found-slot : (s : State) (page i : ℕ) → slotOf s page ≡ At i → (i < s .size) × (isFilled (slotAt s i .content) ≡ true) × (pageIn (slotAt s i .content) ≡ page)
+unfolding slotOf
+found-slot s page i e =
+    let h = pick-is (λ slot. hasPage page (slotAt s slot .content)) (λ x y. false) (s .size) i e in
+    let k = page-has page (slotAt s i .content) (h .1) in
+    (h .0, k .0, k .1)
+
+pub not-found : (s : State) (page i : ℕ) → slotOf s page ≡ Nowhere → i < s .size → hasPage page (slotAt s i .content) ≡ false
+unfolding slotOf
+not-found s page i e h = pick-none (λ slot. hasPage page (slotAt s slot .content)) (λ x y. false) (s .size) i e h
+
+-- in a sound state the search finds the slot that has the page
+pub finds : (s : State) (z : Sound s) (page i : ℕ) → i < 64 → isFilled (slotAt s i .content) ≡ true → pageIn (slotAt s i .content) ≡ page → slotOf s page ≡ At i
+finds s z page i b f e = go (slotOf s page) refl
+  where
+    go : (x : Found) → slotOf s page ≡ x → slotOf s page ≡ At i
+    go Nowhere q = true-false (sym (has-page page (slotAt s i .content) f e) ∙ not-found s page i q (z .slot i b .started f))
+    go (At j) q =
+        let k = found-slot s page j q in
+        q ∙ ap At (z .one-slot j i (omega (arith, k .0, z .size-most)) b (k .1) f (k .2 ∙ sym e))
+
+-- two states with the same pages in their slots
+pub same-slot : (s t : State) (page : ℕ) → s .size ≡ t .size
+    → ((i : ℕ) → i < s .size → hasPage page (slotAt s i .content) ≡ hasPage page (slotAt t i .content)) → slotOf s page ≡ slotOf t page
+unfolding slotOf
+same-slot s t page n f =
+    pick-same (λ slot. hasPage page (slotAt s slot .content)) (λ slot. hasPage page (slotAt t slot .content)) (λ x y. false) (λ x y. false) (s .size) f (λ i j h k p q. refl)
+    ∙ ap (λ (m : ℕ). pickBelow m (λ slot. hasPage page (slotAt t slot .content)) (λ x y. false)) n
+
+dirtied-page : (page : ℕ) (b : Bool) (x : Slot) → hasPage page (cond b (dirtied x) x .content) ≡ hasPage page (x .content)
+unfolding dirtied
+dirtied-page page false x = refl
+dirtied-page page true x = go (x .content)
+  where
+    go : (c : Content) → hasPage page (dirtiedContent c) ≡ hasPage page c
+    go Empty = refl
+    go (Filled p arrival dirty lowest) = refl
+
+module _ (some : ℕ → Bool) (s : State) (z : Sized s) (most : s .size ≤ 64) where
+  pub killed-slot-of : (cause : Cause) (page : ℕ) → slotOf (killed some cause s) page ≡ slotOf s page
+  unfolding killed released
+  killed-slot-of cause page =
+      same-slot (killed some cause s) s page refl
+      (λ i h. ap (λ (x : Slot). hasPage page (x .content)) (killed-slot some s z cause i (omega arith)) ∙ dirtied-page page (wroteSlot some s i) (slotAt s i))
+
+  -- a kill takes the holdings of the killed rows and no others
+  pub killed-on : (cause : Cause) (page row : ℕ) → row < 32 → holdingOn (killed some cause s) page row ≡ cond (some row) emptyHolding (holdingOn s page row)
+  unfolding holdingOn
+  killed-on cause page row h = ap (λ (f : Found). atFound f (λ slot. holdingAt (killed some cause s) slot row) emptyHolding) (killed-slot-of cause page) ∙ go (slotOf s page)
+    where
+      go : (f : Found) → atFound f (λ slot. holdingAt (killed some cause s) slot row) emptyHolding ≡ cond (some row) emptyHolding (atFound f (λ slot. holdingAt s slot row) emptyHolding)
+      go Nowhere = last (some row)
+        where
+          last : (b : Bool) → emptyHolding ≡ cond b emptyHolding emptyHolding
+          last true = refl
+          last false = refl
+      go (At i) = killed-holding some s z cause i row h
+
+  pub released-slot-of : (page : ℕ) → slotOf (released some s) page ≡ slotOf s page
+  unfolding released
+  released-slot-of page =
+      same-slot (released some s) s page refl
+      (λ i h. ap (λ (x : Slot). hasPage page (x .content)) (released-slot some s z i (omega arith)) ∙ dirtied-page page (wroteSlot some s i) (slotAt s i))
+
+  pub released-on : (page row : ℕ) → row < 32 → holdingOn (released some s) page row ≡ cond (some row) emptyHolding (holdingOn s page row)
+  unfolding holdingOn
+  released-on page row h = ap (λ (f : Found). atFound f (λ slot. holdingAt (released some s) slot row) emptyHolding) (released-slot-of page) ∙ go (slotOf s page)
+    where
+      go : (f : Found) → atFound f (λ slot. holdingAt (released some s) slot row) emptyHolding ≡ cond (some row) emptyHolding (atFound f (λ slot. holdingAt s slot row) emptyHolding)
+      go Nowhere = last (some row)
+        where
+          last : (b : Bool) → emptyHolding ≡ cond b emptyHolding emptyHolding
+          last true = refl
+          last false = refl
+      go (At i) = released-holding some s z i row h
