@@ -6,7 +6,7 @@ use Rattle.seq.specs.Below.{anyBelow}
 use Rattle.seq.proofs.BelowLaws.{any-turn}
 use Rattle.model.proofs.Ranges.{state-ok}
 use Rattle.model.proofs.Releasing.{releasing, releasing-none, releasing-holding, releasing-slot, releasing-all}
-use Rattle.model.specs.State.{holdingAt}
+use Rattle.model.specs.State.{slotAt, holdingAt}
 use Rattle.model.specs.Changes.{marked, written, dirtied, released}
 use native.Mathlib.Omega.{arith}
 use borrow.Author.Needs.{needs}
@@ -125,7 +125,9 @@ loop-again c =
     let e : c .before .before .before .loop2 .r ≡ 32 = omega arith in (
       omega arith,
       releasing-slot (marked (c .before .before .before .before .before .before .args .t2)) (c .before .before .before .before .before .before .args .t1) (state-ok (c .before .before .before .before .before .before .args .t1) _ (c .before .before .before .before .before .before .good .0) .sized) (c .before .before .before .before .before .loop .i) (c .before .before .before .loop2 .r) (c .before .before .before .loop2 .n) (c .marked-slot .result) (omega arith) e (c .before .before .before .loop2 .inv .2)
-          (c .marked-slot .ensures ∙ rw (c .before .before .before .loop2 .inv .1, e)),
+          (c .marked-slot .ensures
+          ∙ ap (λ (wrote : Bool). cond wrote (dirtied (slotAt (c .before .before .before .before .before .before .args .t1) (c .before .before .before .before .before .loop .i))) (slotAt (c .before .before .before .before .before .before .args .t1) (c .before .before .before .before .before .loop .i)))
+          (c .before .before .before .loop2 .inv .1 ∙ ap (λ (n : ℕ). anyBelow n (λ q. marked (c .before .before .before .before .before .before .args .t2) q && written (c .before .before .before .before .before .before .args .t1 .clock) (holdingAt (c .before .before .before .before .before .before .args .t1) (c .before .before .before .before .before .loop .i) q))) e)),
     )
 
 -- src/lib.rt:387:1
