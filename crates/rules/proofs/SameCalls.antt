@@ -1,28 +1,23 @@
 -- Begin, end, tick, look, view and count on two states alike for L, by a level up to L: the same answer, and alike states.
 use mathlib.Core.Path.{_≡_, refl, sym, _∙_, ap}
-use mathlib.Core.Bool.{Bool, true, false, cond, _&&_, _||_, not}
-use Prim.Native.Nat.{ℕ, zero, suc, _+_, _*_, _<_, _≤_}
+use mathlib.Core.Bool.{Bool, true, false, _&&_}
+use Prim.Native.Nat.{ℕ, _+_, _<_, _≤_}
 use native.Mathlib.Omega.{arith}
 use borrow.Author.Tests.{leb-true, ne-eqb}
-use lib.Dec.{leb, ltb, eqb}
-use lib.ListN.{length}
+use lib.Dec.{leb, eqb}
 use Rattle.seq.specs.Below.{countBelow}
-use Rattle.seq.specs.Each.{each}
 use Rattle.seq.specs.declared.Found.{Found}
 use Rattle.seq.specs.declared.Found.the-variants.{At, Nowhere}
-use Rattle.seq.proofs.Tests.{true-false}
 use Rattle.seq.proofs.BelowLaws.{none-any}
 use Rattle.seq.proofs.EachLaws.{each-at, each-length}
-use Rattle.seq.proofs.PickedLaws.{and-same}
-use Rattle.model.specs.declared.Answer.the-variants.{Begun, Ended, Clock, Open, PageUnseen}
+use Rattle.model.specs.declared.Answer.the-variants.{Begun, Ended, Clock, Open}
 use Rattle.model.specs.declared.Cause.the-variants.{Late}
 use Rattle.model.specs.declared.Condition.the-variants.{Idle}
-use Rattle.model.specs.declared.Pin.the-variants.{Absent}
 use Rattle.model.specs.declared.Row.{Row}
 use Rattle.model.specs.declared.State.{State}
-use Rattle.model.specs.Parties.{rowOf, levelOf, isPast}
+use Rattle.model.specs.Parties.{rowOf, levelOf}
 use Rattle.model.specs.State.{freeRow, emptyHolding, rowAt, holdingAt, putRow}
-use Rattle.model.specs.Words.{isHeld, isLive, holds, seenHolder, seen, isOpen, dormant, seesDormant, strongestPin, leastArrival, slotOf}
+use Rattle.model.specs.Words.{holds, seenHolder, seen, isOpen, seesDormant, slotOf}
 use Rattle.model.specs.Changes.{released}
 use Rattle.model.proofs.StateLaws.{Sized}
 use Rattle.model.proofs.ChangeLaws.{sized-released}
@@ -31,7 +26,7 @@ use Rattle.rules.specs.Calls.{begun, ended, deliveredRow, deliveredRows,
 use Rattle.rules.specs.Refusals.{beginRefusal, endRefusal, tickRefusal, lookRefusal, viewRefusal, countRefusal}
 use Rattle.rules.proofs.SoundFacts.{Sound}
 use Rattle.rules.proofs.Alike.{holdingOn, Alike}
-use Rattle.rules.proofs.SamePages.{on-slot, same-seen, same-strongest, same-least}
+use Rattle.rules.proofs.SamePages.{same-seen, same-strongest, same-least}
 use Rattle.rules.proofs.SameChanges.{Same, same-unless, same-put-row, same-killed, same-released}
 use Rattle.rules.proofs.SameRefusals.{same-tick-refusal, own-row, same-begin-refusal, same-end-refusal, begin-passed, end-passed, look-passed}
 
@@ -97,12 +92,13 @@ module _ (L : ℕ) (s t : State) (y : Sound s) (z : Sound t) (alike : Alike L s 
       (record { state = lateKilled (deliveredRows (advanced t)); answer = Clock (t .clock + 1) })
       alike (same-tick-refusal L s t alike)
       (λ e.
-      let d = same-delivered L s t (y .sized) (z .sized) alike in
-      (rw (alike .clock),
-      same-killed L (deliveredRows (advanced s)) (deliveredRows (advanced t)) (sized-delivered s (y .sized)) (sized-delivered t (z .sized)) d
-      (delivered-most s (y .size-most)) (delivered-most t (z .size-most))
-      (isLate (deliveredRows (advanced s))) (isLate (deliveredRows (advanced t)))
-      (same-late L (deliveredRows (advanced s)) (deliveredRows (advanced t)) d) Late))
+      let d = same-delivered L s t (y .sized) (z .sized) alike in (
+        rw (alike .clock),
+        same-killed L (deliveredRows (advanced s)) (deliveredRows (advanced t)) (sized-delivered s (y .sized)) (sized-delivered t (z .sized)) d
+            (delivered-most s (y .size-most)) (delivered-most t (z .size-most))
+            (isLate (deliveredRows (advanced s))) (isLate (deliveredRows (advanced t)))
+            (same-late L (deliveredRows (advanced s)) (deliveredRows (advanced t)) d) Late,
+      ))
 
   module _ (two : L ≤ 2) (level : ℕ) (low : level ≤ L) where
     pub same-begun : (number deadline : ℕ) → Same L (begun s level number deadline) (begun t level number deadline)
@@ -123,10 +119,12 @@ module _ (L : ℕ) (s t : State) (y : Sound s) (z : Sound t) (alike : Alike L s 
         (record { state = putRow (released own s) (rowOf level number) freeRow; answer = Ended })
         (record { state = putRow (released own t) (rowOf level number) freeRow; answer = Ended })
         alike (same-end-refusal L s t alike two level number low)
-        (λ e. (refl,
-        same-put-row L (released own s) (released own t) (sized-released own s (y .sized)) (sized-released own t (z .sized))
-        (same-released L s t (y .sized) (z .sized) alike (y .size-most) (z .size-most) own own (λ r h l. refl))
-        (rowOf level number) freeRow freeRow (omega (arith, end-passed s level number e)) refl))
+        (λ e. (
+          refl,
+          same-put-row L (released own s) (released own t) (sized-released own s (y .sized)) (sized-released own t (z .sized))
+              (same-released L s t (y .sized) (z .sized) alike (y .size-most) (z .size-most) own own (λ r h l. refl))
+              (rowOf level number) freeRow freeRow (omega (arith, end-passed s level number e)) refl,
+        ))
 
     pub same-looked : (number : ℕ) → Same L (lookedAt s level number) (lookedAt t level number)
     unfolding lookedAt
@@ -142,8 +140,13 @@ module _ (L : ℕ) (s t : State) (y : Sound s) (z : Sound t) (alike : Alike L s 
       where
         both : (i j : ℕ) → slotOf s page ≡ At i → slotOf t page ≡ At j → viewedIn (At i) s level ≡ viewedIn (At j) t level
         both i j at-s at-t =
-            rw (same-seen L s t alike page i j at-s at-t level low, same-strongest L s t alike page i j at-s at-t level low, same-least L s t alike page i j at-s at-t level low,
-            no-dormant s level i (omega arith), no-dormant t level j (omega arith))
+            rw (
+              same-seen L s t alike page i j at-s at-t level low,
+              same-strongest L s t alike page i j at-s at-t level low,
+              same-least L s t alike page i j at-s at-t level low,
+              no-dormant s level i (omega arith),
+              no-dormant t level j (omega arith),
+            )
 
         go : (f g : Found) → slotOf s page ≡ f → slotOf t page ≡ g → viewedIn (slotOf s page) s level ≡ viewedIn (slotOf t page) t level
         go Nowhere Nowhere p q = rw (p, q)

@@ -1,31 +1,28 @@
 -- States alike for L stay so under the same change: a row put, rows killed or released, a page granted.
-use mathlib.Core.Path.{_≡_, refl, sym, _∙_, ap}
-use mathlib.Core.Bool.{Bool, true, false, cond, _&&_, _||_, not}
-use Prim.Native.Nat.{ℕ, zero, suc, _+_, _<_, _≤_}
-use native.Mathlib.Omega.{arith}
-use lib.Dec.{leb, eqb}
-use Rattle.seq.specs.declared.Found.the-variants.{At, Nowhere}
-use Rattle.model.specs.declared.Answer.{Answer}
-use Rattle.model.specs.declared.Answer.the-variants.{Ready, Fetch, Refused, Wait}
+use mathlib.Core.Path.{_≡_, refl, sym, _∙_}
+use mathlib.Core.Bool.{Bool, true, false, cond}
+use Prim.Native.Nat.{ℕ, zero, suc, _<_, _≤_}
+use lib.Dec.{leb}
+use Rattle.seq.specs.declared.Found.the-variants.{At}
+use Rattle.model.specs.declared.Answer.the-variants.{Ready, Fetch}
 use Rattle.model.specs.declared.Back.{Back}
 use Rattle.model.specs.declared.Cause.{Cause}
 use Rattle.model.specs.declared.Condition.the-variants.{Waiting}
-use Rattle.model.specs.declared.Holding.{Holding}
 use Rattle.model.specs.declared.Mode.{Mode}
 use Rattle.model.specs.declared.Outcome.{Outcome}
 use Rattle.model.specs.declared.Row.{Row}
 use Rattle.model.specs.declared.State.{State}
 use Rattle.model.specs.Parties.{levelOf}
-use Rattle.model.specs.State.{emptyHolding, rowAt, holdingAt, putRow}
-use Rattle.model.specs.Words.{isHeld, pinOf, slotOf}
-use Rattle.model.specs.Changes.{released, killed, killedRow}
+use Rattle.model.specs.State.{rowAt, putRow}
+use Rattle.model.specs.Words.{slotOf}
+use Rattle.model.specs.Changes.{released, killed}
 use Rattle.model.proofs.StateLaws.{Sized, row-put}
 use Rattle.model.proofs.ChangeLaws.{killed-row}
 use Rattle.rules.specs.Answers.{word, value, told}
-use Rattle.rules.specs.Calls.{unless, waiting, heldWith, granted}
+use Rattle.rules.specs.Calls.{unless, waiting, granted}
 use Rattle.rules.proofs.Alike.{holdingOn, Alike}
 use Rattle.rules.proofs.PageLaws.{killed-on, released-on}
-use Rattle.rules.proofs.GrantLaws.{grantedHolding, grantedRow, granted-row, granted-on, granted-size, granted-delay, granted-clock}
+use Rattle.rules.proofs.GrantLaws.{granted-row, granted-on, granted-size, granted-delay, granted-clock}
 use Rattle.rules.proofs.SamePages.{same-holding}
 
 -- two outcomes that L cannot tell apart
@@ -74,8 +71,13 @@ module _ (L : ℕ) (s t : State) (y : Sized s) (z : Sized t) (alike : Alike L s 
       row = λ r k m.
           rw (granted-row s y me i h bi mode arrival back r, granted-row t z me j h bj mode arrival back′ r, alike .clock, alike .row me h l, alike .row r k m);
       holding = λ other r k m.
-          rw (granted-on s y me i page h bi at-s mode arrival back other r k, granted-on t z me j page h bj at-t mode arrival back′ other r k,
-          alike .holding other r k m, same-holding L s t alike page i j at-s at-t me h l, alike .clock);
+          rw (
+            granted-on s y me i page h bi at-s mode arrival back other r k,
+            granted-on t z me j page h bj at-t mode arrival back′ other r k,
+            alike .holding other r k m,
+            same-holding L s t alike page i j at-s at-t me h l,
+            alike .clock,
+          );
     },
   )
 

@@ -1,23 +1,20 @@
 -- Two states alike for L: what the rows up to L have on a page, and what a level up to L sees of it.
-use mathlib.Core.Path.{_≡_, refl, sym, _∙_, ap}
-use mathlib.Core.Bool.{Bool, true, false, cond, _&&_, _||_, not}
+use mathlib.Core.Path.{_≡_, refl, sym, _∙_}
+use mathlib.Core.Bool.{Bool, true, false, _&&_}
 use Prim.Native.Nat.{ℕ, _<_, _≤_}
 use native.Mathlib.Omega.{arith}
 use borrow.Author.Tests.{leb-true}
-use lib.Dec.{leb, ltb, eqb}
-use Rattle.seq.specs.Below.{anyBelow, pickBelow, atFound}
+use lib.Dec.{leb, ltb}
 use Rattle.seq.specs.declared.Found.{Found}
 use Rattle.seq.specs.declared.Found.the-variants.{At, Nowhere}
 use Rattle.seq.proofs.Tests.{true-false, and-left}
 use Rattle.seq.proofs.BelowLaws.{any-same}
 use Rattle.seq.proofs.PickedLaws.{and-same, picked-same}
 use Rattle.model.specs.declared.Mode.{Mode}
-use Rattle.model.specs.declared.Holding.{Holding}
-use Rattle.model.specs.declared.Pin.{Pin}
 use Rattle.model.specs.declared.Pin.the-variants.{Absent}
 use Rattle.model.specs.declared.State.{State}
 use Rattle.model.specs.Parties.{levelOf}
-use Rattle.model.specs.State.{emptyHolding, rowAt, holdingAt}
+use Rattle.model.specs.State.{holdingAt}
 use Rattle.model.specs.Words.{isHeld, holds, strength, seenHolder, seen, outranks, strongestPin, leastArrival, slotOf}
 use Rattle.rules.specs.Calls.{conflicts, mustWait}
 use Rattle.rules.proofs.Alike.{holdingOn, Alike}
@@ -49,9 +46,6 @@ module _ (L : ℕ) (s t : State) (alike : Alike L s t) where
     same-conflicts me mode r h l = rw (same-holding r h l)
 
     module _ (level : ℕ) (up : level ≤ L) where
-      low : (r : ℕ) (b : Bool) → leb (levelOf r) level && b ≡ true → levelOf r ≤ L
-      low r b e = omega (arith, leb-true (levelOf r) level (and-left (leb (levelOf r) level) b e))
-
       same-holder : (r : ℕ) → r < 32 → seenHolder s level i r ≡ seenHolder t level j r
       unfolding seenHolder
       same-holder r h = and-same (leb (levelOf r) level) (holds s i r) (holds t j r)
@@ -63,7 +57,7 @@ module _ (L : ℕ) (s t : State) (alike : Alike L s t) where
 
       seen-holding : (r : ℕ) → r < 32 → seenHolder s level i r ≡ true → holdingAt s i r ≡ holdingAt t j r
       unfolding seenHolder
-      seen-holding r h e = same-holding r h (low r (holds s i r) e)
+      seen-holding r h e = same-holding r h (omega (arith, leb-true (levelOf r) level (and-left (leb (levelOf r) level) (holds s i r) e)))
 
       pub same-strongest : strongestPin s level i ≡ strongestPin t level j
       unfolding strongestPin

@@ -1,11 +1,11 @@
 -- Unpin on two states alike for L, by a level up to L.
 use mathlib.Core.Path.{_≡_, refl, sym, _∙_, ap}
-use mathlib.Core.Bool.{Bool, true, false, cond, _&&_, _||_, not}
-use Prim.Native.Nat.{ℕ, _+_, _*_, _<_, _≤_}
+use mathlib.Core.Bool.{Bool, true, false, cond, _&&_}
+use Prim.Native.Nat.{ℕ, _<_, _≤_}
 use native.Mathlib.Omega.{arith}
 use native.Mathlib.Decide.{ℕ-discrete}
-use borrow.Author.Tests.{eqb-true, eq-eqb, ne-eqb}
-use lib.Dec.{leb, eqb}
+use borrow.Author.Tests.{eq-eqb, ne-eqb}
+use lib.Dec.{eqb}
 use Rattle.seq.specs.Below.{atFound}
 use Rattle.seq.specs.declared.Found.{Found}
 use Rattle.seq.specs.declared.Found.the-variants.{At, Nowhere}
@@ -19,7 +19,7 @@ use Rattle.model.specs.declared.Pin.the-variants as Pin
 use Rattle.model.specs.declared.Slot.{Slot}
 use Rattle.model.specs.declared.State.{State}
 use Rattle.model.specs.Parties.{rowOf, levelOf}
-use Rattle.model.specs.State.{emptyHolding, rowAt, slotAt, holdingAt, putSlot, putHolding}
+use Rattle.model.specs.State.{emptyHolding, slotAt, holdingAt}
 use Rattle.model.specs.Words.{pageIn, hasPage, isHeld, isPin, slotOf}
 use Rattle.model.specs.Changes.{written, dirtied, dirtiedContent}
 use Rattle.model.proofs.StateLaws.{Sized, slot-put, holding-put}
@@ -28,7 +28,7 @@ use Rattle.rules.specs.Refusals.{pinsPage, unpinRefusal}
 use Rattle.rules.proofs.SoundFacts.{Sound}
 use Rattle.rules.proofs.Alike.{holdingOn, Alike}
 use Rattle.rules.proofs.PageLaws.{found-slot, same-slot}
-use Rattle.rules.proofs.SamePages.{held-found, on-slot, same-holding}
+use Rattle.rules.proofs.SamePages.{held-found, same-holding}
 use Rattle.rules.proofs.SameChanges.{Same, same-unless}
 use Rattle.rules.proofs.SameRefusals.{pins-on, same-unpin-refusal, unpin-passed}
 
@@ -91,8 +91,12 @@ same-unpinned-at L s t y z alike row page i j r l at-s at-t =
       clock = alike .clock;
       row = alike .row;
       holding = λ other q h m.
-          rw (unpinned-on s (y .sized) row i r bi page at-s other q h, unpinned-on t (z .sized) row j r bj page at-t other q h,
-          alike .holding other q h m, same-holding L s t alike page i j at-s at-t row r l);
+          rw (
+            unpinned-on s (y .sized) row i r bi page at-s other q h,
+            unpinned-on t (z .sized) row j r bj page at-t other q h,
+            alike .holding other q h m,
+            same-holding L s t alike page i j at-s at-t row r l,
+          );
     }
 
 pin-held : (p : Pin) → isPin p ≡ true → isHeld p ≡ true

@@ -1,5 +1,5 @@
 -- Tests and searches that agree on what passes.
-use mathlib.Core.Path.{_≡_, refl, sym, _∙_, ap}
+use mathlib.Core.Path.{_≡_, refl, _∙_, ap}
 use mathlib.Core.Bool.{Bool, true, false, _&&_}
 use Prim.Native.Nat.{ℕ, _<_}
 use Rattle.seq.specs.Below.{pickBelow, atFound}
