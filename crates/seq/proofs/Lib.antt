@@ -3,3 +3,4 @@ pub mod BelowLaws
 pub mod PickLaws
 pub mod EachLaws
 pub mod OrderLaws
+pub mod PickedLaws

@@ -1,0 +1,93 @@
+-- Two states alike for L: what the rows up to L have on a page, and what a level up to L sees of it.
+use mathlib.Core.Path.{_≡_, refl, sym, _∙_}
+use mathlib.Core.Bool.{Bool, true, false, _&&_}
+use Prim.Native.Nat.{ℕ, _<_, _≤_}
+use native.Mathlib.Omega.{arith}
+use borrow.Author.Tests.{leb-true}
+use lib.Dec.{leb, ltb}
+use Rattle.seq.specs.declared.Found.{Found}
+use Rattle.seq.specs.declared.Found.the-variants.{At, Nowhere}
+use Rattle.seq.proofs.Tests.{true-false, and-left}
+use Rattle.seq.proofs.BelowLaws.{any-same}
+use Rattle.seq.proofs.PickedLaws.{and-same, picked-same}
+use Rattle.model.specs.declared.Mode.{Mode}
+use Rattle.model.specs.declared.Pin.the-variants.{Absent}
+use Rattle.model.specs.declared.State.{State}
+use Rattle.model.specs.Parties.{levelOf}
+use Rattle.model.specs.State.{holdingAt}
+use Rattle.model.specs.Words.{isHeld, holds, strength, seenHolder, seen, outranks, strongestPin, leastArrival, slotOf}
+use Rattle.rules.specs.Calls.{conflicts, mustWait}
+use Rattle.rules.proofs.Alike.{holdingOn, Alike}
+
+-- a page that a row holds is in a slot
+pub held-found : (s : State) (page r : ℕ) → isHeld (holdingOn s page r .pin) ≡ true → (i : ℕ) × (slotOf s page ≡ At i)
+unfolding holdingOn
+held-found s page r h = go (slotOf s page) refl
+  where
+    go : (f : Found) → slotOf s page ≡ f → (i : ℕ) × (slotOf s page ≡ At i)
+    go Nowhere e = true-false (sym (rw e at h))
+    go (At i) e = (i, e)
+
+pub on-slot : (s : State) (page i r : ℕ) → slotOf s page ≡ At i → holdingOn s page r ≡ holdingAt s i r
+unfolding holdingOn
+on-slot s page i r e = rw e
+
+module _ (L : ℕ) (s t : State) (alike : Alike L s t) where
+  pub same-rank : (r q : ℕ) → r < 32 → q < 32 → levelOf r ≤ L → levelOf q ≤ L → outranks s r q ≡ outranks t r q
+  unfolding outranks
+  same-rank r q h k l m = rw (alike .row r h l, alike .row q k m)
+
+  module _ (page i j : ℕ) (at-s : slotOf s page ≡ At i) (at-t : slotOf t page ≡ At j) where
+    pub same-holding : (r : ℕ) → r < 32 → levelOf r ≤ L → holdingAt s i r ≡ holdingAt t j r
+    same-holding r h l = sym (on-slot s page i r at-s) ∙ alike .holding page r h l ∙ on-slot t page j r at-t
+
+    pub same-conflicts : (me : ℕ) (mode : Mode) (r : ℕ) → r < 32 → levelOf r ≤ L → conflicts s me i mode r ≡ conflicts t me j mode r
+    unfolding conflicts
+    same-conflicts me mode r h l = rw (same-holding r h l)
+
+    module _ (level : ℕ) (up : level ≤ L) where
+      same-holder : (r : ℕ) → r < 32 → seenHolder s level i r ≡ seenHolder t level j r
+      unfolding seenHolder
+      same-holder r h = and-same (leb (levelOf r) level) (holds s i r) (holds t j r)
+          (λ e. rw (same-holding r h (omega (arith, leb-true (levelOf r) level e))))
+
+      pub same-seen : seen s level i ≡ seen t level j
+      unfolding seen
+      same-seen = any-same (seenHolder s level i) (seenHolder t level j) 32 same-holder
+
+      seen-holding : (r : ℕ) → r < 32 → seenHolder s level i r ≡ true → holdingAt s i r ≡ holdingAt t j r
+      unfolding seenHolder
+      seen-holding r h e = same-holding r h (omega (arith, leb-true (levelOf r) level (and-left (leb (levelOf r) level) (holds s i r) e)))
+
+      pub same-strongest : strongestPin s level i ≡ strongestPin t level j
+      unfolding strongestPin
+      same-strongest =
+          picked-same (seenHolder s level i) (seenHolder t level j)
+          (λ r q. ltb (strength (holdingAt s i q .pin)) (strength (holdingAt s i r .pin)))
+          (λ r q. ltb (strength (holdingAt t j q .pin)) (strength (holdingAt t j r .pin)))
+          (λ r. holdingAt s i r .pin) (λ r. holdingAt t j r .pin) Absent 32 same-holder
+          (λ r q h k e f. rw (seen-holding r h e, seen-holding q k f))
+          (λ r h e. rw (seen-holding r h e))
+
+      pub same-least : leastArrival s level i ≡ leastArrival t level j
+      unfolding leastArrival
+      same-least =
+          picked-same (seenHolder s level i) (seenHolder t level j)
+          (λ r q. ltb (holdingAt s i r .arrival) (holdingAt s i q .arrival))
+          (λ r q. ltb (holdingAt t j r .arrival) (holdingAt t j q .arrival))
+          (λ r. holdingAt s i r .arrival) (λ r. holdingAt t j r .arrival) 0 32 same-holder
+          (λ r q h k e f. rw (seen-holding r h e, seen-holding q k f))
+          (λ r h e. rw (seen-holding r h e))
+
+    pub same-must-wait : (me : ℕ) (mode : Mode) → me < 32 → levelOf me ≤ L → mustWait s me i mode ≡ mustWait t me j mode
+    unfolding mustWait
+    same-must-wait me mode h l =
+        any-same (λ r. leb (levelOf r) (levelOf me) && conflicts s me i mode r && outranks s r me) (λ r. leb (levelOf r) (levelOf me) && conflicts t me j mode r && outranks t r me) 32
+        (λ r k. go r k (leb (levelOf r) (levelOf me)) refl)
+      where
+        go : (r : ℕ) → r < 32 → (b : Bool) → leb (levelOf r) (levelOf me) ≡ b
+            → (leb (levelOf r) (levelOf me) && conflicts s me i mode r && outranks s r me) ≡ (leb (levelOf r) (levelOf me) && conflicts t me j mode r && outranks t r me)
+        go r k false e = rw e
+        go r k true e =
+            let m : levelOf r ≤ L = omega (arith, leb-true (levelOf r) (levelOf me) e) in
+            rw (same-conflicts me mode r k m, same-rank r me k h m l)
