@@ -31,8 +31,8 @@ use Rattle.rules.proofs.GrantLaws.{grantedHolding, grantedRow, granted-
 pub other-row : (L me r : ℕ) → L < levelOf me → levelOf r ≤ L → eqb r me ≡ false
 other-row L me r a b = ne-eqb r me (λ e. let f : levelOf r ≡ levelOf me = ap levelOf e in omega arith)
 
-module _ (L : ℕ) (s : State) (z : Sized s) (most : s .size ≤ 64) where
-  module _ (some : ℕ → Bool) (above : (r : ℕ) → r < 32 → levelOf r ≤ L → some r ≡ false) where
+module _ (L : ℕ) (s : State) (z : Sized s) where
+  module _ (most : s .size ≤ 64) (some : ℕ → Bool) (above : (r : ℕ) → r < 32 → levelOf r ≤ L → some r ≡ false) where
     pub killed-hidden : (cause : Cause) → Alike L s (killed some cause s)
     killed-hidden cause = alike-still L s (killed some cause s) (killed-size some cause s) (killed-delay some cause s) (killed-clock some cause s)
         (killed-slot-of some s z most cause)
