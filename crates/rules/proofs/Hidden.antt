@@ -61,14 +61,14 @@ module _ (L : ℕ) (s : State) (z : Sound s) (level number : ℕ) (k : leb level
   begun-hidden : (deadline : ℕ) → Alike L s (begun s level number deadline .state)
   unfolding begun beginRefusal
   begun-hidden deadline = unless-hidden L (beginRefusal s level number deadline) s _ (λ e.
-    let n = named L level number _ k e in
-    row-hidden L s (z .sized) (rowOf level number) (n .row) (n .higher) (record { condition = Idle; deadline = deadline }))
+      let n = named L level number _ k e in
+      row-hidden L s (z .sized) (rowOf level number) (n .row) (n .higher) (record { condition = Idle; deadline = deadline }))
 
   requested-hidden : (page mode : ℕ) → Alike L s (requested s level number page mode .state)
   unfolding requested requestRefusal
   requested-hidden page mode = unless-hidden L (requestRefusal s level number page mode) s _ (λ e.
-    let n = named L level number _ k e in
-    served-hidden L s z (rowOf level number) (n .row) (n .higher) page (modeOf mode))
+      let n = named L level number _ k e in
+      served-hidden L s z (rowOf level number) (n .row) (n .higher) page (modeOf mode))
 
   retried-hidden : Alike L s (retried s level number .state)
   unfolding retried retryRefusal
@@ -92,10 +92,10 @@ module _ (L : ℕ) (s : State) (z : Sound s) (level number : ℕ) (k : leb level
   ended-hidden : Alike L s (ended s level number .state)
   unfolding ended endRefusal
   ended-hidden = unless-hidden L (endRefusal s level number) s _ (λ e.
-    let n = named L level number _ k e in
-    let me = rowOf level number in
-    alike-trans (released-hidden L s (z .sized) (z .size-most) (eqb me) (λ r b l. ne-eqb me r (λ q. let w : levelOf me ≡ levelOf r = ap levelOf q in omega (arith, n .higher))))
-    (row-hidden L (released (eqb me) s) (sized-released (eqb me) s (z .sized)) me (n .row) (n .higher) freeRow))
+      let n = named L level number _ k e in
+      let me = rowOf level number in
+      alike-trans (released-hidden L s (z .sized) (z .size-most) (eqb me) (λ r b l. ne-eqb me r (λ q. let w : levelOf me ≡ levelOf r = ap levelOf q in omega (arith, n .higher))))
+      (row-hidden L (released (eqb me) s) (sized-released (eqb me) s (z .sized)) me (n .row) (n .higher) freeRow))
 
 -- a refused start, and the calls that change nothing
 pub start-still : (s : State) (slots delay : ℕ) → not (eqb (startRefusal slots delay) 0) ≡ true → started s slots delay .state ≡ s
