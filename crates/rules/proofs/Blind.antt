@@ -1,19 +1,19 @@
 -- Demand 3 over runs of states: what a clearance is told depends on its kept calls alone.
-use mathlib.Core.Path.{_≡_, refl, sym, _∙_, ap}
-use mathlib.Core.Bool.{Bool, true, false, cond, _&&_, not}
+use mathlib.Core.Path.{_≡_, refl, _∙_}
+use mathlib.Core.Bool.{true, false, not}
 use mathlib.Core.List.{List, [], _∷_}
 use Prim.Native.Nat.{ℕ, _<_, _≤_}
 use native.Mathlib.Omega.{arith}
 use native.Mathlib.Decide.{decLt}
 use borrow.Author.Tests.{leb-false, lt-ltb}
-use lib.Dec.{leb, ltb, eqb}
+use lib.Dec.{eqb}
 use Rattle.seq.proofs.Tests.{true-false, and-true}
 use Rattle.model.specs.declared.State.{State}
 use Rattle.model.specs.Parties.{levelOf}
 use Rattle.model.specs.State.{fresh, rowAt}
 use Rattle.rules.specs.Sound.{sound}
 use Rattle.rules.specs.Answers.{told}
-use Rattle.rules.specs.Refusals.{startRefusal, beginRefusal, requestRefusal, retryRefusal, unpinRefusal, endRefusal, lookRefusal, viewRefusal, countRefusal}
+use Rattle.rules.specs.Refusals.{startRefusal, beginRefusal, requestRefusal, retryRefusal, unpinRefusal, endRefusal}
 use Rattle.rules.specs.Calls.{begun, unpinned, ended, requested, retried}
 use Rattle.rules.specs.Run.{Call, start, begin, request, retry, unpin, end, tick, look, view, count, outcome, after}
 use Rattle.rules.specs.Secrecy.{isKept, keptCalls, keptAnswers, startsRefused, deliveries, isQuestion}
@@ -22,7 +22,7 @@ use Rattle.rules.proofs.AlikeLaws.{alike-refl, alike-sym, alike-trans}
 use Rattle.rules.proofs.Hidden.{hidden, start-still, looked-still, viewed-still, counted-still}
 use Rattle.rules.proofs.BlindRuns.{Blinding, two-runs}
 
--- a call that is not kept for clearance 3 is refused, or a question: it leaves the state
+-- a call that is not kept for clearance 3 is refused: it leaves the state
 unkept-still : (s : State) (c : Call) → isKept 3 c ≡ false → startsRefused (c ∷ []) ≡ true → outcome s c .state ≡ s
 unfolding outcome isKept startsRefused begun beginRefusal requested requestRefusal retried retryRefusal unpinned unpinRefusal ended endRefusal
 unkept-still s (start slots delay) k r = start-still s slots delay (and-true (not (eqb (startRefusal slots delay) 0)) true r .0)

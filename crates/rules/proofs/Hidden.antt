@@ -1,8 +1,8 @@
 -- A call that is not kept for a clearance leaves the state alike for it.
-use mathlib.Core.Path.{_≡_, refl, sym, _∙_, ap}
-use mathlib.Core.Bool.{Bool, true, false, cond, _&&_, not}
-use mathlib.Core.List.{List, [], _∷_}
-use Prim.Native.Nat.{ℕ, zero, suc, _+_, _*_, _<_, _≤_}
+use mathlib.Core.Path.{_≡_, refl, sym, ap}
+use mathlib.Core.Bool.{Bool, true, false, cond, not}
+use mathlib.Core.List.{[], _∷_}
+use Prim.Native.Nat.{ℕ, zero, suc, _<_}
 use native.Mathlib.Omega.{arith}
 use borrow.Author.Tests.{leb-false, ltb-false, ne-eqb}
 use lib.Dec.{leb, ltb, eqb}
@@ -44,9 +44,9 @@ passed true n rest e = absurd (omega arith)
 passed false n rest e = (refl, e)
 
 -- the row that an accepted call names
-pub record Named (L level number : ℕ) : Type 0 where
-  pub row : rowOf level number < 32
-  pub higher : L < levelOf (rowOf level number)
+record Named (L level number : ℕ) : Type 0 where
+  row : rowOf level number < 32
+  higher : L < levelOf (rowOf level number)
 
 named : (L level number rest : ℕ) → leb level L ≡ false → cond (ltb 3 level) 4 (cond (ltb 7 number) 5 rest) ≡ 0 → Named L level number
 named L level number rest k e =

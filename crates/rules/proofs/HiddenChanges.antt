@@ -1,7 +1,7 @@
 -- Changes of rows above a level, and of what they hold, give a state alike for the level.
 use mathlib.Core.Path.{_≡_, refl, sym, _∙_, ap}
-use mathlib.Core.Bool.{Bool, true, false, cond, _&&_}
-use Prim.Native.Nat.{ℕ, _+_, _*_, _<_, _≤_}
+use mathlib.Core.Bool.{Bool, true, false, cond}
+use Prim.Native.Nat.{ℕ, _<_, _≤_}
 use native.Mathlib.Omega.{arith}
 use borrow.Author.Tests.{ne-eqb, eqb-true}
 use lib.Dec.{eqb}
@@ -17,12 +17,12 @@ use Rattle.model.specs.declared.State.{State}
 use Rattle.model.specs.Parties.{levelOf}
 use Rattle.model.specs.State.{emptyHolding, rowAt, slotAt, holdingAt, putRow, putSlot, putHolding}
 use Rattle.model.specs.Words.{hasPage, slotOf}
-use Rattle.model.specs.Changes.{written, dirtied, released, killed}
+use Rattle.model.specs.Changes.{written, dirtied, released, killed, killedRow}
 use Rattle.model.proofs.StateLaws.{Sized, row-put, slot-put, holding-put}
 use Rattle.model.proofs.ChangeLaws.{killed-row, killed-holding, killed-clock, killed-delay, killed-size, released-holding}
 use Rattle.model.proofs.DirtyLaws.{dirtied-page}
 use Rattle.rules.specs.Calls.{granted, unpinnedAt}
-use Rattle.rules.proofs.Alike.{holdingOn, Alike}
+use Rattle.rules.proofs.Alike.{Alike}
 use Rattle.rules.proofs.AlikeLaws.{alike-still}
 use Rattle.rules.proofs.PageLaws.{same-slot, killed-slot-of, released-slot-of}
 use Rattle.rules.proofs.GrantLaws.{grantedHolding, grantedRow, granted-row, granted-holding, granted-size, granted-delay, granted-clock, granted-slot-of}
@@ -36,7 +36,7 @@ module _ (L : ℕ) (s : State) (z : Sized s) where
     pub killed-hidden : (cause : Cause) → Alike L s (killed some cause s)
     killed-hidden cause = alike-still L s (killed some cause s) (killed-size some cause s) (killed-delay some cause s) (killed-clock some cause s)
         (killed-slot-of some s z most cause)
-        (λ r b l. killed-row some s z cause r b ∙ ap (λ (x : Bool). cond x (Rattle.model.specs.Changes.killedRow cause) (rowAt s r)) (above r b l))
+        (λ r b l. killed-row some s z cause r b ∙ ap (λ (x : Bool). cond x (killedRow cause) (rowAt s r)) (above r b l))
         (λ i r b l. killed-holding some s z cause i r b ∙ ap (λ (x : Bool). cond x emptyHolding (holdingAt s i r)) (above r b l))
 
     pub released-hidden : Alike L s (released some s)

@@ -1,6 +1,6 @@
 -- The slot chosen for a row is held by no row of a level below its own.
-use mathlib.Core.Path.{_≡_, refl, sym, _∙_, ap}
-use mathlib.Core.Bool.{Bool, true, false, cond, _&&_, _||_, not}
+use mathlib.Core.Path.{_≡_, refl, sym, _∙_}
+use mathlib.Core.Bool.{Bool, true, false, _&&_, _||_, not}
 use Prim.Native.Nat.{ℕ, _<_, _≤_}
 use native.Mathlib.Omega.{arith}
 use borrow.Author.Tests.{not-true, le-leb, ne-eqb}
@@ -14,8 +14,8 @@ use Rattle.seq.proofs.PickLaws.{pick-is}
 use Rattle.model.specs.declared.State.{State}
 use Rattle.model.specs.Parties.{levelOf}
 use Rattle.model.specs.State.{slotAt}
-use Rattle.model.specs.Words.{isFilled, holds, pins, seenHolder, seen, dormant, outranks}
-use Rattle.rules.specs.Choice.{orElse, stepA, stepB, beforeDormant, heldAbove, holderLevel, highestLevel, pinnedAt, inC, inD, heldAtOwnLevel, seenPin, inE, inF, beforeHeld, stepHeld, chosen}
+use Rattle.model.specs.Words.{isFilled, holds, seenHolder, seen, dormant, outranks}
+use Rattle.rules.specs.Choice.{orElse, stepA, stepB, beforeDormant, heldAbove, inC, inD, heldAtOwnLevel, inE, inF, beforeHeld, stepHeld, chosen}
 use Rattle.rules.proofs.SoundFacts.{Sound}
 
 -- what either of two searches found

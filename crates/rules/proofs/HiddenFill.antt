@@ -1,6 +1,6 @@
 -- A slot that no row up to a level holds may take another page: the state stays alike for the level.
 use mathlib.Core.Path.{_≡_, refl, sym, _∙_, ap}
-use mathlib.Core.Bool.{Bool, true, false, cond, _&&_}
+use mathlib.Core.Bool.{Bool, true, false, cond}
 use Prim.Native.Nat.{ℕ, _+_, _<_, _≤_}
 use native.Mathlib.Omega.{arith}
 use native.Mathlib.Decide.{ℕ-discrete}
@@ -14,7 +14,7 @@ use Rattle.model.specs.declared.Content.the-variants.{Filled}
 use Rattle.model.specs.declared.Slot.{Slot}
 use Rattle.model.specs.declared.State.{State}
 use Rattle.model.specs.Parties.{levelOf}
-use Rattle.model.specs.State.{emptyHolding, rowAt, slotAt, holdingAt, putSlot}
+use Rattle.model.specs.State.{emptyHolding, slotAt, holdingAt}
 use Rattle.model.specs.Words.{hasPage, slotOf}
 use Rattle.model.specs.Changes.{cleared}
 use Rattle.model.proofs.StateLaws.{Sized, slot-put, sized-put-slot}
