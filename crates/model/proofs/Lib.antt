@@ -3,3 +3,4 @@ pub mod ChangeLaws
 pub mod Ranges
 pub mod Releasing
 pub mod PriorityLaws
+pub mod DirtyLaws
