@@ -2,3 +2,4 @@ pub mod StateLaws
 pub mod ChangeLaws
 pub mod Ranges
 pub mod Releasing
+pub mod PutLaws

@@ -101,6 +101,11 @@ pub slot-marked : (b : Bool) (x y : Slot) → y ≡ cond b (dirtied x) x → Slo
 slot-marked true x y e = rw e (slot-dirtied x)
 slot-marked false x y e = slot-same x y e
 
+pub marked-touch : (b : Bool) (x y : Slot) → y ≡ cond b (dirtied x) x → y .touch ≡ x .touch
+unfolding dirtied
+marked-touch true x y e = rw e
+marked-touch false x y e = rw e
+
 pub slot-touched : (level clock : ℕ) (x : Slot) → isFilled (x .content) ≡ true → x .touch ≤ clock
     → SlotKept x (record { content = withLowest level (x .content); touch = clock })
 slot-touched level clock x f h = go (x .content) refl

@@ -44,7 +44,7 @@ module _ (s t : State) (r : ℕ) (kept : (i : ℕ) → i < 64 → HoldingKept (h
         go true e = rw (pinned i a e)
         go false e = rw (e, unpinned-kept (holdingAt s i r) (holdingAt t i r) (kept i a) e)
 
-    awaiting-kept : (due d : ℕ) → s .clock ≤ t .clock → t .clock < d → t .clock < due → Awaiting s r due d → Awaiting t r due d
+    pub awaiting-kept : (due d : ℕ) → s .clock ≤ t .clock → t .clock < d → t .clock < due → Awaiting s r due d → Awaiting t r due d
     awaiting-kept due d c b u h = record {
       deadline = b;
       due = u;
@@ -54,12 +54,12 @@ module _ (s t : State) (r : ℕ) (kept : (i : ℕ) → i < 64 → HoldingKept (h
           omega (arith, k .arrival, h .others i a (k .held) (awaits-kept due i a ∙ v));
     }
 
+    pub condition-kept : t .clock ≡ s .clock → (x : Condition) (d : ℕ) → RowSound s r x d → RowSound t r x d
+    condition-kept c Free d h = h
+    condition-kept c (Killed cause) d h = h
+    condition-kept c Idle d h = settled-kept d d (omega arith) (omega (arith, h .deadline)) h
+    condition-kept c (Fetching due) d h = awaiting-kept due d (omega arith) (omega (arith, h .deadline)) (omega (arith, h .due)) h
+    condition-kept c (Waiting page mode) d h = (settled-kept d d (omega arith) (omega (arith, h .0 .deadline)) (h .0), h .1, h .2)
+
     pub row-kept : t .clock ≡ s .clock → rowAt t r ≡ rowAt s r → RowSound s r (rowAt s r .condition) (rowAt s r .deadline) → RowSound t r (rowAt t r .condition) (rowAt t r .deadline)
-    row-kept c e h = rw e (go (rowAt s r .condition) (rowAt s r .deadline) h)
-      where
-        go : (x : Condition) (d : ℕ) → RowSound s r x d → RowSound t r x d
-        go Free d h = h
-        go (Killed cause) d h = h
-        go Idle d h = settled-kept d d (omega arith) (omega (arith, h .deadline)) h
-        go (Fetching due) d h = awaiting-kept due d (omega arith) (omega (arith, h .deadline)) (omega (arith, h .due)) h
-        go (Waiting page mode) d h = (settled-kept d d (omega arith) (omega (arith, h .0 .deadline)) (h .0), h .1, h .2)
+    row-kept c e h = rw e (condition-kept c (rowAt s r .condition) (rowAt s r .deadline) h)
