@@ -79,8 +79,8 @@ pub record SlotKept (x y : Slot) : Type 0 where
   pub later : x .touch ≤ y .touch
   pub empty : isFilled (x .content) ≡ false → y .touch ≡ x .touch
 
-pub slot-same : (x y : Slot) → y ≡ x → SlotKept x y
-slot-same x y e = rw e (record { filled = refl; page = refl; arrival = refl; lowest = omega arith; later = omega arith; empty = λ _. refl })
+pub slot-kept : (x y : Slot) → y ≡ x → SlotKept x y
+slot-kept x y e = rw e (record { filled = refl; page = refl; arrival = refl; lowest = omega arith; later = omega arith; empty = λ _. refl })
 
 pub slot-dirtied : (x : Slot) → SlotKept x (dirtied x)
 unfolding dirtied
@@ -99,7 +99,7 @@ slot-dirtied x = record {
 
 pub slot-marked : (b : Bool) (x y : Slot) → y ≡ cond b (dirtied x) x → SlotKept x y
 slot-marked true x y e = rw e (slot-dirtied x)
-slot-marked false x y e = slot-same x y e
+slot-marked false x y e = slot-kept x y e
 
 pub marked-touch : (b : Bool) (x y : Slot) → y ≡ cond b (dirtied x) x → y .touch ≡ x .touch
 unfolding dirtied
