@@ -1,4 +1,4 @@
--- A change after which each slot has the page that it had, and each holding is the one that it was, or has gone, or has lost its pin, keeps what sound says of slots and holdings.
+-- What sound says but for the rows; and what a slot and a holding may become without harm to it.
 use mathlib.Core.Path.{_≡_, refl, sym, _∙_, ap}
 use mathlib.Core.Bool.{Bool, true, false, cond, _&&_, _||_}
 use Prim.Native.Nat.{ℕ, _+_, _<_, _≤_, min}
@@ -143,7 +143,7 @@ still-held h k (same e) w = record {
 still-held h k (gone e) w = true-false (sym (rw e at w))
 still-held h k (loose v e) w = record { held = v; arrival = rw e; touch = rw e; allowed = λ level page a. rw e }
 
-not-held : (h k : Holding) → HoldingKept h k → (isHeld (h .pin) ≡ false → h ≡ emptyHolding) → isHeld (k .pin) ≡ false → k ≡ emptyHolding
+pub not-held : (h k : Holding) → HoldingKept h k → (isHeld (h .pin) ≡ false → h ≡ emptyHolding) → isHeld (k .pin) ≡ false → k ≡ emptyHolding
 not-held h k (same e) f w = e ∙ f (rw e at w)
 not-held h k (gone e) f w = e
 not-held h k (loose v e) f w = true-false (rw e at w)
@@ -158,58 +158,10 @@ no-pin p q e = rw e (go (isPin p))
     go false = refl
 
 -- a pin that is kept conflicts with no pin that it did not conflict with
-no-conflict-kept : (h k h′ k′ : Holding) → HoldingKept h k → HoldingKept h′ k′ → conflict (h .pin) (h′ .pin) ≡ false → conflict (k .pin) (k′ .pin) ≡ false
+pub no-conflict-kept : (h k h′ k′ : Holding) → HoldingKept h k → HoldingKept h′ k′ → conflict (h .pin) (h′ .pin) ≡ false → conflict (k .pin) (k′ .pin) ≡ false
 unfolding conflict
 no-conflict-kept h k h′ k′ (gone e) m c = rw e
 no-conflict-kept h k h′ k′ (loose v e) m c = rw e
 no-conflict-kept h k h′ k′ (same e) (same f) c = rw (e, f) c
 no-conflict-kept h k h′ k′ (same e) (gone f) c = no-pin (k .pin) (k′ .pin) (rw f)
 no-conflict-kept h k h′ k′ (same e) (loose v f) c = no-pin (k .pin) (k′ .pin) (rw f)
-
-pub record Change (s t : State) : Type 0 where
-  pub sized : Sized t
-  pub size : t .size ≡ s .size
-  pub delay : t .delay ≡ s .delay
-  pub clock : s .clock ≤ t .clock
-  pub clock-most : t .clock ≤ lastClock
-  pub slot : (i : ℕ) → i < 64 → SlotKept (slotAt s i) (slotAt t i)
-  pub touch : (i : ℕ) → i < 64 → slotAt t i .touch ≤ t .clock
-  pub holding : (i r : ℕ) → i < 64 → r < 32 → HoldingKept (holdingAt s i r) (holdingAt t i r)
-  pub live : (i r : ℕ) → i < 64 → r < 32 → holds t i r ≡ true → isLive (rowAt t r .condition) ≡ true
-
-pub base-change : (s t : State) → Base s → Change s t → Base t
-base-change s t b c = record {
-  sized = c .sized;
-  size-least = omega (arith, b .size-least, c .size);
-  size-most = omega (arith, b .size-most, c .size);
-  delay-least = omega (arith, b .delay-least, c .delay);
-  delay-most = omega (arith, b .delay-most, c .delay);
-  clock-most = c .clock-most;
-  slot = λ i h.
-      let x = b .slot i h in
-      let k = c .slot i h in
-      record {
-        empty = λ w. k .empty (sym (k .filled) ∙ w) ∙ x .empty (sym (k .filled) ∙ w);
-        page = λ w. rw (k .page) (x .page (sym (k .filled) ∙ w));
-        lowest = λ w. omega (arith, k .lowest, x .lowest (sym (k .filled) ∙ w));
-        touch = c .touch i h;
-        arrival = λ w. rw (k .arrival) (omega (arith, x .arrival (sym (k .filled) ∙ w), c .clock, c .delay));
-        started = λ w. omega (arith, x .started (sym (k .filled) ∙ w), c .size);
-      };
-  one-slot = λ i j h g u v w. b .one-slot i j h g (sym (c .slot i h .filled) ∙ u) (sym (c .slot j g .filled) ∙ v) (sym (c .slot i h .page) ∙ w ∙ c .slot j g .page);
-  held = λ i r h g w.
-      let k = c .slot i h in
-      let m = still-held (holdingAt s i r) (holdingAt t i r) (c .holding i r h g) w in
-      let x = b .held i r h g (m .held) in
-      record {
-        live = c .live i r h g w;
-        filled = k .filled ∙ x .filled;
-        allowed = rw (k .page) (m .allowed (levelOf r) (pageIn (slotAt s i .content)) (x .allowed));
-        after = omega (arith, k .arrival, m .arrival, x .after);
-        arrival = omega (arith, m .arrival, x .arrival, c .clock, c .delay);
-        touch = omega (arith, m .touch, x .touch, k .later);
-        lowest = omega (arith, k .lowest, x .lowest);
-      };
-  unheld = λ i r h g w. not-held (holdingAt s i r) (holdingAt t i r) (c .holding i r h g) (b .unheld i r h g) w;
-  no-conflict = λ i r q h g f m. no-conflict-kept (holdingAt s i r) (holdingAt t i r) (holdingAt s i q) (holdingAt t i q) (c .holding i r h g) (c .holding i q h f) (b .no-conflict i r q h g f m);
-}

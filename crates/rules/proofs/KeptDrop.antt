@@ -15,7 +15,8 @@ use Rattle.model.specs.Changes.{released, killed}
 use Rattle.model.proofs.StateLaws.{Sized, row-put, sized-put-row}
 use Rattle.model.proofs.ChangeLaws.{wroteSlot, released-holding, released-slot, sized-released, killed-row, killed-slot, killed-holding, sized-killed, killed-clock, killed-delay, killed-size}
 use Rattle.rules.proofs.SoundFacts.{RowSound, Sound}
-use Rattle.rules.proofs.KeptBase.{Base, base, whole, SlotKept, slot-marked, marked-touch, HoldingKept, same, gone, base-change}
+use Rattle.rules.proofs.KeptBase.{Base, base, whole, SlotKept, slot-marked, marked-touch, HoldingKept, same, gone}
+use Rattle.rules.proofs.KeptChange.{kept-slot, kept-holding, base-change}
 use Rattle.rules.proofs.KeptRows.{row-kept}
 
 eqb-sym : (a b : ℕ) → eqb a b ≡ eqb b a
@@ -47,9 +48,8 @@ dropped-sound some s t b rows d =
       delay = d .delay;
       clock = omega (arith, d .clock);
       clock-most = omega (arith, d .clock, b .clock-most);
-      slot = d .slot;
-      touch = λ i h. omega (arith, d .touch i h, d .clock, b .slot i h .touch);
-      holding = λ i r h g. holding i r h g (some r) refl;
+      slot = λ i h. kept-slot (d .slot i h) (omega (arith, d .touch i h, d .clock, b .slot i h .touch));
+      holding = λ i r h g. kept-holding (holding i r h g (some r) refl);
       live = λ i r h g w. live i r h g w (some r) refl;
     })) (λ r g. row r g (some r) refl)
   where

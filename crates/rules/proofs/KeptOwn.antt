@@ -21,7 +21,8 @@ use Rattle.model.proofs.StateLaws.{Sized, sized-put-row, sized-put-slot, sized-
 use Rattle.model.proofs.PutLaws.{row-same, row-other, slot-same, slot-other, holding-same, holding-other-slot, holding-other-row}
 use Rattle.rules.specs.Calls.{unpinnedAt, waiting}
 use Rattle.rules.proofs.SoundFacts.{Settled, RowSound, Sound}
-use Rattle.rules.proofs.KeptBase.{Base, base, whole, SlotKept, slot-kept, slot-marked, marked-touch, HoldingKept, same, loose, base-change}
+use Rattle.rules.proofs.KeptBase.{Base, base, whole, SlotKept, slot-kept, slot-marked, marked-touch, HoldingKept, same, loose}
+use Rattle.rules.proofs.KeptChange.{kept-slot, kept-holding, base-change}
 use Rattle.rules.proofs.KeptRows.{settled-kept, condition-kept, row-kept}
 
 -- another row put in place of one: it is live, and its condition is sound
@@ -34,9 +35,8 @@ put-row-sound s row x b h live own others =
       delay = refl;
       clock = omega arith;
       clock-most = h .clock-most;
-      slot = λ i g. slot-kept (slotAt s i) (slotAt s i) refl;
-      touch = λ i g. h .slot i g .touch;
-      holding = λ i r g f. same refl;
+      slot = λ i g. kept-slot (slot-kept (slotAt s i) (slotAt s i) refl) (h .slot i g .touch);
+      holding = λ i r g f. kept-holding (same refl);
       live = λ i r g f w. elim (ℕ-discrete r row) [
         | yes e ↦ rw (e, row-same s (h .sized) row x b) live
         | no e ↦ rw (row-other s (h .sized) row x r e) (h .held i r g f w .live)
@@ -75,9 +75,8 @@ unpinned-sound s row slot b c h idle own =
       delay = refl;
       clock = omega arith;
       clock-most = h .clock-most;
-      slot = slots;
-      touch = λ i g. rw (touches i) (h .slot i g .touch);
-      holding = λ i r g f. holdings i r g f;
+      slot = λ i g. kept-slot (slots i g) (rw (touches i) (h .slot i g .touch));
+      holding = λ i r g f. kept-holding (holdings i r g f);
       live = λ i r g f w. elim (ℕ-discrete r row) [
         | yes e ↦ rw (e, idle)
         | no e ↦ h .held i r g f (rw (holding-other-row u uz slot row k i r b f e) at w) .live

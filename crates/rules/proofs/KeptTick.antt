@@ -18,7 +18,8 @@ use Rattle.model.specs.Words.{isLive, holds, pins}
 use Rattle.rules.specs.Sound.{awaits}
 use Rattle.rules.specs.Calls.{delivered, deliveredRow, deliveredRows, isLate, lateKilled, advanced}
 use Rattle.rules.proofs.SoundFacts.{Settled, Awaiting, RowSound, Sound}
-use Rattle.rules.proofs.KeptBase.{Base, base, slot-kept, same, base-change}
+use Rattle.rules.proofs.KeptBase.{Base, base, slot-kept, same}
+use Rattle.rules.proofs.KeptChange.{kept-slot, kept-holding, base-change}
 use Rattle.rules.proofs.KeptRows.{settled-kept, awaiting-kept}
 use Rattle.rules.proofs.KeptDrop.{killed-rest}
 
@@ -49,9 +50,8 @@ module _ (s : State) (h : Sound s) where
     delay = refl;
     clock = omega arith;
     clock-most = omega arith;
-    slot = λ i _. slot-kept (slotAt s i) (slotAt s i) refl;
-    touch = λ i g. omega (arith, h .slot i g .touch);
-    holding = λ i r _ _. same refl;
+    slot = λ i g. kept-slot (slot-kept (slotAt s i) (slotAt s i) refl) (omega (arith, h .slot i g .touch));
+    holding = λ i r _ _. kept-holding (same refl);
     live = λ i r g f w. rw (delivered-at r f, delivered-live (s .clock + 1) (rowAt s r .condition)) (h .held i r g f w .live);
   })
 
