@@ -11,24 +11,17 @@ use Rattle.seq.specs.declared.Found.the-variants.{At, Nowhere}
 use Rattle.seq.proofs.Tests.{true-false, parts, not-true-false}
 use Rattle.seq.proofs.BelowLaws.{any-none}
 use Rattle.seq.proofs.PickLaws.{pick-is}
-use Rattle.model.specs.declared.Pin.{Pin}
-use Rattle.model.specs.declared.Pin.the-variants.{Absent, Unpinned, Read, Write}
 use Rattle.model.specs.declared.State.{State}
 use Rattle.model.specs.Parties.{levelOf}
 use Rattle.model.specs.State.{slotAt, holdingAt}
-use Rattle.model.specs.Words.{isFilled, isHeld, isPin, holds, pins, seenHolder, seen, dormant}
+use Rattle.model.specs.Words.{isFilled, holds, pins, seenHolder, seen, dormant}
 use Rattle.rules.specs.Choice.{orElse, stepA, beforeDormant, stepB, holderLevel, heldAbove, highestLevel, pinnedAt, inC, inD, heldAtOwnLevel, seenPin, inE, inF, beforeHeld, stepHeld, chosen}
 use Rattle.rules.proofs.SoundFacts.{Sound}
+use Rattle.rules.proofs.KeptNew.{not-pinned}
 
 or-else : {A : Type 0} (f g : Found) (slot : ℕ) → (f ≡ At slot → A) → (g ≡ At slot → A) → orElse f g ≡ At slot → A
 or-else Nowhere g slot a b e = b e
 or-else (At i) g slot a b e = a e
-
-not-pinned : (p : Pin) → isHeld p ≡ false → isPin p ≡ false
-not-pinned Absent e = refl
-not-pinned Unpinned e = refl
-not-pinned Read e = e
-not-pinned Write e = e
 
 -- a level that does not see a slot has no holder of its own there
 pub own-unheld : (s : State) (row slot : ℕ) → row < 32 → seen s (levelOf row) slot ≡ false → holds s slot row ≡ false

@@ -64,6 +64,12 @@ pin-held Unpinned e = refl
 pin-held Read e = refl
 pin-held Write e = refl
 
+pub not-pinned : (p : Pin) → isHeld p ≡ false → isPin p ≡ false
+not-pinned Absent e = refl
+not-pinned Unpinned e = refl
+not-pinned Read e = e
+not-pinned Write e = e
+
 pub lowest-least : (level : ℕ) (c : Content) → isFilled c ≡ true → lowestIn (withLowest level c) ≤ level
 lowest-least level Empty e = true-false (sym e)
 lowest-least level (Filled p a d l) e = omega arith
