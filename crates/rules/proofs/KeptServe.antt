@@ -33,9 +33,9 @@ use Rattle.rules.proofs.KeptFill.{filled-slot, filled-holding, asking-f
 use Rattle.rules.proofs.KeptChoice.{own-unheld, dormant-unheld, chosen-free}
 use Rattle.rules.proofs.KeptTaken.{least-is, least-first, asking-killed, killed-granted}
 
-page-here : (c : Content) → isFilled c ≡ true → hasPage (pageIn c) c ≡ true
-page-here Empty e = e
-page-here (Filled p a d l) e = eq-eqb p p refl
+has-page : (page : ℕ) (c : Content) → isFilled c ≡ true → pageIn c ≡ page → hasPage page c ≡ true
+has-page page Empty f e = f
+has-page page (Filled p a d l) f e = eq-eqb p page e
 
 module _ (s : State) (row page : ℕ) (mode : Mode) (h : Sound s) (a : Asking s row) (p : page ≤ 4095) (m : mayAccess (levelOf row) page mode ≡ true) where
   wait-sound : Sound (waiting s row page mode .state)
@@ -89,3 +89,58 @@ module _ (s : State) (row page : ℕ) (mode : Mode) (h : Sound s) (a : Asking s 
             → Sound (cond x (step1 s row slot page mode) (cond (seesDormant s (levelOf row) slot) (step2 s row slot mode) (step3 s row slot mode)) .state)
         go true v = step1-sound v
         go false v = last v (seesDormant s (levelOf row) slot) refl
+
+  module _ (none : slotOf s page ≡ Nowhere) (slot : ℕ) (c : chosen s row ≡ At slot) where
+    -- the rows that pin the slot have been killed
+    abbrev n : State
+    n = killed (pins s slot) Taken s
+
+    loose : (r : ℕ) → r < 32 → pins n slot r ≡ false
+    loose r b = rw (killed-holding (pins s slot) s (h .sized) Taken slot r b) (go (pins s slot r) refl)
+      where
+        go : (x : Bool) → pins s slot r ≡ x → isPin (cond x emptyHolding (holdingAt s slot r) .pin) ≡ false
+        go true e = refl
+        go false e = e
+
+    absent : (j : ℕ) → j < 64 → isFilled (slotAt n j .content) ≡ true → pageIn (slotAt n j .content) ≡ page → ⊥
+    unfolding slotOf
+    absent j b f e =
+        let k = slot-marked (wroteSlot (pins s slot) s j) (slotAt s j) (slotAt n j) (killed-slot (pins s slot) s (h .sized) Taken j b) in
+        let g = sym (k .filled) ∙ f in
+        true-false (sym (has-page page (slotAt s j .content) g (sym (k .page) ∙ e))
+        ∙ pick-none (λ i. hasPage page (slotAt s i .content)) (λ i o. false) (s .size) j none (h .slot j b .started g))
+
+    into-sound : Sound (intoSlot (At slot) s row page mode .state)
+    unfolding pinnersKilled killed released filled cleared
+    into-sound =
+        let x = chosen-free s row (a .row-is) h slot c in
+        let k = killed-sound (pins s slot) Taken s h in
+        let y = asking-killed (pins s slot) Taken s row h (x .1) a in
+        granted-sound (filled n slot page (levelOf row)) row slot mode (s .clock + s .delay)
+        (filled-sound n slot page (levelOf row) k (x .0) p (omega (arith, a .row-is)) loose absent)
+        (record {
+          asking = asking-filled n slot page (levelOf row) k (x .0) row y;
+          slot-is = omega (arith, x .0, h .size-most);
+          filled = rw (filled-slot n slot page (levelOf row) k (x .0)) refl;
+          allowed = rw (filled-slot n slot page (levelOf row) k (x .0)) m;
+          least = rw (filled-slot n slot page (levelOf row) k (x .0)) (omega arith);
+          most = omega arith;
+          own = λ w. true-false (sym (rw (filled-holding n slot page (levelOf row) k (x .0) row (a .row-is)) at w));
+          alone = λ q b _. rw (filled-holding n slot page (levelOf row) k (x .0) q b) (no-pin (pinOf mode) (emptyHolding .pin) refl);
+        })
+        (writeBack (slotAt n slot))
+
+  pub served-sound : Sound (served s row page mode .state)
+  unfolding served slotOf
+  served-sound = go (slotOf s page) refl
+    where
+      into : slotOf s page ≡ Nowhere → (f : Found) → chosen s row ≡ f → Sound (intoSlot f s row page mode .state)
+      into e Nowhere c = wait-sound
+      into e (At slot) c = into-sound e slot c
+
+      go : (f : Found) → slotOf s page ≡ f → Sound (servedAt f s row page mode .state)
+      go Nowhere e = into e (chosen s row) refl
+      go (At slot) e =
+          let x = pick-is (λ i. hasPage page (slotAt s i .content)) (λ i o. false) (s .size) slot e in
+          let y = page-there page (slotAt s slot .content) (x .1) in
+          here-sound slot (omega (arith, x .0, h .size-most)) (y .0) (y .1)
