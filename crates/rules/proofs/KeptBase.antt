@@ -1,19 +1,19 @@
 -- What sound says but for the rows; and what a slot and a holding may become without harm to it.
-use mathlib.Core.Path.{_≡_, refl, sym, _∙_, ap}
+use mathlib.Core.Path.{_≡_, refl, sym, _∙_}
 use mathlib.Core.Bool.{Bool, true, false, cond, _&&_, _||_}
-use Prim.Native.Nat.{ℕ, _+_, _<_, _≤_, min}
+use Prim.Native.Nat.{ℕ, _<_, _≤_}
 use native.Mathlib.Omega.{arith}
 use Rattle.seq.proofs.Tests.{true-false}
 use Rattle.model.specs.declared.Content.{Content}
 use Rattle.model.specs.declared.Content.the-variants.{Empty, Filled}
 use Rattle.model.specs.declared.Pin.{Pin}
-use Rattle.model.specs.declared.Pin.the-variants.{Absent, Unpinned, Read, Write}
+use Rattle.model.specs.declared.Pin.the-variants.{Unpinned}
 use Rattle.model.specs.declared.Slot.{Slot}
 use Rattle.model.specs.declared.Holding.{Holding}
 use Rattle.model.specs.declared.State.{State}
-use Rattle.model.specs.Parties.{levelOf, lastClock}
+use Rattle.model.specs.Parties.{lastClock}
 use Rattle.model.specs.State.{emptyHolding, rowAt, slotAt, holdingAt}
-use Rattle.model.specs.Words.{isLive, isFilled, pageIn, arrivalIn, lowestIn, isHeld, isPin, isWrite, holds, conflict}
+use Rattle.model.specs.Words.{isFilled, pageIn, arrivalIn, lowestIn, isHeld, isPin, isWrite, holds, conflict}
 use Rattle.model.specs.Changes.{dirtied, dirtiedContent}
 use Rattle.model.proofs.StateLaws.{Sized}
 use Rattle.rules.specs.Sound.{pinAllowed}

@@ -1,11 +1,11 @@
 -- The chosen slot is one of those started with, and the requester has no pin on it.
-use mathlib.Core.Path.{_≡_, refl, sym, _∙_, ap}
-use mathlib.Core.Bool.{Bool, true, false, cond, _&&_, not}
-use Prim.Native.Nat.{ℕ, _<_, _≤_}
+use mathlib.Core.Path.{_≡_, sym, _∙_}
+use mathlib.Core.Bool.{Bool, true, false, _&&_, not}
+use Prim.Native.Nat.{ℕ, _<_}
 use native.Mathlib.Omega.{arith}
 use borrow.Author.Tests.{le-leb, not-true}
-use lib.Dec.{leb, eqb}
-use Rattle.seq.specs.Below.{anyBelow, firstBelow}
+use lib.Dec.{leb}
+use Rattle.seq.specs.Below.{anyBelow}
 use Rattle.seq.specs.declared.Found.{Found}
 use Rattle.seq.specs.declared.Found.the-variants.{At, Nowhere}
 use Rattle.seq.proofs.Tests.{true-false, parts, not-true-false}
@@ -15,7 +15,7 @@ use Rattle.model.specs.declared.State.{State}
 use Rattle.model.specs.Parties.{levelOf}
 use Rattle.model.specs.State.{slotAt, holdingAt}
 use Rattle.model.specs.Words.{isFilled, holds, pins, seenHolder, seen, dormant}
-use Rattle.rules.specs.Choice.{orElse, stepA, beforeDormant, stepB, holderLevel, heldAbove, highestLevel, pinnedAt, inC, inD, heldAtOwnLevel, seenPin, inE, inF, beforeHeld, stepHeld, chosen}
+use Rattle.rules.specs.Choice.{orElse, stepA, beforeDormant, stepB, heldAbove, inC, inD, seenPin, inE, inF, beforeHeld, stepHeld, chosen}
 use Rattle.rules.proofs.SoundFacts.{Sound}
 use Rattle.rules.proofs.KeptNew.{not-pinned}
 
@@ -41,9 +41,11 @@ module _ (s : State) (row : ℕ) (b : row < 32) (h : Sound s) where
   unfolding stepA
   step-a slot e =
       let x = pick-is (λ i. not (isFilled (slotAt s i .content))) (λ i j. false) (s .size) slot e in
-      let u : isFilled (slotAt s slot .content) ≡ false = not-true (isFilled (slotAt s slot .content)) (x .1) in
-      (x .0, not-pinned (holdingAt s slot row .pin) (not-true-false (holds s slot row) (λ w.
-      true-false (sym (h .held slot row (omega (arith, x .0, h .size-most)) b w .filled) ∙ u))))
+      let u : isFilled (slotAt s slot .content) ≡ false = not-true (isFilled (slotAt s slot .content)) (x .1) in (
+        x .0,
+        not-pinned (holdingAt s slot row .pin) (not-true-false (holds s slot row) (λ w.
+            true-false (sym (h .held slot row (omega (arith, x .0, h .size-most)) b w .filled) ∙ u))),
+      )
 
   step-b : (slot : ℕ) → stepB s ≡ At slot → Free slot
   unfolding stepB

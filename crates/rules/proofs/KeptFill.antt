@@ -1,19 +1,18 @@
 -- A page put into a slot that no row pins, whose holders lose it, keeps a state sound.
 use mathlib.Core.Path.{_≡_, refl, sym, _∙_, ap}
-use mathlib.Core.Bool.{Bool, true, false, cond}
+use mathlib.Core.Bool.{true, false}
 use Prim.Native.Nat.{ℕ, _+_, _<_, _≤_}
 use native.Mathlib.Omega.{arith}
 use native.Mathlib.Decide.{ℕ-discrete}
 use borrow.Author.Tests.{eq-eqb, ne-eqb}
-use lib.Dec.{eqb}
 use Rattle.seq.proofs.Tests.{true-false}
 use Rattle.model.specs.declared.Content.the-variants.{Filled}
 use Rattle.model.specs.declared.Slot.{Slot}
 use Rattle.model.specs.declared.State.{State}
-use Rattle.model.specs.State.{emptyHolding, rowAt, slotAt, holdingAt, putSlot}
-use Rattle.model.specs.Words.{isFilled, pageIn, isPin, holds, pins}
+use Rattle.model.specs.State.{emptyHolding, rowAt, slotAt, holdingAt}
+use Rattle.model.specs.Words.{isFilled, pageIn, pins}
 use Rattle.model.specs.Changes.{cleared}
-use Rattle.model.proofs.StateLaws.{Sized, sized-put-slot}
+use Rattle.model.proofs.StateLaws.{sized-put-slot}
 use Rattle.model.proofs.PutLaws.{slot-same, slot-other}
 use Rattle.model.proofs.ChangeLaws.{cleared-holding, sized-cleared}
 use Rattle.rules.specs.Calls.{filled}

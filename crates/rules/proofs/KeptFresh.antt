@@ -1,12 +1,12 @@
 -- A fresh state is sound.
-use mathlib.Core.Path.{_≡_, refl, sym, _∙_, ap}
-use mathlib.Core.Bool.{Bool, true, false}
-use Prim.Native.Nat.{ℕ, _+_, _<_, _≤_}
+use mathlib.Core.Path.{_≡_, refl, sym, ap}
+use mathlib.Core.Bool.{true}
+use Prim.Native.Nat.{ℕ, _≤_}
 use native.Mathlib.Omega.{arith}
 use Rattle.seq.proofs.Tests.{true-false}
 use Rattle.model.specs.declared.Slot.{Slot}
-use Rattle.model.specs.State.{emptySlot, emptyHolding, fresh, rowAt, slotAt, holdingAt}
-use Rattle.model.specs.Words.{isFilled, holds, conflict}
+use Rattle.model.specs.State.{fresh, slotAt}
+use Rattle.model.specs.Words.{isFilled, conflict}
 use Rattle.model.proofs.StateLaws.{fresh-row, fresh-slot, fresh-holding, fresh-sized}
 use Rattle.rules.specs.Sound.{sound}
 use Rattle.rules.proofs.SoundFacts.{Sound}

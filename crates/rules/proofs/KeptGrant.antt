@@ -10,6 +10,7 @@ use Rattle.seq.proofs.Tests.{true-false, and-true, both-true}
 use Rattle.model.specs.declared.Back.{Back}
 use Rattle.model.specs.declared.Mode.{Mode}
 use Rattle.model.specs.declared.Condition.the-variants.{Idle, Fetching}
+use Rattle.model.specs.declared.Slot.{Slot}
 use Rattle.model.specs.declared.Holding.{Holding}
 use Rattle.model.specs.declared.State.{State}
 use Rattle.model.specs.Parties.{levelOf}
@@ -30,8 +31,11 @@ module _ (s : State) (row slot : ℕ) (mode : Mode) (arrival : ℕ) (h : Sound s
   abbrev k : Holding
   k = new s row slot mode arrival h g
 
-  abbrev kn : New s row slot mode arrival h g k
+  abbrev kn : New s row slot arrival k
   kn = new-is s row slot mode arrival h g
+
+  abbrev y : Slot
+  y = record { content = withLowest (levelOf row) (slotAt s slot .content); touch = s .clock }
 
   -- the state with the slot touched, and then with the holding put
   abbrev u : State
@@ -41,13 +45,13 @@ module _ (s : State) (row slot : ℕ) (mode : Mode) (arrival : ℕ) (h : Sound s
   t = putHolding u slot row k
 
   abbrev uz : Sized u
-  uz = sized-put-slot s (h .sized) slot (record { content = withLowest (levelOf row) (slotAt s slot .content); touch = s .clock })
+  uz = sized-put-slot s (h .sized) slot y
 
-  touched-slot : slotAt t slot ≡ record { content = withLowest (levelOf row) (slotAt s slot .content); touch = s .clock }
-  touched-slot = slot-same s (h .sized) slot (record { content = withLowest (levelOf row) (slotAt s slot .content); touch = s .clock }) (g .slot-is)
+  touched-slot : slotAt t slot ≡ y
+  touched-slot = slot-same s (h .sized) slot y (g .slot-is)
 
   other-slot : (i : ℕ) → (i ≡ slot → ⊥) → slotAt t i ≡ slotAt s i
-  other-slot i e = slot-other s (h .sized) slot (record { content = withLowest (levelOf row) (slotAt s slot .content); touch = s .clock }) i e
+  other-slot i e = slot-other s (h .sized) slot y i e
 
   slots : (i : ℕ) → SlotKept (slotAt s i) (slotAt t i)
   slots i = elim (ℕ-discrete i slot) [

@@ -1,7 +1,7 @@
 -- The holding that a grant puts.
 use mathlib.Core.Path.{_≡_, refl, sym}
 use mathlib.Core.Bool.{Bool, true, false, cond}
-use Prim.Native.Nat.{ℕ, _+_, _<_, _≤_, min}
+use Prim.Native.Nat.{ℕ, _+_, _<_, _≤_}
 use native.Mathlib.Omega.{arith}
 use lib.Dec.{ltb}
 use Rattle.seq.proofs.Tests.{true-false}
@@ -74,25 +74,25 @@ pub lowest-least : (level : ℕ) (c : Content) → isFilled c ≡ true → lowes
 lowest-least level Empty e = true-false (sym e)
 lowest-least level (Filled p a d l) e = omega arith
 
+-- what the new holding is, whether or not the row had one
+pub record New (s : State) (row slot arrival : ℕ) (k : Holding) : Type 0 where
+  pub held : isHeld (k .pin) ≡ true
+  pub allowed : pinAllowed (levelOf row) (pageIn (slotAt s slot .content)) (k .pin) ≡ true
+  pub least : arrivalIn (slotAt s slot .content) ≤ k .arrival
+  pub most : k .arrival ≤ s .clock + s .delay
+  pub touch : k .touch ≡ s .clock
+  pub alone : (q : ℕ) → q < 32 → (row ≡ q → ⊥) → conflict (k .pin) (holdingAt s slot q .pin) ≡ false
+  pub arrived : arrival ≤ s .clock → k .arrival ≤ s .clock
+  pub coming : s .clock < arrival → (isPin (k .pin) ≡ true) × (k .arrival ≡ arrival)
+
 module _ (s : State) (row slot : ℕ) (mode : Mode) (arrival : ℕ) (h : Sound s) (g : Grantable s row slot mode arrival) where
   abbrev pub new : Holding
   new = heldWith (holds s slot row) (holdingAt s slot row) (pinOf mode) arrival (s .clock)
 
-  -- what the new holding is, whether or not the row had one
-  pub record New (k : Holding) : Type 0 where
-    pub held : isHeld (k .pin) ≡ true
-    pub allowed : pinAllowed (levelOf row) (pageIn (slotAt s slot .content)) (k .pin) ≡ true
-    pub least : arrivalIn (slotAt s slot .content) ≤ k .arrival
-    pub most : k .arrival ≤ s .clock + s .delay
-    pub touch : k .touch ≡ s .clock
-    pub alone : (q : ℕ) → q < 32 → (row ≡ q → ⊥) → conflict (k .pin) (holdingAt s slot q .pin) ≡ false
-    pub arrived : arrival ≤ s .clock → k .arrival ≤ s .clock
-    pub coming : s .clock < arrival → (isPin (k .pin) ≡ true) × (k .arrival ≡ arrival)
-
-  pub new-is : New new
+  pub new-is : New s row slot arrival new
   new-is = go (holds s slot row) refl
     where
-      go : (b : Bool) → holds s slot row ≡ b → New (heldWith b (holdingAt s slot row) (pinOf mode) arrival (s .clock))
+      go : (b : Bool) → holds s slot row ≡ b → New s row slot arrival (heldWith b (holdingAt s slot row) (pinOf mode) arrival (s .clock))
       go false e = record {
         held = mode-held mode;
         allowed = mode-allowed (levelOf row) (pageIn (slotAt s slot .content)) mode (g .allowed);

@@ -1,12 +1,11 @@
 -- A call that changes one row's condition, or takes the pin of one of its holdings, keeps a state sound: begin, a wait, unpin.
-use mathlib.Core.Path.{_≡_, refl, sym, _∙_, ap}
-use mathlib.Core.Bool.{Bool, true, false, cond}
+use mathlib.Core.Path.{_≡_, refl, sym, ap}
+use mathlib.Core.Bool.{true, cond}
 use Prim.Native.Nat.{ℕ, _<_, _≤_}
 use native.Mathlib.Omega.{arith}
 use native.Mathlib.Decide.{ℕ-discrete}
 use Rattle.seq.proofs.Tests.{true-false}
 use Rattle.model.specs.declared.Mode.{Mode}
-use Rattle.model.specs.declared.Condition.{Condition}
 use Rattle.model.specs.declared.Condition.the-variants.{Free, Idle, Waiting}
 use Rattle.model.specs.declared.Pin.the-variants.{Unpinned}
 use Rattle.model.specs.declared.Row.{Row}

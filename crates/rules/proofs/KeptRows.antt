@@ -1,5 +1,5 @@
 -- What sound says of a row stays where the row and its pinned holdings stay, and its other holdings stay or go.
-use mathlib.Core.Path.{_≡_, refl, sym, _∙_, ap}
+use mathlib.Core.Path.{_≡_, refl, sym, _∙_}
 use mathlib.Core.Bool.{Bool, true, false, _&&_}
 use Prim.Native.Nat.{ℕ, _<_, _≤_}
 use native.Mathlib.Omega.{arith}
@@ -12,7 +12,7 @@ use Rattle.model.specs.declared.State.{State}
 use Rattle.model.specs.State.{rowAt, holdingAt}
 use Rattle.model.specs.Words.{isPin, pins}
 use Rattle.rules.specs.Sound.{awaits}
-use Rattle.rules.proofs.SoundFacts.{Settled, Awaiting, RowSound, Sound}
+use Rattle.rules.proofs.SoundFacts.{Settled, Awaiting, RowSound}
 use Rattle.rules.proofs.KeptBase.{HoldingKept, same, gone, loose, still-held}
 
 -- exactly one number passes each of two tests that agree

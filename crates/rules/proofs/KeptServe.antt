@@ -1,10 +1,10 @@
 -- A served request keeps a state sound: each of its steps grants a page, or waits.
-use mathlib.Core.Path.{_≡_, refl, sym, _∙_, ap}
-use mathlib.Core.Bool.{Bool, true, false, cond, _&&_}
+use mathlib.Core.Path.{_≡_, refl, sym, _∙_}
+use mathlib.Core.Bool.{Bool, true, false, cond}
 use Prim.Native.Nat.{ℕ, _+_, _<_, _≤_}
 use native.Mathlib.Omega.{arith}
 use borrow.Author.Tests.{le-leb, eq-eqb}
-use lib.Dec.{leb, eqb}
+use lib.Dec.{eqb}
 use Rattle.seq.specs.declared.Found.{Found}
 use Rattle.seq.specs.declared.Found.the-variants.{At, Nowhere}
 use Rattle.seq.proofs.Tests.{true-false, and-true, both-true}
@@ -16,10 +16,10 @@ use Rattle.model.specs.declared.Content.the-variants.{Empty, Filled}
 use Rattle.model.specs.declared.Mode.{Mode}
 use Rattle.model.specs.declared.State.{State}
 use Rattle.model.specs.Parties.{levelOf, mayAccess}
-use Rattle.model.specs.State.{emptyHolding, rowAt, slotAt, holdingAt}
-use Rattle.model.specs.Words.{isFilled, pageIn, arrivalIn, hasPage, isPin, pinOf, holds, pins, seenHolder, seen, dormant, seesDormant, leastArrival, slotOf}
+use Rattle.model.specs.State.{emptyHolding, slotAt, holdingAt}
+use Rattle.model.specs.Words.{isFilled, pageIn, arrivalIn, hasPage, isPin, pinOf, pins, seenHolder, seen, dormant, seesDormant, leastArrival, slotOf}
 use Rattle.model.specs.Changes.{released, killed, cleared}
-use Rattle.model.proofs.ChangeLaws.{wroteSlot, killed-slot, killed-holding, killed-size}
+use Rattle.model.proofs.ChangeLaws.{wroteSlot, killed-slot, killed-holding}
 use Rattle.rules.specs.Calls.{waiting, granted, conflicts, mustWait, step1, step2, step3, pinnersKilled, writeBack, filled, intoSlot, servedAt, served}
 use Rattle.rules.specs.Choice.{chosen}
 use Rattle.rules.proofs.SoundFacts.{Sound}

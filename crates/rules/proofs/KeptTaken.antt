@@ -1,11 +1,10 @@
 -- The rows with a conflicting pin killed and the page granted: the state stays sound. What the least seen arrival is.
-use mathlib.Core.Path.{_≡_, refl, sym, _∙_, ap}
-use mathlib.Core.Bool.{Bool, true, false, cond, _&&_, not}
+use mathlib.Core.Path.{_≡_, refl, sym, _∙_}
+use mathlib.Core.Bool.{Bool, true, false, cond}
 use Prim.Native.Nat.{ℕ, _+_, _<_, _≤_}
 use native.Mathlib.Omega.{arith}
 use borrow.Author.Tests.{ltb-true, ltb-false, lt-ltb, le-ltb, eq-eqb, ne-eqb}
-use lib.Dec.{leb, ltb, eqb}
-use Rattle.seq.specs.Below.{pickBelow, atFound}
+use lib.Dec.{leb, ltb}
 use Rattle.seq.proofs.Tests.{and-true}
 use Rattle.seq.proofs.BelowLaws.{any-hit}
 use Rattle.seq.proofs.PickLaws.{pick-is, pick-some, pick-first}

@@ -1,11 +1,10 @@
 -- A tick keeps a state sound. Between its steps a live row's deadline may be reached; such rows are killed last.
-use mathlib.Core.Path.{_≡_, refl, sym, _∙_, ap}
+use mathlib.Core.Path.{_≡_, refl, _∙_}
 use mathlib.Core.Bool.{Bool, true, false, cond, _&&_}
 use Prim.Native.Nat.{ℕ, _+_, _<_, _≤_}
 use native.Mathlib.Omega.{arith}
 use borrow.Author.Tests.{leb-true, leb-false, eqb-true}
 use lib.Dec.{leb, eqb}
-use lib.ListN.{length}
 use Rattle.seq.proofs.Tests.{and-true}
 use Rattle.seq.proofs.EachLaws.{each-at, each-length}
 use Rattle.model.specs.declared.Cause.the-variants.{Late}
@@ -17,7 +16,7 @@ use Rattle.model.specs.State.{freeRow, rowAt, slotAt, holdingAt}
 use Rattle.model.specs.Words.{isLive, holds, pins}
 use Rattle.rules.specs.Sound.{awaits}
 use Rattle.rules.specs.Calls.{delivered, deliveredRow, deliveredRows, isLate, lateKilled, advanced}
-use Rattle.rules.proofs.SoundFacts.{Settled, Awaiting, RowSound, Sound}
+use Rattle.rules.proofs.SoundFacts.{RowSound, Sound}
 use Rattle.rules.proofs.KeptBase.{Base, base, slot-kept, same}
 use Rattle.rules.proofs.KeptChange.{kept-slot, kept-holding, base-change}
 use Rattle.rules.proofs.KeptRows.{settled-kept, awaiting-kept}

@@ -1,8 +1,8 @@
 -- What it says of a call that no refusal applies.
-use mathlib.Core.Path.{_≡_, refl, sym, _∙_}
-use mathlib.Core.Bool.{Bool, true, false, cond, _&&_, not}
+use mathlib.Core.Path.{_≡_, refl, sym}
+use mathlib.Core.Bool.{Bool, true, false, _&&_, not}
 use mathlib.Core.List.{List, [], _∷_}
-use Prim.Native.Nat.{ℕ, _+_, _*_, _/_, _<_, _≤_}
+use Prim.Native.Nat.{ℕ, _<_, _≤_}
 use native.Mathlib.Omega.{arith}
 use borrow.Author.Tests.{ltb-false, leb-false, leb-true, not-false}
 use lib.Dec.{leb, ltb}
@@ -11,7 +11,6 @@ use Rattle.model.specs.declared.Condition.{Condition}
 use Rattle.model.specs.declared.Condition.the-variants.{Free, Idle, Fetching, Waiting, Killed}
 use Rattle.model.specs.declared.State.{State}
 use Rattle.model.specs.Parties.{rowOf, levelOf, modeOf, mayAccess, lastClock, isPast}
-use Rattle.model.specs.State.{rowAt}
 use Rattle.rules.specs.Refusals.{firstToApply, isFree, isKilled, isBusy, isWaiting, isRead, conditionAt, pinsPage, startRefusal, beginRefusal, requestRefusal, retryRefusal, unpinRefusal, endRefusal, tickRefusal}
 
 abbrev NoneApply : List (ℕ × Bool) → Type 0

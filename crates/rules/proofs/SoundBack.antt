@@ -1,10 +1,10 @@
 -- From the facts back to the test: a state of which they hold is sound.
-use mathlib.Core.Path.{_≡_, refl, sym, _∙_, ap}
-use mathlib.Core.Bool.{Bool, true, false, cond, _&&_, _||_, not}
+use mathlib.Core.Path.{_≡_, refl, sym}
+use mathlib.Core.Bool.{Bool, true, false, _&&_, _||_, not}
 use Prim.Native.Nat.{ℕ, _+_, _<_, _≤_}
 use native.Mathlib.Omega.{arith}
 use borrow.Author.Tests.{eqb-true, lt-ltb, le-leb, eq-eqb, lt-leb}
-use lib.Dec.{leb, ltb, eqb}
+use lib.Dec.{leb, ltb}
 use lib.ListN.{length}
 use Rattle.seq.specs.Below.{allBelow, countBelow}
 use Rattle.seq.proofs.Tests.{true-false, and-true, both-true, not-true-false, or-true-right}
@@ -14,11 +14,11 @@ use Rattle.model.specs.declared.Condition.the-variants.{Free, Idle, Fetching, W
 use Rattle.model.specs.declared.Content.{Content}
 use Rattle.model.specs.declared.Content.the-variants.{Empty, Filled}
 use Rattle.model.specs.declared.State.{State}
-use Rattle.model.specs.Parties.{levelOf, mayAccess, lastClock, isPast}
+use Rattle.model.specs.Parties.{levelOf, lastClock, isPast}
 use Rattle.model.specs.State.{rowAt, slotAt, holdingAt}
 use Rattle.model.specs.Words.{isFilled, pageIn, arrivalIn, lowestIn, hasPage, holds, conflict}
 use Rattle.rules.specs.Sound.{soundNumbers, arrived, awaits, soundContent, soundSlot, samePage, soundPages, soundCondition, soundRow, soundHolding, soundPins, sound}
-use Rattle.rules.proofs.SoundFacts.{SlotSound, Settled, Awaiting, RowSound, Held, Sound}
+use Rattle.rules.proofs.SoundFacts.{SlotSound, Settled, RowSound, Sound}
 
 false-not : (b : Bool) → b ≡ false → not b ≡ true
 false-not b e = rw e
