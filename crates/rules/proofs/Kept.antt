@@ -15,6 +15,7 @@ use Rattle.model.specs.declared.Outcome.{Outcome}
 use Rattle.model.specs.Parties.{rowOf, modeOf}
 use Rattle.model.specs.State.{rowAt, slotAt, holdingAt}
 use Rattle.model.specs.Words.{hasPage, pins, slotOf}
+use Rattle.model.proofs.PinLaws.{pin-held}
 use Rattle.rules.specs.Refusals.{
   pinsPage,
   startRefusal,
@@ -38,7 +39,7 @@ use Rattle.rules.proofs.KeptFresh.{fresh-facts}
 use Rattle.rules.proofs.KeptDrop.{ended-sound}
 use Rattle.rules.proofs.KeptOwn.{begun-sound, unpinned-sound}
 use Rattle.rules.proofs.KeptTick.{ticked-sound}
-use Rattle.rules.proofs.KeptNew.{Asking, pin-held}
+use Rattle.rules.proofs.KeptNew.{Asking}
 use Rattle.rules.proofs.KeptServe.{served-sound}
 
 -- a refused call changes nothing

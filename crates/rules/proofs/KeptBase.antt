@@ -1,21 +1,21 @@
 -- What sound says but for the rows; and what a slot and a holding may become without harm to it.
 use mathlib.Core.Path.{_≡_, refl, sym, _∙_}
-use mathlib.Core.Bool.{Bool, true, false, cond, _&&_, _||_}
+use mathlib.Core.Bool.{Bool, true, false, cond}
 use Prim.Native.Nat.{ℕ, _<_, _≤_}
 use native.Mathlib.Omega.{arith}
 use Rattle.seq.proofs.Tests.{true-false}
 use Rattle.model.specs.declared.Content.{Content}
 use Rattle.model.specs.declared.Content.the-variants.{Empty, Filled}
-use Rattle.model.specs.declared.Pin.{Pin}
 use Rattle.model.specs.declared.Pin.the-variants.{Unpinned}
 use Rattle.model.specs.declared.Slot.{Slot}
 use Rattle.model.specs.declared.Holding.{Holding}
 use Rattle.model.specs.declared.State.{State}
 use Rattle.model.specs.Parties.{lastClock}
 use Rattle.model.specs.State.{emptyHolding, rowAt, slotAt, holdingAt}
-use Rattle.model.specs.Words.{isFilled, pageIn, arrivalIn, lowestIn, isHeld, isPin, isWrite, holds, conflict}
+use Rattle.model.specs.Words.{isFilled, pageIn, arrivalIn, lowestIn, isHeld, holds, conflict}
 use Rattle.model.specs.Changes.{dirtied, dirtiedContent}
 use Rattle.model.proofs.StateLaws.{Sized}
+use Rattle.model.proofs.PinLaws.{no-pin}
 use Rattle.rules.specs.Sound.{pinAllowed}
 use Rattle.rules.specs.Calls.{withLowest}
 use Rattle.rules.proofs.SoundFacts.{SlotSound, RowSound, Held, Sound}
@@ -147,15 +147,6 @@ pub not-held : (h k : Holding) → HoldingKept h k → (isHeld (h .pin) ≡ fals
 not-held h k (same e) f w = e ∙ f (rw e at w)
 not-held h k (gone e) f w = e
 not-held h k (loose v e) f w = true-false (rw e at w)
-
--- a pin conflicts only with pins
-pub no-pin : (p q : Pin) → isPin q ≡ false → conflict p q ≡ false
-unfolding conflict
-no-pin p q e = rw e (go (isPin p))
-  where
-    go : (b : Bool) → b && false && (isWrite p || isWrite q) ≡ false
-    go true = refl
-    go false = refl
 
 -- a pin that is kept conflicts with no pin that it did not conflict with
 pub no-conflict-kept : (h k h′ k′ : Holding) → HoldingKept h k → HoldingKept h′ k′ → conflict (h .pin) (h′ .pin) ≡ false → conflict (k .pin) (k′ .pin) ≡ false

@@ -1,15 +1,15 @@
 -- A change keeps what sound says of slots and holdings if each slot and each holding is kept, or is new and sound.
 use mathlib.Core.Path.{_≡_, sym, _∙_}
-use mathlib.Core.Bool.{true, false, and-comm, or-comm}
+use mathlib.Core.Bool.{true, false}
 use Prim.Native.Nat.{ℕ, _<_, _≤_}
 use native.Mathlib.Omega.{arith}
 use Rattle.seq.proofs.Tests.{true-false}
-use Rattle.model.specs.declared.Pin.{Pin}
 use Rattle.model.specs.declared.State.{State}
 use Rattle.model.specs.Parties.{levelOf, lastClock}
 use Rattle.model.specs.State.{emptyHolding, rowAt, slotAt, holdingAt}
-use Rattle.model.specs.Words.{isLive, isFilled, pageIn, isPin, isWrite, holds, conflict}
+use Rattle.model.specs.Words.{isLive, isFilled, pageIn, holds, conflict}
 use Rattle.model.proofs.StateLaws.{Sized}
+use Rattle.model.proofs.PinLaws.{conflict-comm}
 use Rattle.rules.proofs.SoundFacts.{SlotSound, Held}
 use Rattle.rules.proofs.KeptBase.{Base, SlotKept, HoldingKept, still-held, not-held, no-conflict-kept}
 
@@ -34,10 +34,6 @@ pub record Change (s t : State) : Type 0 where
   pub slot : (i : ℕ) → i < 64 → SlotChange s t i
   pub holding : (i r : ℕ) → i < 64 → r < 32 → HoldingChange s t i r
   pub live : (i r : ℕ) → i < 64 → r < 32 → holds t i r ≡ true → isLive (rowAt t r .condition) ≡ true
-
-pub conflict-comm : (p q : Pin) → conflict p q ≡ conflict q p
-unfolding conflict
-conflict-comm p q = rw (and-comm (isPin p) (isPin q), or-comm (isWrite p) (isWrite q))
 
 module _ (s t : State) (b : Base s) (c : Change s t) where
   slot-change : (i : ℕ) → i < 64 → SlotChange s t i → SlotSound t i

@@ -15,9 +15,9 @@ use Rattle.model.specs.declared.State.{State}
 use Rattle.model.specs.Parties.{levelOf}
 use Rattle.model.specs.State.{slotAt, holdingAt}
 use Rattle.model.specs.Words.{isFilled, holds, pins, seenHolder, seen, dormant}
+use Rattle.model.proofs.PinLaws.{not-pinned}
 use Rattle.rules.specs.Choice.{orElse, stepA, beforeDormant, stepB, heldAbove, inC, inD, seenPin, inE, inF, beforeHeld, stepHeld, chosen}
 use Rattle.rules.proofs.SoundFacts.{Sound}
-use Rattle.rules.proofs.KeptNew.{not-pinned}
 
 or-else : {A : Type 0} (f g : Found) (slot : ℕ) → (f ≡ At slot → A) → (g ≡ At slot → A) → orElse f g ≡ At slot → A
 or-else Nowhere g slot a b e = b e

@@ -3,10 +3,9 @@ use mathlib.Core.Path.{_≡_, refl, sym, _∙_}
 use mathlib.Core.Bool.{Bool, true, false}
 use Prim.Native.Nat.{ℕ, _<_}
 use native.Mathlib.Omega.{arith}
-use native.Mathlib.Decide.{ℕ-discrete}
-use borrow.Author.Tests.{eq-eqb, ne-eqb}
 use lib.Dec.{eqb}
 use Rattle.seq.proofs.Tests.{true-false}
+use Rattle.seq.proofs.OneLaws.{eqb-sym}
 use Rattle.model.specs.declared.Cause.{Cause}
 use Rattle.model.specs.declared.State.{State}
 use Rattle.model.specs.State.{freeRow, emptyHolding, rowAt, slotAt, holdingAt, putRow}
@@ -18,12 +17,6 @@ use Rattle.rules.proofs.SoundFacts.{RowSound, Sound}
 use Rattle.rules.proofs.KeptBase.{Base, base, whole, SlotKept, slot-marked, marked-touch, HoldingKept, same, gone}
 use Rattle.rules.proofs.KeptChange.{kept-slot, kept-holding, base-change}
 use Rattle.rules.proofs.KeptRows.{row-kept}
-
-eqb-sym : (a b : ℕ) → eqb a b ≡ eqb b a
-eqb-sym a b = elim (ℕ-discrete a b) [
-  | yes e ↦ eq-eqb a b e ∙ sym (eq-eqb b a (sym e))
-  | no e ↦ ne-eqb a b e ∙ sym (ne-eqb b a (λ q. e (sym q)))
-]
 
 -- the rows of a set have dropped their holdings, and the others stay as they were
 pub record Dropped (some : ℕ → Bool) (s t : State) : Type 0 where

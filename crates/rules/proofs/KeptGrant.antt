@@ -18,6 +18,7 @@ use Rattle.model.specs.State.{rowAt, slotAt, holdingAt, putHolding}
 use Rattle.model.specs.Words.{isLive, holds, pins}
 use Rattle.model.proofs.StateLaws.{Sized, sized-put-slot, sized-put-holding}
 use Rattle.model.proofs.PutLaws.{slot-same, slot-other, holding-same, holding-other-slot, holding-other-row}
+use Rattle.model.proofs.PinLaws.{pin-held}
 use Rattle.rules.specs.Sound.{awaits}
 use Rattle.rules.specs.Calls.{withLowest, touched, granted}
 use Rattle.rules.proofs.SoundFacts.{RowSound, Held, Sound}
@@ -25,7 +26,7 @@ use Rattle.rules.proofs.KeptBase.{Base, base, SlotKept, slot-kept, slot
 use Rattle.rules.proofs.KeptChange.{kept-slot, HoldingChange, kept-holding, new-holding, base-change}
 use Rattle.rules.proofs.KeptRows.{row-kept}
 use Rattle.rules.proofs.KeptOwn.{put-row-sound}
-use Rattle.rules.proofs.KeptNew.{Grantable, New, new, new-is, pin-held, lowest-least}
+use Rattle.rules.proofs.KeptNew.{Grantable, New, new, new-is, lowest-least}
 
 module _ (s : State) (row slot : ℕ) (mode : Mode) (arrival : ℕ) (h : Sound s) (g : Grantable s row slot mode arrival) where
   abbrev k : Holding

@@ -1,21 +1,20 @@
 -- The holding that a grant puts.
 use mathlib.Core.Path.{_≡_, refl, sym}
-use mathlib.Core.Bool.{Bool, true, false, cond}
+use mathlib.Core.Bool.{Bool, true, false}
 use Prim.Native.Nat.{ℕ, _+_, _<_, _≤_}
 use native.Mathlib.Omega.{arith}
-use lib.Dec.{ltb}
 use Rattle.seq.proofs.Tests.{true-false}
 use Rattle.model.specs.declared.Mode.{Mode}
 use Rattle.model.specs.declared.Mode.the-variants as Mode
 use Rattle.model.specs.declared.Content.{Content}
 use Rattle.model.specs.declared.Content.the-variants.{Empty, Filled}
-use Rattle.model.specs.declared.Pin.{Pin}
-use Rattle.model.specs.declared.Pin.the-variants.{Absent, Unpinned, Read, Write}
+use Rattle.model.specs.declared.Pin.the-variants.{Read, Write}
 use Rattle.model.specs.declared.Holding.{Holding}
 use Rattle.model.specs.declared.State.{State}
 use Rattle.model.specs.Parties.{levelOf, mayAccess}
 use Rattle.model.specs.State.{rowAt, slotAt, holdingAt}
-use Rattle.model.specs.Words.{isLive, isFilled, pageIn, arrivalIn, lowestIn, isHeld, isPin, pinOf, conflict, strength, stronger, holds}
+use Rattle.model.specs.Words.{isLive, isFilled, pageIn, arrivalIn, lowestIn, isHeld, isPin, pinOf, conflict, holds}
+use Rattle.model.proofs.PinLaws.{mode-held, mode-pin, stronger-is}
 use Rattle.rules.specs.Sound.{pinAllowed}
 use Rattle.rules.specs.Calls.{heldWith, withLowest}
 use Rattle.rules.proofs.SoundFacts.{Settled, Sound}
@@ -37,38 +36,9 @@ pub record Grantable (s : State) (row slot : ℕ) (mode : Mode) (arrival : ℕ) 
   pub own : holds s slot row ≡ true → arrival ≤ s .clock
   pub alone : (q : ℕ) → q < 32 → (row ≡ q → ⊥) → conflict (pinOf mode) (holdingAt s slot q .pin) ≡ false
 
-mode-held : (mode : Mode) → isHeld (pinOf mode) ≡ true
-mode-held Mode.Read = refl
-mode-held Mode.Write = refl
-
-mode-pin : (mode : Mode) → isPin (pinOf mode) ≡ true
-mode-pin Mode.Read = refl
-mode-pin Mode.Write = refl
-
 mode-allowed : (level page : ℕ) (mode : Mode) → mayAccess level page mode ≡ true → pinAllowed level page (pinOf mode) ≡ true
 mode-allowed level page Mode.Read e = e
 mode-allowed level page Mode.Write e = e
-
--- the stronger of two pins is one of them
-stronger-is : (P : Pin → Type 0) (p q : Pin) → P p → P q → P (stronger p q)
-unfolding stronger
-stronger-is P p q a b = go (ltb (strength p) (strength q))
-  where
-    go : (x : Bool) → P (cond x q p)
-    go true = b
-    go false = a
-
-pub pin-held : (p : Pin) → isPin p ≡ true → isHeld p ≡ true
-pin-held Absent e = e
-pin-held Unpinned e = refl
-pin-held Read e = refl
-pin-held Write e = refl
-
-pub not-pinned : (p : Pin) → isHeld p ≡ false → isPin p ≡ false
-not-pinned Absent e = refl
-not-pinned Unpinned e = refl
-not-pinned Read e = e
-not-pinned Write e = e
 
 pub lowest-least : (level : ℕ) (c : Content) → isFilled c ≡ true → lowestIn (withLowest level c) ≤ level
 lowest-least level Empty e = true-false (sym e)

@@ -1,10 +1,10 @@
 -- What sound says of a row stays where the row and its pinned holdings stay, and its other holdings stay or go.
-use mathlib.Core.Path.{_≡_, refl, sym, _∙_}
+use mathlib.Core.Path.{_≡_, refl, _∙_}
 use mathlib.Core.Bool.{Bool, true, false, _&&_}
 use Prim.Native.Nat.{ℕ, _<_, _≤_}
 use native.Mathlib.Omega.{arith}
 use lib.Dec.{eqb}
-use Rattle.seq.proofs.BelowLaws.{One, count-same, count-one, one-count}
+use Rattle.seq.proofs.OneLaws.{one-same}
 use Rattle.model.specs.declared.Condition.{Condition}
 use Rattle.model.specs.declared.Condition.the-variants.{Free, Idle, Fetching, Waiting, Killed}
 use Rattle.model.specs.declared.Holding.{Holding}
@@ -14,10 +14,6 @@ use Rattle.model.specs.Words.{isPin, pins}
 use Rattle.rules.specs.Sound.{awaits}
 use Rattle.rules.proofs.SoundFacts.{Settled, Awaiting, RowSound}
 use Rattle.rules.proofs.KeptBase.{HoldingKept, same, gone, loose, still-held}
-
--- exactly one number passes each of two tests that agree
-pub one-same : (p q : ℕ → Bool) (n : ℕ) → ((i : ℕ) → i < n → p i ≡ q i) → One p n → One q n
-one-same p q n f o = count-one q n (sym (count-same p q n f) ∙ one-count p n o)
 
 -- a holding that is not pinned is not pinned after
 unpinned-kept : (h k : Holding) → HoldingKept h k → isPin (h .pin) ≡ false → isPin (k .pin) ≡ false

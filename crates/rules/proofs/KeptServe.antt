@@ -20,18 +20,20 @@ use Rattle.model.specs.State.{emptyHolding, slotAt, holdingAt}
 use Rattle.model.specs.Words.{isFilled, pageIn, arrivalIn, hasPage, isPin, pinOf, pins, seenHolder, seen, dormant, seesDormant, leastArrival, slotOf}
 use Rattle.model.specs.Changes.{released, killed, cleared}
 use Rattle.model.proofs.ChangeLaws.{wroteSlot, killed-slot, killed-holding}
+use Rattle.model.proofs.ArrivalLaws.{least-is, least-first}
+use Rattle.model.proofs.PinLaws.{no-pin, not-pinned}
 use Rattle.rules.specs.Calls.{waiting, granted, conflicts, mustWait, step1, step2, step3, pinnersKilled, writeBack, filled, intoSlot, servedAt, served}
 use Rattle.rules.specs.Choice.{chosen}
 use Rattle.rules.proofs.SoundFacts.{Sound}
 use Rattle.rules.proofs.SoundBack.{page-there}
-use Rattle.rules.proofs.KeptBase.{slot-marked, no-pin}
+use Rattle.rules.proofs.KeptBase.{slot-marked}
 use Rattle.rules.proofs.KeptDrop.{killed-sound}
 use Rattle.rules.proofs.KeptOwn.{waiting-sound}
-use Rattle.rules.proofs.KeptNew.{Asking, not-pinned}
+use Rattle.rules.proofs.KeptNew.{Asking}
 use Rattle.rules.proofs.KeptGrant.{granted-sound}
 use Rattle.rules.proofs.KeptFill.{filled-slot, filled-holding, asking-filled, filled-sound}
 use Rattle.rules.proofs.KeptChoice.{own-unheld, dormant-unheld, chosen-free}
-use Rattle.rules.proofs.KeptTaken.{least-is, least-first, asking-killed, killed-granted}
+use Rattle.rules.proofs.KeptTaken.{asking-killed, killed-granted}
 
 has-page : (page : ℕ) (c : Content) → isFilled c ≡ true → pageIn c ≡ page → hasPage page c ≡ true
 has-page page Empty f e = f

@@ -1,13 +1,9 @@
--- The rows with a conflicting pin killed and the page granted: the state stays sound. What the least seen arrival is.
+-- The rows with a conflicting pin killed and the page granted: the state stays sound.
 use mathlib.Core.Path.{_≡_, refl, sym, _∙_}
 use mathlib.Core.Bool.{Bool, true, false, cond}
 use Prim.Native.Nat.{ℕ, _+_, _<_, _≤_}
 use native.Mathlib.Omega.{arith}
-use borrow.Author.Tests.{ltb-true, ltb-false, lt-ltb, le-ltb, eq-eqb, ne-eqb}
-use lib.Dec.{leb, ltb}
-use Rattle.seq.proofs.Tests.{and-true}
-use Rattle.seq.proofs.BelowLaws.{any-hit}
-use Rattle.seq.proofs.PickLaws.{pick-is, pick-some, pick-first}
+use borrow.Author.Tests.{eq-eqb, ne-eqb}
 use Rattle.model.specs.declared.Back.the-variants.{Nothing}
 use Rattle.model.specs.declared.Cause.{Cause}
 use Rattle.model.specs.declared.Cause.the-variants.{Taken}
@@ -15,42 +11,17 @@ use Rattle.model.specs.declared.Mode.{Mode}
 use Rattle.model.specs.declared.State.{State}
 use Rattle.model.specs.Parties.{levelOf, mayAccess}
 use Rattle.model.specs.State.{emptyHolding, rowAt, slotAt, holdingAt}
-use Rattle.model.specs.Words.{isFilled, pageIn, arrivalIn, pinOf, conflict, holds, seenHolder, seen, leastArrival}
+use Rattle.model.specs.Words.{isFilled, pageIn, arrivalIn, pinOf, conflict, holds}
 use Rattle.model.specs.Changes.{killed}
 use Rattle.model.proofs.ChangeLaws.{wroteSlot, killed-row, killed-slot, killed-holding, killed-clock, killed-delay}
+use Rattle.model.proofs.PinLaws.{no-pin}
 use Rattle.rules.specs.Calls.{granted, conflicts}
 use Rattle.rules.proofs.SoundFacts.{Sound}
-use Rattle.rules.proofs.KeptBase.{slot-marked, same, no-pin}
+use Rattle.rules.proofs.KeptBase.{slot-marked, same}
 use Rattle.rules.proofs.KeptRows.{settled-kept}
 use Rattle.rules.proofs.KeptDrop.{killed-sound}
 use Rattle.rules.proofs.KeptNew.{Asking}
 use Rattle.rules.proofs.KeptGrant.{granted-sound}
-
--- the least arrival that a level sees on a slot is that of a seen holding
-pub least-is : (s : State) (level slot : ℕ) → seen s level slot ≡ true → (j : ℕ) × (j < 32) × (holds s slot j ≡ true) × (leastArrival s level slot ≡ holdingAt s slot j .arrival)
-unfolding seen leastArrival seenHolder
-least-is s level slot e =
-    let a = any-hit (seenHolder s level slot) 32 e in
-    let x = pick-some (seenHolder s level slot) (λ row other. ltb (holdingAt s slot row .arrival) (holdingAt s slot other .arrival)) 32 (a .0) (a .1) (a .2) in
-    let y = pick-is (seenHolder s level slot) (λ row other. ltb (holdingAt s slot row .arrival) (holdingAt s slot other .arrival)) 32 (x .0) (x .1) in
-    (x .0, y .0, and-true (leb (levelOf (x .0)) level) (holds s slot (x .0)) (y .1) .1, rw (x .1))
-
--- and no seen holding's is less
-pub least-first : (s : State) (level slot r : ℕ) → r < 32 → seenHolder s level slot r ≡ true → leastArrival s level slot ≤ holdingAt s slot r .arrival
-unfolding leastArrival
-least-first s level slot r b e =
-    let x = pick-some (seenHolder s level slot) before 32 r b e in
-    rw (x .1) (ltb-false (holdingAt s slot r .arrival) (holdingAt s slot (x .0) .arrival)
-    (pick-first (seenHolder s level slot) before
-    (λ i _. le-ltb (holdingAt s slot i .arrival) (holdingAt s slot i .arrival) (omega arith))
-    (λ i j k _ _ _ u v.
-    let p = ltb-true (holdingAt s slot i .arrival) (holdingAt s slot j .arrival) u in
-    let q = ltb-true (holdingAt s slot j .arrival) (holdingAt s slot k .arrival) v in
-    lt-ltb (holdingAt s slot i .arrival) (holdingAt s slot k .arrival) (omega arith))
-    32 (x .0) r (x .1) b e))
-  where
-    before : ℕ → ℕ → Bool
-    before row other = ltb (holdingAt s slot row .arrival) (holdingAt s slot other .arrival)
 
 -- a row that no kill takes may ask after it as before
 pub asking-killed : (some : ℕ → Bool) (cause : Cause) (s : State) (row : ℕ) → Sound s → some row ≡ false → Asking s row → Asking (killed some cause s) row

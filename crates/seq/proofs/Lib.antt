@@ -2,3 +2,4 @@ pub mod Tests
 pub mod BelowLaws
 pub mod PickLaws
 pub mod EachLaws
+pub mod OneLaws
