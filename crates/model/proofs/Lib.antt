@@ -4,3 +4,6 @@ pub mod Ranges
 pub mod Releasing
 pub mod PriorityLaws
 pub mod DirtyLaws
+pub mod PutLaws
+pub mod PinLaws
+pub mod ArrivalLaws
