@@ -2,3 +2,6 @@ pub mod Tests
 pub mod BelowLaws
 pub mod PickLaws
 pub mod EachLaws
+pub mod CountLaws
+pub mod OrderLaws
+pub mod PairLaws
