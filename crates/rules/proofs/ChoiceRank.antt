@@ -10,6 +10,7 @@ use Rattle.seq.specs.Order.{lexLess}
 use Rattle.seq.specs.declared.Found.{Found}
 use Rattle.seq.specs.declared.Found.the-variants.{At, Nowhere}
 use Rattle.seq.proofs.Tests.{true-false, not-true-false}
+use Rattle.seq.proofs.BoolLaws.{not-false-true}
 use Rattle.seq.proofs.PickLaws.{pick-is, pick-some, pick-first, first-pick}
 use Rattle.seq.proofs.OrderLaws.{less-lex, lex-strict, lex-trans, lex-total, ltb-strict, ltb-trans, ltb-total}
 use Rattle.model.specs.declared.Row.{Row}
@@ -79,13 +80,9 @@ module _ (s : State) (i : ℕ) where
       record {
         below = x .0;
         held = x .1;
-        first = λ r h q ne. not-false (outranks s b r) (λ w. ne (rank-total s r b
+        first = λ r h q ne. not-false-true (outranks s b r) (λ w. ne (rank-total s r b
             (pick-first (holds s i) (outranks s) (λ k _. rank-strict s k) (λ k l m _ _ _. rank-trans s k l m) 32 b r e h q) w));
       }
-    where
-      not-false : (x : Bool) → (x ≡ false → ⊥) → x ≡ true
-      not-false true f = refl
-      not-false false f = absurd (f refl)
 
   pub is-best : (b : ℕ) → Best s i b → bestHolder s i ≡ At b
   unfolding bestHolder

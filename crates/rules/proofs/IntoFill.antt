@@ -10,6 +10,7 @@ use Rattle.seq.specs.Below.{pickBelow, atFound}
 use Rattle.seq.specs.declared.Found.{Found}
 use Rattle.seq.specs.declared.Found.the-variants.{At, Nowhere}
 use Rattle.seq.proofs.Tests.{true-false, not-true-false, or-true-right}
+use Rattle.seq.proofs.BoolLaws.{cond-same}
 use Rattle.seq.proofs.PickLaws.{pick-is, pick-some, none-pick}
 use Rattle.model.specs.declared.Mode.{Mode}
 use Rattle.model.specs.declared.Cause.the-variants.{Taken}
@@ -62,10 +63,6 @@ marked-page page true x = go (x .content)
     go : (c : Content) → hasPage page (dirtiedContent c) ≡ hasPage page c
     go Empty = refl
     go (Filled p arrival dirty lowest) = refl
-
-cond-same : {A : Type 0} (b : Bool) (x : A) → cond b x x ≡ x
-cond-same true x = refl
-cond-same false x = refl
 
 -- what is left of a row, and of its holding on a page, when a slot is taken
 abbrev pub leftRow : State → ℕ → ℕ → Row

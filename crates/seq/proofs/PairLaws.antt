@@ -89,3 +89,17 @@ most-into n m p q f g h = most-least n p f (mostBelow m q g) (λ i b e.
     let y = most-bound m q g (x .0) (x .1) (x .2) in
     let z = x .3 in
     omega arith)
+
+-- tests and values that agree
+pub most-same : (n : ℕ) (p q : ℕ → Bool) (f g : ℕ → ℕ) → ((i : ℕ) → i < n → p i ≡ q i) → ((i : ℕ) → i < n → p i ≡ true → f i ≡ g i) → mostBelow n p f ≡ mostBelow n q g
+most-same n p q f g h k =
+    let a = most-into n n p q f g (λ i b e. (i, b, sym (h i b) ∙ e, k i b e)) in
+    let b = most-into n n q p g f (λ i b e. (i, b, h i b ∙ e, sym (k i b (h i b ∙ e)))) in
+    omega arith
+
+-- tests and values that agree where the numbers correspond
+pub most-paired : (n m : ℕ) (R : ℕ → ℕ → Type 0) → Both n m R → (p q : ℕ → Bool) (f g : ℕ → ℕ) → ((i j : ℕ) → R i j → p i ≡ q j) → ((i j : ℕ) → R i j → f i ≡ g j) → mostBelow n p f ≡ mostBelow m q g
+most-paired n m R b p q f g h k =
+    let x = most-into n m p q f g (λ i c e. let w = b .there i c in (w .0, w .1, sym (h i (w .0) (w .2)) ∙ e, k i (w .0) (w .2))) in
+    let y = most-into m n q p g f (λ j c e. let w = b .back j c in (w .0, w .1, h (w .0) j (w .2) ∙ e, sym (k (w .0) j (w .2)))) in
+    omega arith
