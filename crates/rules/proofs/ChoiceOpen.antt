@@ -1,25 +1,25 @@
 -- Where a slot is open to a clearance at or above the requester's level, the chosen slot is one that is open to it.
 use mathlib.Core.Path.{_≡_, refl, sym, _∙_, ap}
-use mathlib.Core.Bool.{Bool, true, false, cond, _&&_, not}
-use Prim.Native.Nat.{ℕ, _+_, _*_, _<_, _≤_}
+use mathlib.Core.Bool.{Bool, true, false, not}
+use Prim.Native.Nat.{ℕ, _<_, _≤_}
 use native.Mathlib.Omega.{arith}
 use native.Mathlib.Decide.{decLt}
 use borrow.Author.Tests.{eqb-true, eq-eqb, not-true, not-false}
-use lib.Dec.{leb, ltb, eqb}
-use Rattle.seq.specs.Below.{anyBelow, pickBelow, atFound}
+use lib.Dec.{eqb}
+use Rattle.seq.specs.Below.{anyBelow}
 use Rattle.seq.specs.declared.Found.{Found}
 use Rattle.seq.specs.declared.Found.the-variants.{At, Nowhere}
 use Rattle.seq.proofs.Tests.{true-false, not-true-false, and-true, both-true, parts}
-use Rattle.seq.proofs.BelowLaws.{any-hit, hit-any, any-none}
-use Rattle.seq.proofs.PickLaws.{pick-is, pick-none, pick-some, at-nowhere}
-use Rattle.seq.proofs.PairLaws.{mostBelow, most-bound, most-at}
+use Rattle.seq.proofs.BelowLaws.{any-hit, any-none}
+use Rattle.seq.proofs.PickLaws.{pick-is, pick-none}
+use Rattle.seq.proofs.PairLaws.{most-bound, most-at}
 use Rattle.model.specs.declared.State.{State}
 use Rattle.model.specs.Parties.{levelOf}
 use Rattle.model.specs.State.{slotAt}
-use Rattle.model.specs.Words.{isFilled, holds, seen, dormant, bestHolder}
+use Rattle.model.specs.Words.{isFilled, holds, seen, dormant}
 use Rattle.rules.specs.Choice.{orElse, stepA, stepB, beforeDormant, holderLevel, heldAbove, highestLevel, pinnedAt, inC, inD, inE, inF, beforeHeld, stepHeld, chosen}
 use Rattle.rules.proofs.SoundFacts.{Sound}
-use Rattle.rules.proofs.IntoSeen.{seen-by, by-seen, not-seen, none-seen}
+use Rattle.rules.proofs.IntoSeen.{not-seen, none-seen}
 use Rattle.rules.proofs.ChoiceRank.{best-is, best-some, best-level, holder-level}
 
 -- what one search or else another found has a property, if what the first found has, and the second where the first found nothing
@@ -74,13 +74,15 @@ module _ (s : State) (z : Sound s) (L me : ℕ) (low : levelOf me ≤ L) where
   -- a slot held only above the requester's level, by a best holder above the clearance
   above-fine : (i : ℕ) → i < s .size → heldAbove s me i ≡ true → L < holderLevel s i → Fine i
   unfolding Fine heldAbove
-  above-fine i h a l =
-      (h, none-seen s L i (λ r b m. not-true-false (holds s i r) (λ q.
-      let k = best-some s i r b q in
-      let w = holder-level s i (k .0) (k .1) in
-      let v = best-level s i (k .0) r (k .1) b q in
-      let bad : ⊥ = omega arith in
-      bad)))
+  above-fine i h a l = (
+    h,
+    none-seen s L i (λ r b m. not-true-false (holds s i r) (λ q.
+        let k = best-some s i r b q in
+        let w = holder-level s i (k .0) (k .1) in
+        let v = best-level s i (k .0) r (k .1) b q in
+        let bad : ⊥ = omega arith in
+        bad)),
+  )
 
   held-fine : (some : ℕ → Bool) (i : ℕ) → stepHeld s some ≡ At i → (some i ≡ true → (heldAbove s me i ≡ true) × (L < holderLevel s i)) → Fine i
   unfolding stepHeld

@@ -1,15 +1,14 @@
 -- The order of steps c to f is strict and total on held slots: priority of the best holder, then touch, then page.
 use mathlib.Core.Path.{_≡_, refl, sym, _∙_, ap}
-use mathlib.Core.Bool.{Bool, true, false, cond, _&&_, not}
-use Prim.Native.Nat.{ℕ, _+_, _*_, _<_, _≤_}
+use mathlib.Core.Bool.{Bool, true, false}
+use Prim.Native.Nat.{ℕ, _<_}
 use native.Mathlib.Omega.{arith}
 use native.Mathlib.Decide.{ℕ-discrete}
 use borrow.Author.Tests.{eq-eqb, ne-eqb}
-use lib.Dec.{leb, ltb, eqb}
+use lib.Dec.{ltb}
 use Rattle.seq.specs.Below.{anyBelow}
 use Rattle.seq.specs.Order.{lexLess}
-use Rattle.seq.specs.declared.Found.{Found}
-use Rattle.seq.specs.declared.Found.the-variants.{At, Nowhere}
+use Rattle.seq.specs.declared.Found.the-variants.{At}
 use Rattle.seq.proofs.Tests.{true-false}
 use Rattle.seq.proofs.BoolLaws.{not-false-true}
 use Rattle.seq.proofs.BelowLaws.{any-hit}
@@ -17,7 +16,7 @@ use Rattle.seq.proofs.OrderLaws.{lex-strict, lex-trans, lex-total, ltb-strict, 
 use Rattle.seq.proofs.PairLaws.{Ordered}
 use Rattle.model.specs.declared.State.{State}
 use Rattle.model.specs.State.{slotAt}
-use Rattle.model.specs.Words.{isFilled, pageIn, holds, outranks, bestHolder, latestTouch}
+use Rattle.model.specs.Words.{pageIn, holds, outranks, bestHolder, latestTouch}
 use Rattle.rules.specs.Choice.{holderLevel, worse, beforeHeld}
 use Rattle.rules.proofs.SoundFacts.{Sound}
 use Rattle.rules.proofs.ChoiceRank.{rank-strict, rank-trans, rank-total, best-some}

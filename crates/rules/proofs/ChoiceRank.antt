@@ -1,15 +1,13 @@
 -- Priority is a strict total order of the rows, level first; the best holder of a slot.
-use mathlib.Core.Path.{_≡_, refl, sym, _∙_, ap}
-use mathlib.Core.Bool.{Bool, true, false, cond}
-use Prim.Native.Nat.{ℕ, _+_, _*_, _<_, _≤_}
+use mathlib.Core.Path.{_≡_, sym, _∙_, ap}
+use mathlib.Core.Bool.{true, false}
+use Prim.Native.Nat.{ℕ, _<_, _≤_}
 use native.Mathlib.Omega.{arith}
 use native.Mathlib.Decide.{ℕ-discrete, decLt}
-use lib.Dec.{leb, ltb, eqb}
-use Rattle.seq.specs.Below.{anyBelow, pickBelow, atFound}
+use lib.Dec.{ltb}
 use Rattle.seq.specs.Order.{lexLess}
-use Rattle.seq.specs.declared.Found.{Found}
-use Rattle.seq.specs.declared.Found.the-variants.{At, Nowhere}
-use Rattle.seq.proofs.Tests.{true-false, not-true-false}
+use Rattle.seq.specs.declared.Found.the-variants.{At}
+use Rattle.seq.proofs.Tests.{true-false}
 use Rattle.seq.proofs.BoolLaws.{not-false-true}
 use Rattle.seq.proofs.PickLaws.{pick-is, pick-some, pick-first, first-pick}
 use Rattle.seq.proofs.OrderLaws.{less-lex, lex-strict, lex-trans, lex-total, ltb-strict, ltb-trans, ltb-total}
@@ -41,8 +39,8 @@ module _ (s : State) where
   unfolding outranks better
   rank-total r q e f =
       let x = lex-total (levelOf r) (levelOf q)
-          (lexLess (rowAt s r .deadline) (rowAt s q .deadline) (ltb (numberOf r) (numberOf q)))
-          (lexLess (rowAt s q .deadline) (rowAt s r .deadline) (ltb (numberOf q) (numberOf r))) e f in
+      (lexLess (rowAt s r .deadline) (rowAt s q .deadline) (ltb (numberOf r) (numberOf q)))
+      (lexLess (rowAt s q .deadline) (rowAt s r .deadline) (ltb (numberOf q) (numberOf r))) e f in
       let y = lex-total (rowAt s r .deadline) (rowAt s q .deadline) (ltb (numberOf r) (numberOf q)) (ltb (numberOf q) (numberOf r)) (x .1) (x .2) in
       last (x .0) (ltb-total (numberOf r) (numberOf q) (y .1) (y .2))
     where
@@ -53,12 +51,6 @@ module _ (s : State) where
   pub level-rank : (r q : ℕ) → levelOf r < levelOf q → outranks s r q ≡ true
   unfolding outranks better
   level-rank r q h = less-lex (levelOf r) (levelOf q) (lexLess (rowAt s r .deadline) (rowAt s q .deadline) (ltb (numberOf r) (numberOf q))) h
-
-  pub rank-level : (r q : ℕ) → outranks s r q ≡ false → levelOf q ≤ levelOf r
-  rank-level r q e = elim (decLt (levelOf r) (levelOf q)) [
-    | yes h ↦ true-false (sym (level-rank r q h) ∙ e)
-    | no h ↦ omega arith
-  ]
 
 pub rank-same : (s t : State) (r q : ℕ) → rowAt s r ≡ rowAt t r → rowAt s q ≡ rowAt t q → outranks s r q ≡ outranks t r q
 unfolding outranks

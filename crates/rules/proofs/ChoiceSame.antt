@@ -1,21 +1,19 @@
 -- Two alike states in which L sees every slot: the slots chosen have the same page, or none is chosen in either.
-use mathlib.Core.Path.{_≡_, refl, sym, _∙_, ap}
-use mathlib.Core.Bool.{Bool, true, false, cond, _&&_, _||_, not}
-use Prim.Native.Nat.{ℕ, _+_, _*_, _<_, _≤_}
+use mathlib.Core.Path.{_≡_, _∙_, ap}
+use mathlib.Core.Bool.{Bool, true, false, not}
+use Prim.Native.Nat.{ℕ, _<_, _≤_}
 use native.Mathlib.Omega.{arith}
-use lib.Dec.{leb, ltb, eqb}
-use Rattle.seq.specs.Below.{anyBelow, pickBelow}
+use Rattle.seq.specs.Below.{anyBelow}
 use Rattle.seq.specs.declared.Found.{Found}
 use Rattle.seq.specs.declared.Found.the-variants.{At, Nowhere}
-use Rattle.seq.proofs.Tests.{true-false, parts}
-use Rattle.seq.proofs.BelowLaws.{any-hit}
+use Rattle.seq.proofs.Tests.{parts}
 use Rattle.seq.proofs.PickLaws.{none-pick}
-use Rattle.seq.proofs.PairLaws.{Paired, Both, pick-paired, mostBelow, most-least, most-paired}
+use Rattle.seq.proofs.PairLaws.{Paired, Both, pick-paired, most-least, most-paired}
 use Rattle.model.specs.declared.State.{State}
 use Rattle.model.specs.Parties.{levelOf}
 use Rattle.model.specs.State.{slotAt}
-use Rattle.model.specs.Words.{isFilled, holds, pins, seen, dormant}
-use Rattle.rules.specs.Choice.{orElse, stepA, stepB, beforeDormant, holderLevel, heldAbove, highestLevel, pinnedAt, inC, inD, heldAtOwnLevel, seenPin, inE, inF, beforeHeld, stepHeld, chosen}
+use Rattle.model.specs.Words.{isFilled, holds, seen, dormant}
+use Rattle.rules.specs.Choice.{orElse, stepA, stepB, beforeDormant, holderLevel, heldAbove, highestLevel, pinnedAt, inC, inD, heldAtOwnLevel, inE, inF, beforeHeld, stepHeld, chosen}
 use Rattle.rules.proofs.SoundFacts.{Sound}
 use Rattle.rules.proofs.Alike.{Alike}
 use Rattle.rules.proofs.IntoSeen.{Twin, twin-back, twin-of, alike-back, seen-by}

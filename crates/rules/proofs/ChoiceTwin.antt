@@ -1,30 +1,27 @@
 -- Slots of two alike states that have one page, seen by L: what steps c to f ask of them is the same.
-use mathlib.Core.Path.{_≡_, refl, sym, _∙_, ap}
-use mathlib.Core.Bool.{Bool, true, false, cond, _&&_, _||_, not}
-use Prim.Native.Nat.{ℕ, _+_, _*_, _<_, _≤_}
+use mathlib.Core.Path.{_≡_, sym, _∙_, ap}
+use mathlib.Core.Bool.{Bool, true, cond, _&&_, _||_, not}
+use Prim.Native.Nat.{ℕ, _<_, _≤_}
 use native.Mathlib.Omega.{arith}
 use native.Mathlib.Decide.{decLt}
-use borrow.Author.Tests.{leb-true, le-leb, lt-leb, eqb-true}
-use lib.Dec.{leb, ltb, eqb}
-use Rattle.seq.specs.Below.{anyBelow, allBelow, atFound}
-use Rattle.seq.specs.Order.{lexLess}
-use Rattle.seq.specs.declared.Found.{Found}
-use Rattle.seq.specs.declared.Found.the-variants.{At, Nowhere}
-use Rattle.seq.proofs.Tests.{true-false, and-true}
-use Rattle.seq.proofs.BoolLaws.{and-when, or-unless}
+use borrow.Author.Tests.{leb-true, eqb-true}
+use lib.Dec.{leb, eqb}
+use Rattle.seq.specs.Below.{anyBelow, allBelow}
+use Rattle.seq.specs.declared.Found.the-variants.{At}
+use Rattle.seq.proofs.Tests.{and-true}
+use Rattle.seq.proofs.BoolLaws.{and-when}
 use Rattle.seq.proofs.BelowLaws.{hit-any, any-same, all-same}
 use Rattle.seq.proofs.PairLaws.{most-same}
 use Rattle.model.specs.declared.Holding.{Holding}
 use Rattle.model.specs.declared.State.{State}
 use Rattle.model.specs.Parties.{levelOf}
-use Rattle.model.specs.State.{rowAt, slotAt, holdingAt}
-use Rattle.model.specs.Words.{isHeld, isPin, pageIn, holds, pins, seenHolder, seen, outranks, bestHolder, latestTouch}
+use Rattle.model.specs.State.{holdingAt}
+use Rattle.model.specs.Words.{isHeld, isPin, holds, pins, seenHolder, seen, outranks, bestHolder, latestTouch}
 use Rattle.rules.specs.Choice.{holderLevel, heldAbove, pinnedAt, heldAtOwnLevel, seenPin, worse, beforeHeld}
-use Rattle.rules.proofs.SoundFacts.{Sound}
 use Rattle.rules.proofs.Alike.{Alike}
 use Rattle.rules.proofs.IntoSeen.{Twin, seen-by}
 use Rattle.rules.proofs.ChoiceRank.{Best, rank-same, level-rank, best-is, is-best, best-some, best-level, holder-level}
-use Rattle.rules.proofs.ChoiceOrder.{touchOf, pageAt, nextBefore, before-held}
+use Rattle.rules.proofs.ChoiceOrder.{touchOf, nextBefore, before-held}
 
 -- a slot that a level sees is held
 pub seen-held : (s : State) (L i : ℕ) → seen s L i ≡ true → anyBelow 32 (holds s i) ≡ true
@@ -71,9 +68,9 @@ module _ (L : ℕ) (s t : State) (a : Alike L s t) where
         let p : ℕ → Bool = λ o. not (seenHolder s (levelOf me) i o) || (eqb (levelOf o) (levelOf me) && not (outranks s o me)) in
         let q : ℕ → Bool = λ o. not (seenHolder t (levelOf me) j o) || (eqb (levelOf o) (levelOf me) && not (outranks t o me)) in
         let e : allBelow 32 p ≡ allBelow 32 q = all-same p q 32 (λ o c.
-            ap (λ (x : Bool). not x || (eqb (levelOf o) (levelOf me) && not (outranks s o me))) (twin-holder (levelOf me) l o c)
-            ∙ ap (λ (x : Bool). not (seenHolder t (levelOf me) j o) || x)
-            (and-when (eqb (levelOf o) (levelOf me)) (not (outranks s o me)) (not (outranks t o me)) (λ v. ap not (alike-rank o me c b (let u = eqb-true (levelOf o) (levelOf me) v in omega arith) l)))) in
+        ap (λ (x : Bool). not x || (eqb (levelOf o) (levelOf me) && not (outranks s o me))) (twin-holder (levelOf me) l o c)
+        ∙ ap (λ (x : Bool). not (seenHolder t (levelOf me) j o) || x)
+        (and-when (eqb (levelOf o) (levelOf me)) (not (outranks s o me)) (not (outranks t o me)) (λ v. ap not (alike-rank o me c b (let u = eqb-true (levelOf o) (levelOf me) v in omega arith) l)))) in
         ap (λ (x : Bool). x && allBelow 32 p) (twin-seen (levelOf me) l) ∙ ap (λ (x : Bool). seen t (levelOf me) j && x) e
 
     -- the best holder is of a level up to L

@@ -1,12 +1,11 @@
 -- A slot that is taken for a new page: what is left of the rows and of the holdings on each page, and the grant on it.
 use mathlib.Core.Path.{_≡_, refl, sym, _∙_, ap}
-use mathlib.Core.Bool.{Bool, true, false, cond, _&&_, _||_, not}
-use Prim.Native.Nat.{ℕ, _+_, _*_, _<_, _≤_}
+use mathlib.Core.Bool.{Bool, true, false, cond, _||_}
+use Prim.Native.Nat.{ℕ, _<_, _≤_}
 use native.Mathlib.Omega.{arith}
 use native.Mathlib.Decide.{ℕ-discrete}
-use borrow.Author.Tests.{eqb-true, eqb-false, eq-eqb, ne-eqb}
-use lib.Dec.{leb, eqb}
-use Rattle.seq.specs.Below.{pickBelow, atFound}
+use borrow.Author.Tests.{eq-eqb, ne-eqb}
+use lib.Dec.{eqb}
 use Rattle.seq.specs.declared.Found.{Found}
 use Rattle.seq.specs.declared.Found.the-variants.{At, Nowhere}
 use Rattle.seq.proofs.Tests.{true-false, not-true-false, or-true-right}
@@ -21,12 +20,12 @@ use Rattle.model.specs.declared.Slot.{Slot}
 use Rattle.model.specs.declared.Holding.{Holding}
 use Rattle.model.specs.declared.State.{State}
 use Rattle.model.specs.Parties.{levelOf}
-use Rattle.model.specs.State.{emptyHolding, rowAt, slotAt, holdingAt, putSlot}
-use Rattle.model.specs.Words.{isFilled, pageIn, hasPage, isHeld, holds, pins, slotOf}
+use Rattle.model.specs.State.{emptyHolding, rowAt, slotAt, holdingAt}
+use Rattle.model.specs.Words.{hasPage, isHeld, pins, slotOf}
 use Rattle.model.specs.Changes.{dirtied, dirtiedContent, released, killed, killedRow, cleared}
 use Rattle.model.proofs.StateLaws.{Sized, slot-put, sized-put-slot}
 use Rattle.model.proofs.ChangeLaws.{wroteSlot, killed-row, killed-slot, killed-holding, sized-killed, cleared-holding, sized-cleared}
-use Rattle.rules.specs.Calls.{granted, pinnersKilled, writeBack, filled, intoSlot}
+use Rattle.rules.specs.Calls.{pinnersKilled, writeBack, filled, intoSlot}
 use Rattle.rules.proofs.SoundFacts.{Sound}
 use Rattle.rules.proofs.Alike.{holdingOn}
 use Rattle.rules.proofs.PageLaws.{has-page, page-has, found-slot, not-found}
@@ -75,6 +74,9 @@ module _ (s : State) (z : Sound s) (slot page level : ℕ) (b : slot < s .size) 
   refilled : State
   refilled = filled (pinnersKilled s slot) slot page level
 
+  newSlot : Slot
+  newSlot = record { content = Filled page (dueTick (pinnersKilled s slot)) false level; touch = pinnersKilled s slot .clock }
+
   refilled-size : refilled .size ≡ s .size
   unfolding refilled filled pinnersKilled killed released cleared
   refilled-size = refl
@@ -92,8 +94,8 @@ module _ (s : State) (z : Sound s) (slot page level : ℕ) (b : slot < s .size) 
   sized-kills = sized-killed (pins s slot) s (z .sized) Taken
 
   sized-refilled : Sized refilled
-  unfolding refilled filled
-  sized-refilled = sized-put-slot (cleared slot (pinnersKilled s slot)) (sized-cleared slot (pinnersKilled s slot) sized-kills) slot (record { content = Filled page (dueTick (pinnersKilled s slot)) false level; touch = pinnersKilled s slot .clock })
+  unfolding refilled filled newSlot
+  sized-refilled = sized-put-slot (cleared slot (pinnersKilled s slot)) (sized-cleared slot (pinnersKilled s slot) sized-kills) slot newSlot
 
   refilled-row : (r : ℕ) → r < 32 → rowAt refilled r ≡ leftRow s slot r
   unfolding refilled filled cleared pinnersKilled
@@ -104,9 +106,6 @@ module _ (s : State) (z : Sound s) (slot page level : ℕ) (b : slot < s .size) 
   refilled-holding j r h =
       cleared-holding slot (killed (pins s slot) Taken s) sized-kills j r h
       ∙ ap (λ (x : Holding). cond (eqb j slot) emptyHolding x) (killed-holding (pins s slot) s (z .sized) Taken j r h)
-
-  newSlot : Slot
-  newSlot = record { content = Filled page (dueTick (pinnersKilled s slot)) false level; touch = pinnersKilled s slot .clock }
 
   kept-page : (other j : ℕ) → j < 64 → hasPage other (slotAt (cleared slot (pinnersKilled s slot)) j .content) ≡ hasPage other (slotAt s j .content)
   unfolding cleared pinnersKilled
@@ -178,7 +177,7 @@ module _ (s : State) (z : Sound s) (slot page level : ℕ) (b : slot < s .size) 
       old i m e =
           let f = found-slot s other i e in
           let p : hasPage other (slotAt s slot .content) ≡ false = not-true-false (hasPage other (slotAt s slot .content)) (λ q.
-              m (one-has s z other i slot (f .0) b (has-page other (slotAt s i .content) (f .1) (f .2)) q)) in
+          m (one-has s z other i slot (f .0) b (has-page other (slotAt s i .content) (f .1) (f .2)) q)) in
           rw (p, on-slot s other i r e) (last (pins s slot r))
         where
           last : (x : Bool) → cond x emptyHolding (holdingAt s i r) ≡ cond (x || false) emptyHolding (holdingAt s i r)

@@ -1,12 +1,10 @@
 -- What a clearance sees of a fetch: the requester's row and its new holding, beside what the rows and holdings were left as.
-use mathlib.Core.Path.{_≡_, refl, sym, _∙_, ap}
-use mathlib.Core.Bool.{Bool, true, false, cond, _&&_, _||_, not}
-use Prim.Native.Nat.{ℕ, _+_, _*_, _<_, _≤_}
-use native.Mathlib.Omega.{arith}
+use mathlib.Core.Path.{_≡_, sym, _∙_, ap}
+use mathlib.Core.Bool.{cond, _&&_, not}
+use Prim.Native.Nat.{ℕ, _+_, _<_, _≤_}
 use lib.Dec.{eqb}
 use Rattle.model.specs.declared.Mode.{Mode}
 use Rattle.model.specs.declared.Back.the-variants.{Nothing}
-use Rattle.model.specs.declared.Answer.{Answer}
 use Rattle.model.specs.declared.Answer.the-variants.{Fetch}
 use Rattle.model.specs.declared.Condition.the-variants.{Fetching}
 use Rattle.model.specs.declared.Outcome.{Outcome}
@@ -14,9 +12,9 @@ use Rattle.model.specs.declared.Row.{Row}
 use Rattle.model.specs.declared.Holding.{Holding}
 use Rattle.model.specs.declared.State.{State}
 use Rattle.model.specs.Parties.{levelOf}
-use Rattle.model.specs.State.{rowAt, holdingAt}
+use Rattle.model.specs.State.{rowAt}
 use Rattle.model.specs.Words.{pinOf}
-use Rattle.rules.specs.Answers.{Told, told}
+use Rattle.rules.specs.Answers.{told}
 use Rattle.rules.proofs.Alike.{holdingOn, Alike}
 
 -- the tick when a page not seen arrives
@@ -46,23 +44,25 @@ pub gains-same : (L : ℕ) (s t : State) (me page : ℕ) (mode : Mode) (rows row
     → (told (o .answer) ≡ told (o′ .answer)) × Alike L (o .state) (o′ .state)
 gains-same L s t me page mode rows rows′ held held′ o o′ b low a f g x y =
     let due : dueTick s ≡ dueTick t = rw (a .clock, a .delay) in
-    let new : newHolding s mode ≡ newHolding t mode = (λ j. record { pin = pinOf mode; arrival = due j; touch = a .clock j }) in
-    (x .answer ∙ ap (λ (n : ℕ). told (Fetch n 0 Nothing)) due ∙ sym (y .answer), record {
-      size = x .size ∙ a .size ∙ sym (y .size);
-      delay = x .delay ∙ a .delay ∙ sym (y .delay);
-      clock = x .clock ∙ a .clock ∙ sym (y .clock);
-      row = λ r h l.
-          x .row r h l
-          ∙ ap (λ (n : ℕ). cond (eqb r me) (fetchingRow n (rows me)) (rows r)) due
-          ∙ ap (λ (w : Row). cond (eqb r me) (fetchingRow (dueTick t) w) (rows r)) (f me b low)
-          ∙ ap (λ (w : Row). cond (eqb r me) (fetchingRow (dueTick t) (rows′ me)) w) (f r h l)
-          ∙ sym (y .row r h l);
-      holding = λ other r h l.
-          x .holding other r h l
-          ∙ ap (λ (w : Holding). cond (eqb other page && eqb r me) w (held other r)) new
-          ∙ ap (λ (w : Holding). cond (eqb other page && eqb r me) (newHolding t mode) w) (g other r h l)
-          ∙ sym (y .holding other r h l);
-    })
+    let new : newHolding s mode ≡ newHolding t mode = (λ j. record { pin = pinOf mode; arrival = due j; touch = a .clock j }) in (
+      x .answer ∙ ap (λ (n : ℕ). told (Fetch n 0 Nothing)) due ∙ sym (y .answer),
+      record {
+        size = x .size ∙ a .size ∙ sym (y .size);
+        delay = x .delay ∙ a .delay ∙ sym (y .delay);
+        clock = x .clock ∙ a .clock ∙ sym (y .clock);
+        row = λ r h l.
+            x .row r h l
+            ∙ ap (λ (n : ℕ). cond (eqb r me) (fetchingRow n (rows me)) (rows r)) due
+            ∙ ap (λ (w : Row). cond (eqb r me) (fetchingRow (dueTick t) w) (rows r)) (f me b low)
+            ∙ ap (λ (w : Row). cond (eqb r me) (fetchingRow (dueTick t) (rows′ me)) w) (f r h l)
+            ∙ sym (y .row r h l);
+        holding = λ other r h l.
+            x .holding other r h l
+            ∙ ap (λ (w : Holding). cond (eqb other page && eqb r me) w (held other r)) new
+            ∙ ap (λ (w : Holding). cond (eqb other page && eqb r me) (newHolding t mode) w) (g other r h l)
+            ∙ sym (y .holding other r h l);
+      },
+    )
 
 -- the same rows and holdings said otherwise
 pub gains-as : (L : ℕ) (s : State) (me page : ℕ) (mode : Mode) (rows rows′ : ℕ → Row) (held held′ : ℕ → ℕ → Holding) (o : Outcome) → me < 32 → levelOf me ≤ L

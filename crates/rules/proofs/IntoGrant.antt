@@ -1,24 +1,20 @@
 -- A grant to a row that does not hold the slot, due after the delay; the grant of step 3 on a slot that has the page.
-use mathlib.Core.Path.{_≡_, refl, sym, _∙_, ap}
+use mathlib.Core.Path.{_≡_, refl, _∙_, ap}
 use mathlib.Core.Bool.{Bool, true, false, cond, _&&_, _||_, not}
-use Prim.Native.Nat.{ℕ, _+_, _*_, _<_, _≤_}
+use Prim.Native.Nat.{ℕ, _<_, _≤_}
 use native.Mathlib.Omega.{arith}
 use borrow.Author.Tests.{lt-leb}
 use lib.Dec.{leb, eqb}
-use Rattle.seq.specs.declared.Found.{Found}
-use Rattle.seq.specs.declared.Found.the-variants.{At, Nowhere}
+use Rattle.seq.specs.declared.Found.the-variants.{At}
 use Rattle.seq.proofs.Tests.{true-false, and-false-right}
 use Rattle.model.specs.declared.Mode.{Mode}
 use Rattle.model.specs.declared.Cause.the-variants.{Taken}
 use Rattle.model.specs.declared.Back.{Back}
 use Rattle.model.specs.declared.Back.the-variants.{Nothing}
-use Rattle.model.specs.declared.Answer.{Answer}
-use Rattle.model.specs.declared.Answer.the-variants.{Ready, Fetch}
-use Rattle.model.specs.declared.Condition.{Condition}
+use Rattle.model.specs.declared.Answer.the-variants.{Fetch}
 use Rattle.model.specs.declared.Condition.the-variants.{Idle, Fetching}
 use Rattle.model.specs.declared.Pin.{Pin}
 use Rattle.model.specs.declared.Pin.the-variants.{Absent, Unpinned, Read, Write}
-use Rattle.model.specs.declared.Row.{Row}
 use Rattle.model.specs.declared.Holding.{Holding}
 use Rattle.model.specs.declared.State.{State}
 use Rattle.model.specs.Parties.{levelOf}
@@ -27,13 +23,13 @@ use Rattle.model.specs.Words.{isHeld, isPin, isWrite, pinOf, conflict, holds, s
 use Rattle.model.specs.Changes.{killed, killedRow}
 use Rattle.model.proofs.StateLaws.{Sized}
 use Rattle.model.proofs.ChangeLaws.{killed-row, killed-holding, sized-killed, killed-clock, killed-delay, killed-size}
-use Rattle.rules.specs.Answers.{Told, told, word, value}
+use Rattle.rules.specs.Answers.{told, word, value}
 use Rattle.rules.specs.Calls.{heldWith, granted, conflicts, step3}
 use Rattle.rules.proofs.SoundFacts.{Sound}
 use Rattle.rules.proofs.Alike.{holdingOn}
 use Rattle.rules.proofs.PageLaws.{found-slot, killed-slot-of, killed-on}
-use Rattle.rules.proofs.GrantLaws.{grantedHolding, grantedRow, granted-row, granted-on, granted-size, granted-delay, granted-clock}
-use Rattle.rules.proofs.IntoGain.{dueTick, fetchingRow, newHolding, Gains, gains-as}
+use Rattle.rules.proofs.GrantLaws.{grantedHolding, granted-row, granted-on, granted-size, granted-delay, granted-clock}
+use Rattle.rules.proofs.IntoGain.{dueTick, newHolding, Gains, gains-as}
 use Rattle.rules.proofs.IntoSeen.{not-seen}
 
 -- the slot and the page to write back are not told

@@ -1,7 +1,7 @@
 -- A request by a row up to L for a page that no row up to L holds: alike states give L the same answer and stay alike.
-use mathlib.Core.Path.{_≡_, refl, sym, _∙_, ap, subst}
-use mathlib.Core.Bool.{Bool, true, false, cond, _&&_, _||_, not}
-use Prim.Native.Nat.{ℕ, _+_, _*_, _<_, _≤_}
+use mathlib.Core.Path.{_≡_, refl, sym, _∙_, ap}
+use mathlib.Core.Bool.{Bool, true, false, cond, _||_}
+use Prim.Native.Nat.{ℕ, _<_, _≤_}
 use native.Mathlib.Omega.{arith}
 use borrow.Author.Tests.{not-false}
 use lib.Dec.{eqb}
@@ -21,18 +21,18 @@ use Rattle.model.specs.declared.Row.{Row}
 use Rattle.model.specs.declared.Holding.{Holding}
 use Rattle.model.specs.declared.State.{State}
 use Rattle.model.specs.Parties.{levelOf}
-use Rattle.model.specs.State.{emptyHolding, rowAt, slotAt, holdingAt, putRow}
+use Rattle.model.specs.State.{emptyHolding, rowAt, slotAt}
 use Rattle.model.specs.Words.{isLive, isFilled, pageIn, hasPage, isHeld, pins, seen, isOpen, slotOf}
 use Rattle.model.specs.Changes.{killedRow}
 use Rattle.model.proofs.StateLaws.{Sized, row-put}
-use Rattle.rules.specs.Answers.{Told, told}
+use Rattle.rules.specs.Answers.{told}
 use Rattle.rules.specs.Choice.{chosen}
 use Rattle.rules.specs.Calls.{waiting, intoSlot, served}
 use Rattle.rules.proofs.SoundFacts.{Sound}
 use Rattle.rules.proofs.Alike.{holdingOn, Alike}
 use Rattle.rules.proofs.PageLaws.{found-slot}
 use Rattle.rules.proofs.IntoSeen.{Twin, alike-back, open-seen, open-alike}
-use Rattle.rules.proofs.IntoGain.{Gains, gains-same}
+use Rattle.rules.proofs.IntoGain.{gains-same}
 use Rattle.rules.proofs.IntoFill.{leftRow, leftHolding, into-gains}
 use Rattle.rules.proofs.IntoOpen.{Nobody, nobody-seen, served-absent, open-gains}
 use Rattle.rules.proofs.ChoiceTwin.{twin-pins}
@@ -54,18 +54,20 @@ waiting-on s me page mode other q = refl
 
 pub waiting-same : (L : ℕ) (s t : State) → Sized s → Sized t → Alike L s t → (me page : ℕ) (mode : Mode) → me < 32 → levelOf me ≤ L → Same L (waiting s me page mode) (waiting t me page mode)
 unfolding waiting
-waiting-same L s t z y a me page mode b low =
-    (refl, record {
-      size = a .size;
-      delay = a .delay;
-      clock = a .clock;
-      row = λ q h l.
-          waiting-row s z me page mode q b
-          ∙ ap (λ (x : Row). cond (eqb q me) (record { condition = Waiting page mode; deadline = x .deadline }) (rowAt s q)) (a .row me b low)
-          ∙ ap (λ (x : Row). cond (eqb q me) (record { condition = Waiting page mode; deadline = rowAt t me .deadline }) x) (a .row q h l)
-          ∙ sym (waiting-row t y me page mode q b);
-      holding = λ other q h l. waiting-on s me page mode other q ∙ a .holding other q h l ∙ sym (waiting-on t me page mode other q);
-    })
+waiting-same L s t z y a me page mode b low = (
+  refl,
+  record {
+    size = a .size;
+    delay = a .delay;
+    clock = a .clock;
+    row = λ q h l.
+        waiting-row s z me page mode q b
+        ∙ ap (λ (x : Row). cond (eqb q me) (record { condition = Waiting page mode; deadline = x .deadline }) (rowAt s q)) (a .row me b low)
+        ∙ ap (λ (x : Row). cond (eqb q me) (record { condition = Waiting page mode; deadline = rowAt t me .deadline }) x) (a .row q h l)
+        ∙ sym (waiting-row t y me page mode q b);
+    holding = λ other q h l. waiting-on s me page mode other q ∙ a .holding other q h l ∙ sym (waiting-on t me page mode other q);
+  },
+)
 
 has-same : (other : ℕ) (c d : Content) → isFilled c ≡ true → isFilled d ≡ true → pageIn c ≡ pageIn d → hasPage other c ≡ hasPage other d
 has-same other Empty d f g e = true-false (sym f)

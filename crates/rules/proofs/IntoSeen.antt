@@ -1,21 +1,20 @@
 -- What a level sees of a slot; the slot with the same page in an alike state; the count of open slots agrees.
 use mathlib.Core.Path.{_≡_, refl, sym, _∙_, ap}
-use mathlib.Core.Bool.{Bool, true, false, cond, _&&_, _||_, not}
-use Prim.Native.Nat.{ℕ, _+_, _*_, _<_, _≤_}
+use mathlib.Core.Bool.{true, false}
+use Prim.Native.Nat.{ℕ, _+_, _<_, _≤_}
 use native.Mathlib.Omega.{arith}
 use borrow.Author.Tests.{leb-true, le-leb, not-true}
-use lib.Dec.{leb, eqb}
-use Rattle.seq.specs.Below.{anyBelow, countBelow, atFound}
+use lib.Dec.{leb}
+use Rattle.seq.specs.Below.{anyBelow, countBelow}
 use Rattle.seq.specs.declared.Found.{Found}
 use Rattle.seq.specs.declared.Found.the-variants.{At, Nowhere}
 use Rattle.seq.proofs.Tests.{true-false, and-true, both-true, not-true-false}
-use Rattle.seq.proofs.BelowLaws.{any-hit, hit-any, any-none, none-any}
+use Rattle.seq.proofs.BelowLaws.{any-hit, hit-any}
 use Rattle.seq.proofs.CountLaws.{count-not, count-into, any-count}
-use Rattle.model.specs.declared.Pin.{Pin}
 use Rattle.model.specs.declared.Holding.{Holding}
 use Rattle.model.specs.declared.State.{State}
 use Rattle.model.specs.Parties.{levelOf}
-use Rattle.model.specs.State.{emptyHolding, rowAt, slotAt, holdingAt}
+use Rattle.model.specs.State.{emptyHolding, slotAt, holdingAt}
 use Rattle.model.specs.Words.{isFilled, pageIn, isHeld, holds, seenHolder, seen, isOpen, slotOf}
 use Rattle.rules.proofs.SoundFacts.{Sound, Held}
 use Rattle.rules.proofs.Alike.{holdingOn, Alike}
@@ -39,14 +38,10 @@ not-seen s L i r e b l = not-true-false (holds s i r) (λ h. true-false (sym (by
 pub none-seen : (s : State) (L i : ℕ) → ((r : ℕ) → r < 32 → levelOf r ≤ L → holds s i r ≡ false) → seen s L i ≡ false
 none-seen s L i f = not-true-false (seen s L i) (λ e. let x = seen-by s L i e in true-false (sym (x .3) ∙ f (x .0) (x .1) (x .2)))
 
--- open and seen exclude each other
+-- an open slot is not seen
 pub open-seen : (s : State) (L i : ℕ) → isOpen s L i ≡ true → seen s L i ≡ false
 unfolding isOpen
 open-seen s L i e = not-true (seen s L i) e
-
-pub seen-open : (s : State) (L i : ℕ) → seen s L i ≡ false → isOpen s L i ≡ true
-unfolding isOpen
-seen-open s L i e = rw e
 
 -- the holding on a slot's page is the holding on the slot
 pub on-slot : (s : State) (page i r : ℕ) → slotOf s page ≡ At i → holdingOn s page r ≡ holdingAt s i r
@@ -101,15 +96,17 @@ module _ (L : ℕ) (s t : State) (z : Sound s) (y : Sound t) (a : Alike L s t) w
       let page = pageIn (slotAt s i .content) in
       let e : slotOf s page ≡ At i = finds s z page i (omega (arith, z .size-most)) (k .filled) refl in
       let x = on-held t page r (sym (ap (λ (w : Holding). isHeld (w .pin)) (a .holding page r q l)) ∙ ap (λ (w : Holding). isHeld (w .pin)) (on-slot s page i r e) ∙ h) in
-      let f = found-slot t page (x .0) (x .1) in
-      (x .0, record {
-        left = b;
-        right = f .0;
-        left-filled = k .filled;
-        right-filled = f .1;
-        page = sym (f .2);
-        holding = λ o c m. sym (on-slot s page i o e) ∙ a .holding page o c m ∙ on-slot t page (x .0) o (x .1);
-      })
+      let f = found-slot t page (x .0) (x .1) in (
+        x .0,
+        record {
+          left = b;
+          right = f .0;
+          left-filled = k .filled;
+          right-filled = f .1;
+          page = sym (f .2);
+          holding = λ o c m. sym (on-slot s page i o e) ∙ a .holding page o c m ∙ on-slot t page (x .0) o (x .1);
+        },
+      )
 
   -- no more slots are seen in the one than in the other
   seen-most : (M : ℕ) → M ≤ L → countBelow (s .size) (seen s M) ≤ countBelow (t .size) (seen t M)

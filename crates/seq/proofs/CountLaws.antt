@@ -1,14 +1,14 @@
 -- Counts that are compared: by the complement, and by a relation that sends different numbers to different ones.
 use mathlib.Core.Path.{_≡_, refl, _∙_, sym, ap}
-use mathlib.Core.Bool.{Bool, true, false, cond, _&&_, _||_, not}
+use mathlib.Core.Bool.{Bool, true, false, cond, _&&_, not}
 use Prim.Native.Nat.{ℕ, zero, suc, _+_, _<_, _≤_}
 use native.Mathlib.Omega.{arith}
 use native.Mathlib.Decide.{ℕ-discrete}
 use borrow.Author.Tests.{eq-eqb, ne-eqb}
 use lib.Dec.{eqb}
 use Rattle.seq.specs.Below.{anyBelow, countBelow}
-use Rattle.seq.proofs.Tests.{true-false, both-true, same-truth}
-use Rattle.seq.proofs.BelowLaws.{below-suc, any-hit, any-none, none-any, hit-any, count-same, count-none, none-count}
+use Rattle.seq.proofs.Tests.{true-false}
+use Rattle.seq.proofs.BelowLaws.{below-suc, any-hit, any-none, count-same, count-none, none-count}
 
 -- each number passes, or fails
 pub count-not : (p : ℕ → Bool) (n : ℕ) → countBelow n p + countBelow n (λ i. not (p i)) ≡ n
@@ -64,10 +64,10 @@ count-into p m R (suc n) q f g = go (p n) refl (count-into p m R n)
     go true e hyp =
         let x = f n (omega arith) e in
         let a = hyp (without q (x .0))
-            (λ i h w.
-            let y = f i (omega arith) w in
-            (y .0, y .1, without-other q (x .0) (y .0) (λ s. other i h w x y s) ∙ y .2, y .3))
-            (λ i k j h l. g i k j (omega arith) (omega arith)) in
+        (λ i h w.
+        let y = f i (omega arith) w in
+        (y .0, y .1, without-other q (x .0) (y .0) (λ s. other i h w x y s) ∙ y .2, y .3))
+        (λ i k j h l. g i k j (omega arith) (omega arith)) in
         let b = count-without q m (x .0) (x .1) (x .2) in
         rw e (omega arith)
       where

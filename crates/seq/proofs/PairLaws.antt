@@ -1,7 +1,7 @@
 -- Two searches whose numbers correspond: they find numbers that correspond.
 use mathlib.Core.Path.{_≡_, refl, _∙_, sym, ap}
-use mathlib.Core.Bool.{Bool, true, false, cond}
-use Prim.Native.Nat.{ℕ, zero, suc, _+_, _<_, _≤_}
+use mathlib.Core.Bool.{Bool, true, false}
+use Prim.Native.Nat.{ℕ, _<_, _≤_}
 use native.Mathlib.Omega.{arith}
 use borrow.Author.Tests.{ltb-false}
 use lib.Dec.{ltb}
@@ -40,19 +40,19 @@ pick-paired n m R b p q before after tests orders o w = go (pickBelow n p before
     go : (f : Found) → pickBelow n p before ≡ f → Paired R (pickBelow n p before) (pickBelow m q after)
     go Nowhere e =
         let g : pickBelow m q after ≡ Nowhere = none-pick q after m (λ j h.
-            let x = b .back j h in
-            sym (tests (x .0) j (x .2)) ∙ pick-none p before n (x .0) e (x .1)) in
+        let x = b .back j h in
+        sym (tests (x .0) j (x .2)) ∙ pick-none p before n (x .0) e (x .1)) in
         rw (e, g) tt
     go (At i) e =
         let y = pick-is p before n i e in
         let x = b .there i (y .0) in
         let g : pickBelow m q after ≡ At (x .0) =
-            first-pick q after (w .strict) (w .trans) m (x .0) (x .1) (sym (tests i (x .0) (x .2)) ∙ y .1)
-            (λ l h c ne.
-            let z = b .back l h in
-            let v : p (z .0) ≡ true = tests (z .0) l (z .2) ∙ c in
-            w .total (x .0) l (x .1) h (sym (tests i (x .0) (x .2)) ∙ y .1) c ne
-            (sym (orders (z .0) l i (x .0) (z .2) (x .2) v (y .1)) ∙ pick-first p before (o .strict) (o .trans) n i (z .0) e (z .1) v)) in
+        first-pick q after (w .strict) (w .trans) m (x .0) (x .1) (sym (tests i (x .0) (x .2)) ∙ y .1)
+        (λ l h c ne.
+        let z = b .back l h in
+        let v : p (z .0) ≡ true = tests (z .0) l (z .2) ∙ c in
+        w .total (x .0) l (x .1) h (sym (tests i (x .0) (x .2)) ∙ y .1) c ne
+        (sym (orders (z .0) l i (x .0) (z .2) (x .2) v (y .1)) ∙ pick-first p before (o .strict) (o .trans) n i (z .0) e (z .1) v)) in
         rw (e, g) (x .2)
 
 -- the largest value of f on what passes
