@@ -1,6 +1,6 @@
 -- Where a slot is open to a clearance at or above the requester's level, the chosen slot is one that is open to it.
 use mathlib.Core.Path.{_≡_, refl, sym, _∙_, ap}
-use mathlib.Core.Bool.{Bool, true, false, not}
+use mathlib.Core.Bool.{Bool, true, false, _&&_, not}
 use Prim.Native.Nat.{ℕ, _<_, _≤_}
 use native.Mathlib.Omega.{arith}
 use native.Mathlib.Decide.{decLt}
@@ -56,25 +56,25 @@ no-step-b s i e h f =
     not-false (anyBelow 32 (holds s i)) (rw f at x)
 
 module _ (s : State) (z : Sound s) (L me : ℕ) (low : levelOf me ≤ L) where
-  Fine : ℕ → Type 0
-  Fine i = (i < s .size) × (seen s L i ≡ false)
+  OpenSlot : ℕ → Type 0
+  OpenSlot i = (i < s .size) × (seen s L i ≡ false)
 
-  a-fine : (i : ℕ) → stepA s ≡ At i → Fine i
-  unfolding Fine
-  a-fine i e =
+  a-open : (i : ℕ) → stepA s ≡ At i → OpenSlot i
+  unfolding OpenSlot
+  a-open i e =
       let x = step-a s i e in
       (x .0, none-seen s L i (λ r b _. not-true-false (holds s i r) (λ h. true-false (sym (z .held i r (omega (arith, x .0, z .size-most)) b h .filled) ∙ x .1))))
 
-  b-fine : (i : ℕ) → stepB s ≡ At i → Fine i
-  unfolding Fine
-  b-fine i e =
+  b-open : (i : ℕ) → stepB s ≡ At i → OpenSlot i
+  unfolding OpenSlot
+  b-open i e =
       let x = step-b s i e in
       (x .0, none-seen s L i (λ r b _. any-none (holds s i) 32 r (x .1) b))
 
-  -- a slot held only above the requester's level, by a best holder above the clearance
-  above-fine : (i : ℕ) → i < s .size → heldAbove s me i ≡ true → L < holderLevel s i → Fine i
-  unfolding Fine heldAbove
-  above-fine i h a l = (
+  -- a slot whose best holder is above the clearance
+  above-open : (i : ℕ) → i < s .size → L < holderLevel s i → OpenSlot i
+  unfolding OpenSlot
+  above-open i h l = (
     h,
     none-seen s L i (λ r b m. not-true-false (holds s i r) (λ q.
         let k = best-some s i r b q in
@@ -84,12 +84,11 @@ module _ (s : State) (z : Sound s) (L me : ℕ) (low : levelOf me ≤ L) where
         bad)),
   )
 
-  held-fine : (some : ℕ → Bool) (i : ℕ) → stepHeld s some ≡ At i → (some i ≡ true → (heldAbove s me i ≡ true) × (L < holderLevel s i)) → Fine i
+  held-open : (some : ℕ → Bool) (i : ℕ) → stepHeld s some ≡ At i → (some i ≡ true → L < holderLevel s i) → OpenSlot i
   unfolding stepHeld
-  held-fine some i e f =
+  held-open some i e f =
       let x = pick-is some (beforeHeld s) (s .size) i e in
-      let y = f (x .1) in
-      above-fine i (x .0) (y .0) (y .1)
+      above-open i (x .0) (f (x .1))
 
   -- a slot that is open and held
   module _ (x : ℕ) (b : x < s .size) (o : seen s L x ≡ false) (h : anyBelow 32 (holds s x) ≡ true) where
@@ -112,17 +111,19 @@ module _ (s : State) (z : Sound s) (L me : ℕ) (low : levelOf me ≤ L) where
     unfolding highestLevel
     high = let m = most-bound (s .size) (heldAbove s me) (holderLevel s) x b above in omega (arith, above-level)
 
-    c-fine : (i : ℕ) → inC s me i ≡ true → (heldAbove s me i ≡ true) × (L < holderLevel s i)
-    unfolding inC
-    c-fine i e =
+    -- what passes c or d has its best holder at the highest level
+    top-open : (i : ℕ) (rest : Bool) → heldAbove s me i && eqb (holderLevel s i) (highestLevel s me) && rest ≡ true → L < holderLevel s i
+    top-open i rest e =
         let q : eqb (holderLevel s i) (highestLevel s me) ≡ true = search parts depth 20 in
-        (search parts depth 20, omega (arith, eqb-true (holderLevel s i) (highestLevel s me) q, high))
+        omega (arith, eqb-true (holderLevel s i) (highestLevel s me) q, high)
 
-    d-fine : (i : ℕ) → inD s me i ≡ true → (heldAbove s me i ≡ true) × (L < holderLevel s i)
+    c-open : (i : ℕ) → inC s me i ≡ true → L < holderLevel s i
+    unfolding inC
+    c-open i = top-open i (not (pinnedAt s (highestLevel s me) i))
+
+    d-open : (i : ℕ) → inD s me i ≡ true → L < holderLevel s i
     unfolding inD
-    d-fine i e =
-        let q : eqb (holderLevel s i) (highestLevel s me) ≡ true = search parts depth 20 in
-        (search parts depth 20, omega (arith, eqb-true (holderLevel s i) (highestLevel s me) q, high))
+    d-open i = top-open i (pinnedAt s (highestLevel s me) i)
 
     -- c or d finds a slot
     c-or-d : stepHeld s (inC s me) ≡ Nowhere → stepHeld s (inD s me) ≡ Nowhere → ⊥
@@ -138,12 +139,12 @@ module _ (s : State) (z : Sound s) (L me : ℕ) (low : levelOf me ≤ L) where
         go i a q false w u v = true-false (sym (both-true (both-true a q) (ap not w)) ∙ u)
 
   pub chosen-open : (x : ℕ) → x < s .size → seen s L x ≡ false → (i : ℕ) × (chosen s me ≡ At i) × ((i < s .size) × (seen s L i ≡ false))
-  unfolding chosen Fine
+  unfolding chosen OpenSlot
   chosen-open x b o =
-      or-found Fine (stepA s) (orElse (stepB s) (orElse (stepHeld s (inC s me)) (orElse (stepHeld s (inD s me)) (orElse (stepHeld s (inE s me)) (stepHeld s (inF s me)))))) a-fine
-      (λ ea. or-found Fine (stepB s) (orElse (stepHeld s (inC s me)) (orElse (stepHeld s (inD s me)) (orElse (stepHeld s (inE s me)) (stepHeld s (inF s me))))) b-fine
+      or-found OpenSlot (stepA s) (orElse (stepB s) (orElse (stepHeld s (inC s me)) (orElse (stepHeld s (inD s me)) (orElse (stepHeld s (inE s me)) (stepHeld s (inF s me)))))) a-open
+      (λ ea. or-found OpenSlot (stepB s) (orElse (stepHeld s (inC s me)) (orElse (stepHeld s (inD s me)) (orElse (stepHeld s (inE s me)) (stepHeld s (inF s me))))) b-open
       (λ eb.
       let h = no-step-b s x eb b (no-step-a s x ea b) in
-      or-found Fine (stepHeld s (inC s me)) (orElse (stepHeld s (inD s me)) (orElse (stepHeld s (inE s me)) (stepHeld s (inF s me)))) (λ i e. held-fine (inC s me) i e (c-fine x b o h i))
-      (λ ec. or-found Fine (stepHeld s (inD s me)) (orElse (stepHeld s (inE s me)) (stepHeld s (inF s me))) (λ i e. held-fine (inD s me) i e (d-fine x b o h i))
+      or-found OpenSlot (stepHeld s (inC s me)) (orElse (stepHeld s (inD s me)) (orElse (stepHeld s (inE s me)) (stepHeld s (inF s me)))) (λ i e. held-open (inC s me) i e (c-open x b o h i))
+      (λ ec. or-found OpenSlot (stepHeld s (inD s me)) (orElse (stepHeld s (inE s me)) (stepHeld s (inF s me))) (λ i e. held-open (inD s me) i e (d-open x b o h i))
       (λ ed. absurd (c-or-d x b o h ec ed)))))

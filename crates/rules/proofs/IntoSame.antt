@@ -31,12 +31,12 @@ use Rattle.rules.specs.Calls.{waiting, intoSlot, served}
 use Rattle.rules.proofs.SoundFacts.{Sound}
 use Rattle.rules.proofs.Alike.{holdingOn, Alike}
 use Rattle.rules.proofs.PageLaws.{found-slot}
-use Rattle.rules.proofs.IntoSeen.{Twin, alike-back, open-seen, open-alike}
+use Rattle.rules.proofs.IntoSeen.{SamePage, alike-back, open-seen, open-alike}
 use Rattle.rules.proofs.IntoGain.{gains-same}
 use Rattle.rules.proofs.IntoFill.{leftRow, leftHolding, into-gains}
 use Rattle.rules.proofs.IntoOpen.{Nobody, nobody-seen, served-absent, open-gains}
-use Rattle.rules.proofs.ChoiceTwin.{twin-pins}
-use Rattle.rules.proofs.ChoiceSame.{Full, chosen-paired}
+use Rattle.rules.proofs.ChoicePages.{page-pins}
+use Rattle.rules.proofs.ChoiceSame.{SeesAll, chosen-paired}
 
 -- two outcomes that L cannot tell apart
 abbrev pub Same : ℕ → Outcome → Outcome → Type 0
@@ -76,19 +76,19 @@ has-same other (Filled p arrival dirty lowest) (Filled q arrival′ dirty′ low
 
 module _ (L : ℕ) (s t : State) (z : Sound s) (y : Sound t) (a : Alike L s t) (me page : ℕ) (mode : Mode) (r : me < 32) (low : levelOf me ≤ L) where
   -- taking the slots of one page leaves the same to the rows up to L
-  module _ (i j : ℕ) (w : Twin L s t i j) where
+  module _ (i j : ℕ) (w : SamePage L s t i j) where
     row-left : (q : ℕ) → q < 32 → levelOf q ≤ L → leftRow s i q ≡ leftRow t j q
     row-left q h l =
-        ap (λ (x : Bool). cond x (killedRow Taken) (rowAt s q)) (twin-pins L s t a i j w q h l)
+        ap (λ (x : Bool). cond x (killedRow Taken) (rowAt s q)) (page-pins L s t a i j w q h l)
         ∙ ap (λ (x : Row). cond (pins t j q) (killedRow Taken) x) (a .row q h l)
 
     holding-left : (other q : ℕ) → q < 32 → levelOf q ≤ L → leftHolding s i other q ≡ leftHolding t j other q
     holding-left other q h l =
-        ap (λ (x : Bool). cond (x || hasPage other (slotAt s i .content)) emptyHolding (holdingOn s other q)) (twin-pins L s t a i j w q h l)
+        ap (λ (x : Bool). cond (x || hasPage other (slotAt s i .content)) emptyHolding (holdingOn s other q)) (page-pins L s t a i j w q h l)
         ∙ ap (λ (x : Bool). cond (pins t j q || x) emptyHolding (holdingOn s other q)) (has-same other (slotAt s i .content) (slotAt t j .content) (w .left-filled) (w .right-filled) (w .page))
         ∙ ap (λ (x : Holding). cond (pins t j q || hasPage other (slotAt t j .content)) emptyHolding x) (a .holding other q h l)
 
-  into-paired : slotOf s page ≡ Nowhere → slotOf t page ≡ Nowhere → (f g : Found) → Paired (Twin L s t) f g → Same L (intoSlot f s me page mode) (intoSlot g t me page mode)
+  into-paired : slotOf s page ≡ Nowhere → slotOf t page ≡ Nowhere → (f g : Found) → Paired (SamePage L s t) f g → Same L (intoSlot f s me page mode) (intoSlot g t me page mode)
   into-paired e u Nowhere Nowhere p = waiting-same L s t (z .sized) (y .sized) a me page mode r low
   into-paired e u Nowhere (At j) p = absurd p
   into-paired e u (At i) Nowhere p = absurd p
@@ -98,17 +98,17 @@ module _ (L : ℕ) (s t : State) (z : Sound s) (y : Sound t) (a : Alike L s t) (
       (into-gains L s z me i page r low (p .left) e mode) (into-gains L t y me j page r low (p .right) u mode)
 
 -- where L sees every slot, a page that no row up to L holds is in no slot
-full-absent : (L : ℕ) (s : State) (page : ℕ) → Full L s → Nobody L s page → ((i : ℕ) → slotOf s page ≡ At i → i < s .size) → slotOf s page ≡ Nowhere
-full-absent L s page full nobody b = go (slotOf s page) refl
+seen-absent : (L : ℕ) (s : State) (page : ℕ) → SeesAll L s → Nobody L s page → ((i : ℕ) → slotOf s page ≡ At i → i < s .size) → slotOf s page ≡ Nowhere
+seen-absent L s page all nobody b = go (slotOf s page) refl
   where
     go : (f : Found) → slotOf s page ≡ f → slotOf s page ≡ Nowhere
     go Nowhere e = e
-    go (At i) e = true-false (sym (full i (b i e)) ∙ nobody-seen L s page i nobody e)
+    go (At i) e = true-false (sym (all i (b i e)) ∙ nobody-seen L s page i nobody e)
 
 -- a state has a slot that is open to L, or L sees every slot
-full-not-open : (L : ℕ) (s : State) → anyBelow (s .size) (isOpen s L) ≡ false → Full L s
+none-open : (L : ℕ) (s : State) → anyBelow (s .size) (isOpen s L) ≡ false → SeesAll L s
 unfolding isOpen
-full-not-open L s e i b = not-false (seen s L i) (any-none (isOpen s L) (s .size) i e b)
+none-open L s e i b = not-false (seen s L i) (any-none (isOpen s L) (s .size) i e b)
 
 pub into-same : (L : ℕ) (s t : State) (me page : ℕ) (mode : Mode) → L ≤ 2 → me < 32 → levelOf me ≤ L → Sound s → Sound t → Alike L s t → page ≤ 4095 → isLive (rowAt s me .condition) ≡ true
     → ((r : ℕ) → r < 32 → levelOf r ≤ L → isHeld (holdingOn s page r .pin) ≡ false)
@@ -126,9 +126,9 @@ into-same L s t me page mode most r low z y a _ _ nobody = go (anyBelow (s .size
         (open-gains L s z me page mode most r low nobody (x .0) (x .1) (open-seen s L (x .0) (x .2)))
         (open-gains L t y me page mode most r low nobody′ (x′ .0) (x′ .1) (open-seen t L (x′ .0) (x′ .2)))
     go false e =
-        let full = full-not-open L s e in
-        let full′ = full-not-open L t (not-true-false (anyBelow (t .size) (isOpen t L)) (λ q. true-false (sym (open-alike L t s y z (alike-back L s t a) L (omega arith) q) ∙ e))) in
-        let absent = full-absent L s page full nobody (λ i q. found-slot s page i q .0) in
-        let absent′ = full-absent L t page full′ nobody′ (λ i q. found-slot t page i q .0) in
+        let all = none-open L s e in
+        let all′ = none-open L t (not-true-false (anyBelow (t .size) (isOpen t L)) (λ q. true-false (sym (open-alike L t s y z (alike-back L s t a) L (omega arith) q) ∙ e))) in
+        let absent = seen-absent L s page all nobody (λ i q. found-slot s page i q .0) in
+        let absent′ = seen-absent L t page all′ nobody′ (λ i q. found-slot t page i q .0) in
         rw (served-absent s me page mode absent, served-absent t me page mode absent′)
-        (into-paired L s t z y a me page mode r low absent absent′ (chosen s me) (chosen t me) (chosen-paired L s t z y a full full′ me r low))
+        (into-paired L s t z y a me page mode r low absent absent′ (chosen s me) (chosen t me) (chosen-paired L s t z y a all all′ me r low))

@@ -61,7 +61,7 @@ on-held s page r h = go (slotOf s page) refl
     go (At i) e = (i, e, sym (ap (λ (x : Holding). isHeld (x .pin)) (on-slot s page i r e)) ∙ h)
 
 -- slots of two states that have one page, and on it the same holdings of the rows up to L
-pub record Twin (L : ℕ) (s t : State) (i j : ℕ) : Type 0 where
+pub record SamePage (L : ℕ) (s t : State) (i j : ℕ) : Type 0 where
   pub left : i < s .size
   pub right : j < t .size
   pub left-filled : isFilled (slotAt s i .content) ≡ true
@@ -69,8 +69,8 @@ pub record Twin (L : ℕ) (s t : State) (i j : ℕ) : Type 0 where
   pub page : pageIn (slotAt s i .content) ≡ pageIn (slotAt t j .content)
   pub holding : (r : ℕ) → r < 32 → levelOf r ≤ L → holdingAt s i r ≡ holdingAt t j r
 
-pub twin-back : (L : ℕ) (s t : State) (i j : ℕ) → Twin L s t i j → Twin L t s j i
-twin-back L s t i j w = record {
+pub same-page-back : (L : ℕ) (s t : State) (i j : ℕ) → SamePage L s t i j → SamePage L t s j i
+same-page-back L s t i j w = record {
   left = w .right;
   right = w .left;
   left-filled = w .right-filled;
@@ -89,9 +89,9 @@ alike-back L s t a = record {
 }
 
 module _ (L : ℕ) (s t : State) (z : Sound s) (y : Sound t) (a : Alike L s t) where
-  -- a slot that a row up to L holds has its twin
-  pub twin-of : (i r : ℕ) → i < s .size → r < 32 → levelOf r ≤ L → holds s i r ≡ true → (j : ℕ) × Twin L s t i j
-  twin-of i r b q l h =
+  -- the page of a slot that a row up to L holds is in a slot of the other state
+  pub same-page-slot : (i r : ℕ) → i < s .size → r < 32 → levelOf r ≤ L → holds s i r ≡ true → (j : ℕ) × SamePage L s t i j
+  same-page-slot i r b q l h =
       let k : Held s i r = z .held i r (omega (arith, z .size-most)) q h in
       let page = pageIn (slotAt s i .content) in
       let e : slotOf s page ≡ At i = finds s z page i (omega (arith, z .size-most)) (k .filled) refl in
@@ -111,10 +111,10 @@ module _ (L : ℕ) (s t : State) (z : Sound s) (y : Sound t) (a : Alike L s t) w
   -- no more slots are seen in the one than in the other
   seen-most : (M : ℕ) → M ≤ L → countBelow (s .size) (seen s M) ≤ countBelow (t .size) (seen t M)
   seen-most M m =
-      count-into (seen s M) (t .size) (Twin L s t) (s .size) (seen t M)
+      count-into (seen s M) (t .size) (SamePage L s t) (s .size) (seen t M)
       (λ i b e.
       let x = seen-by s M i e in
-      let w = twin-of i (x .0) b (x .1) (omega (arith, x .2)) (x .3) in
+      let w = same-page-slot i (x .0) b (x .1) (omega (arith, x .2)) (x .3) in
       (w .0, w .1 .right, by-seen t M (w .0) (x .0) (x .1) (x .2) (sym (ap (λ (v : Holding). isHeld (v .pin)) (w .1 .holding (x .0) (x .1) (omega (arith, x .2)))) ∙ x .3), w .1))
       (λ i k j b c _ _ v w. z .one-slot i k (omega (arith, z .size-most)) (omega (arith, z .size-most)) (v .left-filled) (w .left-filled) (v .page ∙ sym (w .page)))
 

@@ -19,7 +19,7 @@ use Rattle.model.specs.State.{holdingAt}
 use Rattle.model.specs.Words.{isHeld, isPin, holds, pins, seenHolder, seen, outranks, bestHolder, latestTouch}
 use Rattle.rules.specs.Choice.{holderLevel, heldAbove, pinnedAt, heldAtOwnLevel, seenPin, worse, beforeHeld}
 use Rattle.rules.proofs.Alike.{Alike}
-use Rattle.rules.proofs.IntoSeen.{Twin, seen-by}
+use Rattle.rules.proofs.IntoSeen.{SamePage, seen-by}
 use Rattle.rules.proofs.ChoiceRank.{Best, rank-same, level-rank, best-is, is-best, best-some, best-level, holder-level}
 use Rattle.rules.proofs.ChoiceOrder.{touchOf, nextBefore, before-held}
 
@@ -31,52 +31,52 @@ module _ (L : ℕ) (s t : State) (a : Alike L s t) where
   alike-rank : (r q : ℕ) → r < 32 → q < 32 → levelOf r ≤ L → levelOf q ≤ L → outranks s r q ≡ outranks t r q
   alike-rank r q b c l m = rank-same s t r q (a .row r b l) (a .row q c m)
 
-  module _ (i j : ℕ) (w : Twin L s t i j) where
-    pub twin-holds : (r : ℕ) → r < 32 → levelOf r ≤ L → holds s i r ≡ holds t j r
-    twin-holds r b l = ap (λ (x : Holding). isHeld (x .pin)) (w .holding r b l)
+  module _ (i j : ℕ) (w : SamePage L s t i j) where
+    pub page-holds : (r : ℕ) → r < 32 → levelOf r ≤ L → holds s i r ≡ holds t j r
+    page-holds r b l = ap (λ (x : Holding). isHeld (x .pin)) (w .holding r b l)
 
-    pub twin-pins : (r : ℕ) → r < 32 → levelOf r ≤ L → pins s i r ≡ pins t j r
-    twin-pins r b l = ap (λ (x : Holding). isPin (x .pin)) (w .holding r b l)
+    pub page-pins : (r : ℕ) → r < 32 → levelOf r ≤ L → pins s i r ≡ pins t j r
+    page-pins r b l = ap (λ (x : Holding). isPin (x .pin)) (w .holding r b l)
 
-    twin-holder : (M : ℕ) → M ≤ L → (r : ℕ) → r < 32 → seenHolder s M i r ≡ seenHolder t M j r
+    page-holder : (M : ℕ) → M ≤ L → (r : ℕ) → r < 32 → seenHolder s M i r ≡ seenHolder t M j r
     unfolding seenHolder
-    twin-holder M m r b = and-when (leb (levelOf r) M) (holds s i r) (holds t j r) (λ e. twin-holds r b (let l = leb-true (levelOf r) M e in omega arith))
+    page-holder M m r b = and-when (leb (levelOf r) M) (holds s i r) (holds t j r) (λ e. page-holds r b (let l = leb-true (levelOf r) M e in omega arith))
 
-    pub twin-seen : (M : ℕ) → M ≤ L → seen s M i ≡ seen t M j
+    pub page-seen : (M : ℕ) → M ≤ L → seen s M i ≡ seen t M j
     unfolding seen
-    twin-seen M m = any-same (seenHolder s M i) (seenHolder t M j) 32 (twin-holder M m)
+    page-seen M m = any-same (seenHolder s M i) (seenHolder t M j) 32 (page-holder M m)
 
-    pub twin-pinned : (M : ℕ) → M ≤ L → pinnedAt s M i ≡ pinnedAt t M j
+    pub page-pinned : (M : ℕ) → M ≤ L → pinnedAt s M i ≡ pinnedAt t M j
     unfolding pinnedAt
-    twin-pinned M m = any-same (λ r. eqb (levelOf r) M && pins s i r) (λ r. eqb (levelOf r) M && pins t j r) 32
-        (λ r b. and-when (eqb (levelOf r) M) (pins s i r) (pins t j r) (λ e. twin-pins r b (let l = eqb-true (levelOf r) M e in omega arith)))
+    page-pinned M m = any-same (λ r. eqb (levelOf r) M && pins s i r) (λ r. eqb (levelOf r) M && pins t j r) 32
+        (λ r b. and-when (eqb (levelOf r) M) (pins s i r) (pins t j r) (λ e. page-pins r b (let l = eqb-true (levelOf r) M e in omega arith)))
 
-    pub twin-seen-pin : (M : ℕ) → M ≤ L → seenPin s M i ≡ seenPin t M j
+    pub page-seen-pin : (M : ℕ) → M ≤ L → seenPin s M i ≡ seenPin t M j
     unfolding seenPin
-    twin-seen-pin M m = any-same (λ r. leb (levelOf r) M && pins s i r) (λ r. leb (levelOf r) M && pins t j r) 32
-        (λ r b. and-when (leb (levelOf r) M) (pins s i r) (pins t j r) (λ e. twin-pins r b (let l = leb-true (levelOf r) M e in omega arith)))
+    page-seen-pin M m = any-same (λ r. leb (levelOf r) M && pins s i r) (λ r. leb (levelOf r) M && pins t j r) 32
+        (λ r b. and-when (leb (levelOf r) M) (pins s i r) (pins t j r) (λ e. page-pins r b (let l = leb-true (levelOf r) M e in omega arith)))
 
-    pub twin-touch : (M : ℕ) → M ≤ L → latestTouch s M i ≡ latestTouch t M j
+    pub page-touch : (M : ℕ) → M ≤ L → latestTouch s M i ≡ latestTouch t M j
     unfolding latestTouch
-    twin-touch M m = most-same 32 (λ r. eqb (levelOf r) M && holds s i r) (λ r. eqb (levelOf r) M && holds t j r) (λ r. holdingAt s i r .touch) (λ r. holdingAt t j r .touch)
-        (λ r b. and-when (eqb (levelOf r) M) (holds s i r) (holds t j r) (λ e. twin-holds r b (let l = eqb-true (levelOf r) M e in omega arith)))
+    page-touch M m = most-same 32 (λ r. eqb (levelOf r) M && holds s i r) (λ r. eqb (levelOf r) M && holds t j r) (λ r. holdingAt s i r .touch) (λ r. holdingAt t j r .touch)
+        (λ r b. and-when (eqb (levelOf r) M) (holds s i r) (holds t j r) (λ e. page-holds r b (let l = eqb-true (levelOf r) M e in omega arith)))
         (λ r b e. ap (λ (x : Holding). x .touch) (w .holding r b (let l = eqb-true (levelOf r) M (and-true (eqb (levelOf r) M) (holds s i r) e .0) in omega arith)))
 
-    pub twin-own : (me : ℕ) → me < 32 → levelOf me ≤ L → heldAtOwnLevel s me i ≡ heldAtOwnLevel t me j
+    pub page-own : (me : ℕ) → me < 32 → levelOf me ≤ L → heldAtOwnLevel s me i ≡ heldAtOwnLevel t me j
     unfolding heldAtOwnLevel
-    twin-own me b l =
+    page-own me b l =
         let p : ℕ → Bool = λ o. not (seenHolder s (levelOf me) i o) || (eqb (levelOf o) (levelOf me) && not (outranks s o me)) in
         let q : ℕ → Bool = λ o. not (seenHolder t (levelOf me) j o) || (eqb (levelOf o) (levelOf me) && not (outranks t o me)) in
         let e : allBelow 32 p ≡ allBelow 32 q = all-same p q 32 (λ o c.
-        ap (λ (x : Bool). not x || (eqb (levelOf o) (levelOf me) && not (outranks s o me))) (twin-holder (levelOf me) l o c)
+        ap (λ (x : Bool). not x || (eqb (levelOf o) (levelOf me) && not (outranks s o me))) (page-holder (levelOf me) l o c)
         ∙ ap (λ (x : Bool). not (seenHolder t (levelOf me) j o) || x)
         (and-when (eqb (levelOf o) (levelOf me)) (not (outranks s o me)) (not (outranks t o me)) (λ v. ap not (alike-rank o me c b (let u = eqb-true (levelOf o) (levelOf me) v in omega arith) l)))) in
-        ap (λ (x : Bool). x && allBelow 32 p) (twin-seen (levelOf me) l) ∙ ap (λ (x : Bool). seen t (levelOf me) j && x) e
+        ap (λ (x : Bool). x && allBelow 32 p) (page-seen (levelOf me) l) ∙ ap (λ (x : Bool). seen t (levelOf me) j && x) e
 
     -- the best holder is of a level up to L
     module _ (v : seen s L i ≡ true) where
-      pub twin-best : (b : ℕ) × (bestHolder s i ≡ At b) × (bestHolder t j ≡ At b) × (b < 32) × (levelOf b ≤ L)
-      twin-best =
+      pub page-best : (b : ℕ) × (bestHolder s i ≡ At b) × (bestHolder t j ≡ At b) × (b < 32) × (levelOf b ≤ L)
+      page-best =
           let x = seen-by s L i v in
           let k = best-some s i (x .0) (x .1) (x .3) in
           let m = best-is s i (k .0) (k .1) in
@@ -86,36 +86,36 @@ module _ (L : ℕ) (s t : State) (a : Alike L s t) where
           same : (b : ℕ) → Best s i b → levelOf b ≤ L → Best t j b
           same b m l = record {
             below = m .below;
-            held = sym (twin-holds b (m .below) l) ∙ m .held;
+            held = sym (page-holds b (m .below) l) ∙ m .held;
             first = λ r c h ne. elim (decLt L (levelOf r)) [
               | yes u ↦ level-rank t b r (omega arith)
               | no u ↦
                   let lr : levelOf r ≤ L = omega arith in
-                  sym (alike-rank b r (m .below) c l lr) ∙ m .first r c (twin-holds r c lr ∙ h) ne
+                  sym (alike-rank b r (m .below) c l lr) ∙ m .first r c (page-holds r c lr ∙ h) ne
             ];
           }
 
-      pub twin-level : (holderLevel s i ≡ holderLevel t j) × (holderLevel s i ≤ L)
-      twin-level =
-          let k = twin-best in
+      pub page-level : (holderLevel s i ≡ holderLevel t j) × (holderLevel s i ≤ L)
+      page-level =
+          let k = page-best in
           let p = holder-level s i (k .0) (k .1) in
           let q = holder-level t j (k .0) (k .2) in
           (p ∙ sym q, omega (arith, k .4))
 
-      pub twin-above : (me : ℕ) → levelOf me ≤ L → heldAbove s me i ≡ heldAbove t me j
+      pub page-above : (me : ℕ) → levelOf me ≤ L → heldAbove s me i ≡ heldAbove t me j
       unfolding heldAbove
-      twin-above me l =
+      page-above me l =
           let p = seen-held s L i v in
-          let q = seen-held t L j (sym (twin-seen L (omega arith)) ∙ v) in
-          rw (p, q, twin-seen (levelOf me) l)
+          let q = seen-held t L j (sym (page-seen L (omega arith)) ∙ v) in
+          rw (p, q, page-seen (levelOf me) l)
 
   -- the order of two slots
-  pub twin-before : (i j k l : ℕ) → Twin L s t i j → Twin L s t k l → seen s L i ≡ true → seen s L k ≡ true → beforeHeld s i k ≡ beforeHeld t j l
-  twin-before i j k l w x v u =
-      let b = twin-best i j w v in
-      let c = twin-best k l x u in
-      let p : touchOf s i ≡ touchOf t j = twin-touch i j w (holderLevel s i) (twin-level i j w v .1) ∙ ap (λ (m : ℕ). latestTouch t m j) (twin-level i j w v .0) in
-      let q : touchOf s k ≡ touchOf t l = twin-touch k l x (holderLevel s k) (twin-level k l x u .1) ∙ ap (λ (m : ℕ). latestTouch t m l) (twin-level k l x u .0) in
+  pub page-before : (i j k l : ℕ) → SamePage L s t i j → SamePage L s t k l → seen s L i ≡ true → seen s L k ≡ true → beforeHeld s i k ≡ beforeHeld t j l
+  page-before i j k l w x v u =
+      let b = page-best i j w v in
+      let c = page-best k l x u in
+      let p : touchOf s i ≡ touchOf t j = page-touch i j w (holderLevel s i) (page-level i j w v .1) ∙ ap (λ (m : ℕ). latestTouch t m j) (page-level i j w v .0) in
+      let q : touchOf s k ≡ touchOf t l = page-touch k l x (holderLevel s k) (page-level k l x u .1) ∙ ap (λ (m : ℕ). latestTouch t m l) (page-level k l x u .0) in
       let n : nextBefore s i k ≡ nextBefore t j l = rw (p, q, w .page, x .page) in
       before-held s i k (b .0) (c .0) (b .1) (c .1)
       ∙ ap (λ (y : Bool). worse s (At (b .0)) (At (c .0)) y) n
