@@ -1,56 +1,48 @@
 -- Priority is a strict total order on rows, whatever their deadlines; a lower level has better priority.
-use mathlib.Core.Path.{_≡_, refl, sym, _∙_}
+use mathlib.Core.Path.{_≡_}
 use mathlib.Core.Bool.{Bool, true, false}
-use Prim.Native.Nat.{ℕ, _<_, _≤_, _/_, _%_}
+use Prim.Native.Nat.{ℕ, _<_, _≤_}
 use native.Mathlib.Omega.{arith}
-use borrow.Author.Tests.{ltb-true, ltb-false, lt-ltb, le-ltb}
 use lib.Dec.{ltb}
 use Rattle.seq.specs.Order.{lexLess}
-use Rattle.seq.proofs.OrderLaws.{lex-below, lex-at-most, lex-strict, lex-trans, lex-total}
+use Rattle.seq.proofs.OrderLaws.{lex-true, less-lex, lex-strict, lex-trans, lex-total, ltb-strict, ltb-trans, ltb-total}
 use Rattle.model.specs.Parties.{levelOf, numberOf, better}
 use Rattle.model.specs.State.{rowAt}
 use Rattle.model.specs.Words.{outranks}
 use Rattle.model.specs.declared.State.{State}
 
+-- what decides between rows of one level
+abbrev later : ℕ → ℕ → ℕ → ℕ → Bool
+later row d other e = lexLess d e (ltb (numberOf row) (numberOf other))
+
 pub better-strict : (row d : ℕ) → better row d row d ≡ false
 unfolding better
-better-strict row d =
-    lex-strict (levelOf row) (lexLess d d (ltb (numberOf row) (numberOf row)))
-    (lex-strict d (ltb (numberOf row) (numberOf row)) (le-ltb (numberOf row) (numberOf row) (omega arith)))
+better-strict row d = lex-strict (levelOf row) (later row d row d) (lex-strict d (ltb (numberOf row) (numberOf row)) (ltb-strict (numberOf row)))
 
 pub better-trans : (a d b e c f : ℕ) → better a d b e ≡ true → better b e c f ≡ true → better a d c f ≡ true
 unfolding better
 better-trans a d b e c f =
-    let ab = ltb (numberOf a) (numberOf b) in
-    let bc = ltb (numberOf b) (numberOf c) in
-    let ac = ltb (numberOf a) (numberOf c) in
-    lex-trans (levelOf a) (levelOf b) (levelOf c) (lexLess d e ab) (lexLess e f bc) (lexLess d f ac)
-    (lex-trans d e f ab bc ac
-    (λ p q. lt-ltb (numberOf a) (numberOf c) (omega (arith, ltb-true (numberOf a) (numberOf b) p, ltb-true (numberOf b) (numberOf c) q))))
+    lex-trans (levelOf a) (levelOf b) (levelOf c) (later a d b e) (later b e c f) (later a d c f)
+    (lex-trans d e f (ltb (numberOf a) (numberOf b)) (ltb (numberOf b) (numberOf c)) (ltb (numberOf a) (numberOf c)) (ltb-trans (numberOf a) (numberOf b) (numberOf c)))
 
--- of two different rows one is better
-pub better-total : (row d other e : ℕ) → (row ≡ other → ⊥) → better row d other e ≡ false → better other e row d ≡ true
+-- two rows of which neither is better are one row
+pub better-total : (row d other e : ℕ) → better row d other e ≡ false → better other e row d ≡ false → row ≡ other
 unfolding better
-better-total row d other e m =
-    let there = ltb (numberOf row) (numberOf other) in
-    let back = ltb (numberOf other) (numberOf row) in
-    lex-total (levelOf row) (levelOf other) (lexLess d e there) (lexLess e d back)
-    (λ l. lex-total d e there back
-    (λ _ h. lt-ltb (numberOf other) (numberOf row) (go l (ltb-false (numberOf row) (numberOf other) h))))
+better-total row d other e p q =
+    let x = lex-total (levelOf row) (levelOf other) (later row d other e) (later other e row d) p q in
+    let y = lex-total d e (ltb (numberOf row) (numberOf other)) (ltb (numberOf other) (numberOf row)) (x .1) (x .2) in
+    last (x .0) (ltb-total (numberOf row) (numberOf other) (y .1) (y .2))
   where
-    go : levelOf row ≡ levelOf other → numberOf other ≤ numberOf row → numberOf other < numberOf row
-    go l h = elim (native.Mathlib.Decide.decLt (numberOf other) (numberOf row)) [
-      | yes k ↦ k
-      | no k ↦ absurd (m (omega arith))
-    ]
+    last : levelOf row ≡ levelOf other → numberOf row ≡ numberOf other → row ≡ other
+    last a b = omega arith
 
 pub better-level : (row d other e : ℕ) → levelOf row < levelOf other → better row d other e ≡ true
 unfolding better
-better-level row d other e h = lex-below (levelOf row) (levelOf other) (lexLess d e (ltb (numberOf row) (numberOf other))) h
+better-level row d other e h = less-lex (levelOf row) (levelOf other) (later row d other e) h
 
 pub level-better : (row d other e : ℕ) → better row d other e ≡ true → levelOf row ≤ levelOf other
 unfolding better
-level-better row d other e h = lex-at-most (levelOf row) (levelOf other) (lexLess d e (ltb (numberOf row) (numberOf other))) h
+level-better row d other e h = lex-true (levelOf row) (levelOf other) (later row d other e) h
 
 -- the same of the rows of a state
 module _ (s : State) where
@@ -62,7 +54,7 @@ module _ (s : State) where
   unfolding outranks
   outranks-trans a b c = better-trans a (rowAt s a .deadline) b (rowAt s b .deadline) c (rowAt s c .deadline)
 
-  pub outranks-total : (row other : ℕ) → (row ≡ other → ⊥) → outranks s row other ≡ false → outranks s other row ≡ true
+  pub outranks-total : (row other : ℕ) → outranks s row other ≡ false → outranks s other row ≡ false → row ≡ other
   unfolding outranks
   outranks-total row other = better-total row (rowAt s row .deadline) other (rowAt s other .deadline)
 

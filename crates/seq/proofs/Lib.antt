@@ -5,3 +5,6 @@ pub mod EachLaws
 pub mod OrderLaws
 pub mod PickedLaws
 pub mod OneLaws
+pub mod BoolLaws
+pub mod CountLaws
+pub mod PairLaws

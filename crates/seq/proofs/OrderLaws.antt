@@ -1,52 +1,55 @@
--- An order by one number and then by another is strict, transitive and total where the second is.
-use mathlib.Core.Path.{_≡_, refl, sym, _∙_}
-use mathlib.Core.Bool.{Bool, true, false, cond}
+-- Laws of an order by one number and then by another, part by part.
+use mathlib.Core.Path.{_≡_, refl, _∙_, sym}
+use mathlib.Core.Bool.{Bool, true, false}
 use Prim.Native.Nat.{ℕ, _<_, _≤_}
 use native.Mathlib.Omega.{arith}
-use native.Mathlib.Decide.{ℕ-discrete, decLt}
-use borrow.Author.Tests.{ltb-true, ltb-false, eqb-true, eqb-false, lt-ltb, le-ltb, eq-eqb, ne-eqb}
-use lib.Dec.{eqb, ltb}
+use native.Mathlib.Decide.{ℕ-discrete}
+use borrow.Author.Tests.{ltb-true, ltb-false, lt-ltb, le-ltb, eq-eqb, ne-eqb}
+use lib.Dec.{ltb}
 use Rattle.seq.specs.Order.{lexLess}
 use Rattle.seq.proofs.Tests.{true-false}
 
-pub lex-below : (a b : ℕ) (next : Bool) → a < b → lexLess a b next ≡ true
-lex-below a b next h = rw (ne-eqb a b (λ e. omega arith), lt-ltb a b h)
-
-pub lex-equal : (a b : ℕ) (next : Bool) → a ≡ b → lexLess a b next ≡ next
-lex-equal a b next e = rw (eq-eqb a b e)
-
-pub lex-above : (a b : ℕ) (next : Bool) → b < a → lexLess a b next ≡ false
-lex-above a b next h = rw (ne-eqb a b (λ e. omega arith), le-ltb a b (omega arith))
-
--- a is not above b
-pub lex-at-most : (a b : ℕ) (next : Bool) → lexLess a b next ≡ true → a ≤ b
-lex-at-most a b next e = elim (decLt b a) [
-  | yes h ↦ true-false (sym e ∙ lex-above a b next h)
-  | no h ↦ omega arith
+-- what a true test says
+pub lex-true : (a b : ℕ) (x : Bool) → lexLess a b x ≡ true → a ≤ b
+lex-true a b x e = elim (ℕ-discrete a b) [
+  | yes s ↦ omega arith
+  | no s ↦ let h = ltb-true a b (rw (ne-eqb a b s) at e) in omega arith
 ]
 
--- where a and b are equal, next decided
-pub lex-next : (a b : ℕ) (next : Bool) → a ≡ b → lexLess a b next ≡ true → next ≡ true
-lex-next a b next e h = sym (lex-equal a b next e) ∙ h
+pub lex-next : (a b : ℕ) (x : Bool) → a ≡ b → lexLess a b x ≡ x
+lex-next a b x s = rw (eq-eqb a b s)
 
-pub lex-strict : (a : ℕ) (next : Bool) → next ≡ false → lexLess a a next ≡ false
-lex-strict a next e = lex-equal a a next refl ∙ e
+pub less-lex : (a b : ℕ) (x : Bool) → a < b → lexLess a b x ≡ true
+less-lex a b x h = rw (ne-eqb a b (λ s. omega arith)) (lt-ltb a b h)
+
+-- strict, transitive and total, where the later parts are
+pub lex-strict : (a : ℕ) (x : Bool) → x ≡ false → lexLess a a x ≡ false
+lex-strict a x e = lex-next a a x refl ∙ e
 
 pub lex-trans : (a b c : ℕ) (x y z : Bool) → (x ≡ true → y ≡ true → z ≡ true) → lexLess a b x ≡ true → lexLess b c y ≡ true → lexLess a c z ≡ true
-lex-trans a b c x y z f p q =
-    let ab = lex-at-most a b x p in
-    let bc = lex-at-most b c y q in
-    elim (ℕ-discrete a c) [
-      | yes e ↦ lex-equal a c z e ∙ f (lex-next a b x (omega arith) p) (lex-next b c y (omega arith) q)
-      | no e ↦ lex-below a c z (omega arith)
-    ]
+lex-trans a b c x y z f p q = elim (ℕ-discrete a b) [
+  | yes s ↦ elim (ℕ-discrete b c) [
+    | yes t ↦ lex-next a c z (s ∙ t) ∙ f (sym (lex-next a b x s) ∙ p) (sym (lex-next b c y t) ∙ q)
+    | no t ↦ let h = lex-true b c y q in less-lex a c z (omega arith)
+  ]
+  | no s ↦ let h = lex-true a b x p in let k = lex-true b c y q in less-lex a c z (omega arith)
+]
 
--- one of two comes before the other, where they differ in the first number or next is total
-pub lex-total : (a b : ℕ) (x y : Bool) → (a ≡ b → x ≡ false → y ≡ true) → lexLess a b x ≡ false → lexLess b a y ≡ true
-lex-total a b x y f p = elim (ℕ-discrete a b) [
-  | yes e ↦ lex-equal b a y (sym e) ∙ f e (sym (lex-equal a b x e) ∙ p)
-  | no e ↦ elim (decLt a b) [
-    | yes h ↦ true-false (sym (lex-below a b x h) ∙ p)
-    | no h ↦ lex-below b a y (omega arith)
+-- neither comes before the other: equal, and the later parts alike
+pub lex-total : (a b : ℕ) (x y : Bool) → lexLess a b x ≡ false → lexLess b a y ≡ false → (a ≡ b) × (x ≡ false) × (y ≡ false)
+lex-total a b x y p q = elim (ℕ-discrete a b) [
+  | yes s ↦ (s, sym (lex-next a b x s) ∙ p, sym (lex-next b a y (sym s)) ∙ q)
+  | no s ↦ elim (native.Mathlib.Decide.decLt a b) [
+    | yes h ↦ true-false (sym (less-lex a b x h) ∙ p)
+    | no h ↦ true-false (sym (less-lex b a y (omega arith)) ∙ q)
   ]
 ]
+
+pub ltb-strict : (a : ℕ) → ltb a a ≡ false
+ltb-strict a = le-ltb a a (omega arith)
+
+pub ltb-trans : (a b c : ℕ) → ltb a b ≡ true → ltb b c ≡ true → ltb a c ≡ true
+ltb-trans a b c p q = let h = ltb-true a b p in let k = ltb-true b c q in lt-ltb a c (omega arith)
+
+pub ltb-total : (a b : ℕ) → ltb a b ≡ false → ltb b a ≡ false → a ≡ b
+ltb-total a b p q = let h = ltb-false a b p in let k = ltb-false b a q in omega arith

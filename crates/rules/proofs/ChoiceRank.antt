@@ -1,0 +1,63 @@
+-- The best holder of a slot.
+use mathlib.Core.Path.{_≡_, sym, _∙_, ap}
+use mathlib.Core.Bool.{true, false}
+use Prim.Native.Nat.{ℕ, _<_, _≤_}
+use native.Mathlib.Omega.{arith}
+use native.Mathlib.Decide.{ℕ-discrete, decLt}
+use Rattle.seq.specs.declared.Found.the-variants.{At}
+use Rattle.seq.proofs.Tests.{true-false}
+use Rattle.seq.proofs.BoolLaws.{not-false-true}
+use Rattle.seq.proofs.PickLaws.{pick-is, pick-some, pick-first, first-pick}
+use Rattle.model.specs.declared.Row.{Row}
+use Rattle.model.specs.declared.State.{State}
+use Rattle.model.specs.Parties.{levelOf, better}
+use Rattle.model.specs.State.{rowAt}
+use Rattle.model.proofs.PriorityLaws.{outranks-strict, outranks-trans, outranks-total, outranks-level}
+use Rattle.model.specs.Words.{holds, outranks, bestHolder}
+use Rattle.rules.specs.Choice.{holderLevel}
+
+pub rank-same : (s t : State) (r q : ℕ) → rowAt s r ≡ rowAt t r → rowAt s q ≡ rowAt t q → outranks s r q ≡ outranks t r q
+unfolding outranks
+rank-same s t r q e f =
+    ap (λ (x : Row). better r (x .deadline) q (rowAt s q .deadline)) e
+    ∙ ap (λ (x : Row). better r (rowAt t r .deadline) q (x .deadline)) f
+
+-- the row holds the slot and outranks its other holders
+pub record Best (s : State) (i b : ℕ) : Type 0 where
+  pub below : b < 32
+  pub held : holds s i b ≡ true
+  pub first : (r : ℕ) → r < 32 → holds s i r ≡ true → (r ≡ b → ⊥) → outranks s b r ≡ true
+
+module _ (s : State) (i : ℕ) where
+  pub best-is : (b : ℕ) → bestHolder s i ≡ At b → Best s i b
+  unfolding bestHolder
+  best-is b e =
+      let x = pick-is (holds s i) (outranks s) 32 b e in
+      record {
+        below = x .0;
+        held = x .1;
+        first = λ r h q ne. not-false-true (outranks s b r) (λ w. ne (outranks-total s r b
+            (pick-first (holds s i) (outranks s) (λ k _. outranks-strict s k) (λ k l m _ _ _. outranks-trans s k l m) 32 b r e h q) w));
+      }
+
+  pub is-best : (b : ℕ) → Best s i b → bestHolder s i ≡ At b
+  unfolding bestHolder
+  is-best b w = first-pick (holds s i) (outranks s) (λ k _. outranks-strict s k) (λ k l m _ _ _. outranks-trans s k l m) 32 b (w .below) (w .held) (w .first)
+
+  pub best-some : (r : ℕ) → r < 32 → holds s i r ≡ true → (b : ℕ) × (bestHolder s i ≡ At b)
+  unfolding bestHolder
+  best-some r h q = pick-some (holds s i) (outranks s) 32 r h q
+
+  -- no holder is of a lower level than the best one
+  pub best-level : (b r : ℕ) → bestHolder s i ≡ At b → r < 32 → holds s i r ≡ true → levelOf b ≤ levelOf r
+  best-level b r e h q = elim (ℕ-discrete r b) [
+    | yes m ↦ rw m (omega arith)
+    | no m ↦ elim (decLt (levelOf r) (levelOf b)) [
+      | yes l ↦ true-false (sym (outranks-trans s r b r (outranks-level s r b l) (best-is b e .first r h q m)) ∙ outranks-strict s r)
+      | no l ↦ omega arith
+    ]
+  ]
+
+  pub holder-level : (b : ℕ) → bestHolder s i ≡ At b → holderLevel s i ≡ levelOf b
+  unfolding holderLevel
+  holder-level b e = rw e
