@@ -122,7 +122,7 @@ by-refusal s c zero o f = f refl
 by-refusal s c (suc n) o f = stays (Refused (suc n)) refl refl
 
 -- the level and number that an accepted call names
-named : (level number rest : ℕ) → cond (ltb 3 level) 4 (cond (ltb 7 number) 5 rest) ≡ 0 → (level ≤ 3) × (number ≤ 7)
+pub named : (level number rest : ℕ) → cond (ltb 3 level) 4 (cond (ltb 7 number) 5 rest) ≡ 0 → (level ≤ 3) × (number ≤ 7)
 named level number rest e = go (ltb 3 level) (ltb 7 number) refl refl e
   where
     go : (a b : Bool) → ltb 3 level ≡ a → ltb 7 number ≡ b → cond a 4 (cond b 5 rest) ≡ 0 → (level ≤ 3) × (number ≤ 7)

@@ -1,10 +1,10 @@
 -- A request or retry that is not told to wait is granted on a state whose slot has the page: what its answer says of the next state.
 use mathlib.Core.Path.{_≡_, refl, sym, _∙_, ap}
 use mathlib.Core.Bool.{Bool, true, false, cond}
-use Prim.Native.Nat.{ℕ, _+_, _<_}
+use Prim.Native.Nat.{ℕ, _+_, _<_, _≤_}
 use native.Mathlib.Omega.{arith}
-use borrow.Author.Tests.{leb-false, eq-eqb}
-use lib.Dec.{leb}
+use borrow.Author.Tests.{leb-false, ltb-false, eq-eqb}
+use lib.Dec.{leb, ltb}
 use Rattle.seq.specs.declared.Found.the-variants.{At}
 use Rattle.seq.proofs.Tests.{true-false}
 use Rattle.model.specs.declared.Answer.{Answer}
@@ -12,25 +12,28 @@ use Rattle.model.specs.declared.Answer.the-variants.{Ready, Fetch, Wait}
 use Rattle.model.specs.declared.Back.{Back}
 use Rattle.model.specs.declared.Back.the-variants.{Nothing}
 use Rattle.model.specs.declared.Cause.the-variants.{Taken}
-use Rattle.model.specs.declared.Condition.the-variants.{Fetching}
-use Rattle.model.specs.declared.Content.the-variants.{Filled}
+use Rattle.model.specs.declared.Condition.the-variants.{Idle, Fetching}
+use Rattle.model.specs.declared.Content.{Content}
+use Rattle.model.specs.declared.Content.the-variants.{Empty, Filled}
+use Rattle.model.specs.declared.Holding.{Holding}
 use Rattle.model.specs.declared.Mode.{Mode}
 use Rattle.model.specs.declared.Outcome.{Outcome}
+use Rattle.model.specs.declared.Pin.{Pin}
 use Rattle.model.specs.declared.Row.{Row}
 use Rattle.model.specs.declared.Slot.{Slot}
 use Rattle.model.specs.declared.State.{State}
 use Rattle.model.specs.Parties.{levelOf}
-use Rattle.model.specs.State.{rowAt, slotAt}
-use Rattle.model.specs.Words.{hasPage, pins, slotOf}
+use Rattle.model.specs.State.{rowAt, slotAt, holdingAt}
+use Rattle.model.specs.Words.{hasPage, isHeld, pinOf, strength, stronger, pins, slotOf}
 use Rattle.model.specs.Changes.{killed, cleared}
 use Rattle.model.proofs.StateLaws.{Sized, slot-put}
 use Rattle.model.proofs.ChangeLaws.{wroteSlot, killed-clock, killed-size, killed-slot, sized-killed}
 use Rattle.model.proofs.DirtyLaws.{dirtied-page}
-use Rattle.rules.specs.Calls.{waiting, granted, pinnersKilled, writeBack, filled}
+use Rattle.rules.specs.Calls.{heldWith, withLowest, waiting, granted, pinnersKilled, writeBack, filled}
 use Rattle.rules.proofs.SoundFacts.{Sound}
 use Rattle.rules.proofs.PageLaws.{has-page, found-slot}
 use Rattle.rules.proofs.HiddenFill.{sized-filled}
-use Rattle.rules.proofs.GrantLaws.{grantedRow, granted-row}
+use Rattle.rules.proofs.GrantLaws.{grantedRow, grantedHolding, granted-row, granted-slot, granted-holding}
 use Rattle.rules.proofs.ChosenFree.{chosen-free}
 use Rattle.rules.proofs.ServeCases.{Serving, waits, waits-g, joins, fills}
 
@@ -102,6 +105,24 @@ granted-answer {P} u row slot mode arrival back a e f g = go (leb arrival (u .cl
     go true q k = f q (sym k)
     go false q k = g q (sym k)
 
+-- the lowest level does not change the page
+lowest-page : (level page : ℕ) (c : Content) → hasPage page (withLowest level c) ≡ hasPage page c
+lowest-page level page Empty = refl
+lowest-page level page (Filled p arrival dirty lowest) = refl
+
+-- the pin asked for, or the stronger one that the row has
+stronger-least : (p q : Pin) → strength q ≤ strength (stronger p q)
+unfolding stronger
+stronger-least p q = go (ltb (strength p) (strength q)) refl
+  where
+    go : (b : Bool) → ltb (strength p) (strength q) ≡ b → strength q ≤ strength (cond b q p)
+    go true e = omega arith
+    go false e = ltb-false (strength p) (strength q) e
+
+pin-least : (held : Bool) (own : Holding) (pin : Pin) (arrival clock : ℕ) → strength pin ≤ strength (heldWith held own pin arrival clock .pin)
+pin-least false own pin arrival clock = omega arith
+pin-least true own pin arrival clock = stronger-least (own .pin) pin
+
 module _ (s : State) (row page : ℕ) (mode : Mode) (mine : row < 32) (o : Outcome) (g : Grant s row page mode o) where
   own-row : rowAt (o .state) row ≡ grantedRow (g .before) row (g .arrival)
   own-row =
@@ -117,3 +138,33 @@ module _ (s : State) (row page : ℕ) (mode : Mode) (mine : row < 32) (o : Outco
       (λ q k.
       let d : due ≡ g .arrival = cc in
       (omega (arith, leb-false (g .arrival) (g .before .clock) q, g .ground .clock), ap (λ (x : Row). x .condition) own-row ∙ rw (q, d)))
+
+  -- ready, the row idle: it has the page asked for, with the pin asked for or a stronger one
+  pub grant-ready : (slot : ℕ) (back : Back) → o .answer ≡ Ready slot back
+      → (slot < 64) × (rowAt (o .state) row .condition ≡ Idle) × (hasPage page (slotAt (o .state) slot .content) ≡ true)
+      × (strength (pinOf mode) ≤ strength (holdingAt (o .state) slot row .pin))
+  grant-ready slot back e =
+      granted-answer (g .before) row (g .slot) mode (g .arrival) (g .back) (Ready slot back) (ap (λ (x : Outcome). x .answer) (sym (g .same)) ∙ e)
+      (λ q k.
+      let d : slot ≡ g .slot = cc in (
+        rw d (g .ground .slot-is),
+        ap (λ (x : Row). x .condition) own-row ∙ rw q,
+        rw d own-page,
+        rw d own-pin,
+      ))
+      (λ q k. true-false (cc))
+    where
+      own-page : hasPage page (slotAt (o .state) (g .slot) .content) ≡ true
+      own-page =
+          ap (λ (x : Outcome). hasPage page (slotAt (x .state) (g .slot) .content)) (g .same)
+          ∙ ap (λ (x : Slot). hasPage page (x .content)) (granted-slot (g .before) (g .ground .sized) row (g .slot) mine (g .ground .slot-is) mode (g .arrival) (g .back) (g .slot))
+          ∙ rw (eq-eqb (g .slot) (g .slot) refl) (lowest-page (levelOf row) page (slotAt (g .before) (g .slot) .content) ∙ g .ground .has-it)
+
+      own-holding : holdingAt (o .state) (g .slot) row ≡ grantedHolding (g .before) row (g .slot) mode (g .arrival)
+      own-holding =
+          ap (λ (x : Outcome). holdingAt (x .state) (g .slot) row) (g .same)
+          ∙ granted-holding (g .before) (g .ground .sized) row (g .slot) mine (g .ground .slot-is) mode (g .arrival) (g .back) (g .slot) row mine
+          ∙ rw (eq-eqb (g .slot) (g .slot) refl, eq-eqb row row refl)
+
+      own-pin : strength (pinOf mode) ≤ strength (holdingAt (o .state) (g .slot) row .pin)
+      own-pin = rw own-holding (pin-least (isHeld (holdingAt (g .before) (g .slot) row .pin)) (holdingAt (g .before) (g .slot) row) (pinOf mode) (g .arrival) (g .before .clock))
