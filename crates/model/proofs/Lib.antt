@@ -4,3 +4,4 @@ pub mod Ranges
 pub mod Releasing
 pub mod PriorityLaws
 pub mod DirtyLaws
+pub mod BookLaws

@@ -13,8 +13,7 @@ use Rattle.model.specs.declared.Back.{Back}
 use Rattle.model.specs.declared.Back.the-variants.{Nothing}
 use Rattle.model.specs.declared.Cause.the-variants.{Taken}
 use Rattle.model.specs.declared.Condition.the-variants.{Idle, Fetching}
-use Rattle.model.specs.declared.Content.{Content}
-use Rattle.model.specs.declared.Content.the-variants.{Empty, Filled}
+use Rattle.model.specs.declared.Content.the-variants.{Filled}
 use Rattle.model.specs.declared.Holding.{Holding}
 use Rattle.model.specs.declared.Mode.{Mode}
 use Rattle.model.specs.declared.Outcome.{Outcome}
@@ -29,11 +28,12 @@ use Rattle.model.specs.Changes.{killed, cleared}
 use Rattle.model.proofs.StateLaws.{Sized, slot-put}
 use Rattle.model.proofs.ChangeLaws.{wroteSlot, killed-clock, killed-size, killed-slot, sized-killed}
 use Rattle.model.proofs.DirtyLaws.{dirtied-page}
-use Rattle.rules.specs.Calls.{heldWith, withLowest, waiting, granted, pinnersKilled, writeBack, filled}
+use Rattle.rules.specs.Calls.{heldWith, waiting, granted, pinnersKilled, writeBack, filled}
 use Rattle.rules.proofs.SoundFacts.{Sound}
 use Rattle.rules.proofs.PageLaws.{has-page, found-slot}
 use Rattle.rules.proofs.HiddenFill.{sized-filled}
-use Rattle.rules.proofs.GrantLaws.{grantedRow, grantedHolding, granted-row, granted-slot, granted-holding}
+use Rattle.rules.proofs.GrantLaws.{grantedRow, grantedHolding, granted-row, granted-holding}
+use Rattle.rules.proofs.GrantBooks.{granted-booked}
 use Rattle.rules.proofs.ChosenFree.{chosen-free}
 use Rattle.rules.proofs.ServeCases.{Serving, waits, waits-g, joins, fills}
 
@@ -44,7 +44,7 @@ pub record Ground (s u : State) (page slot : ℕ) : Type 0 where
   pub slot-is : slot < 64
   pub has-it : hasPage page (slotAt u slot .content) ≡ true
 
-killed-ground : (s : State) → Sound s → (some : ℕ → Bool) (page slot : ℕ) → slotOf s page ≡ At slot → Ground s (killed some Taken s) page slot
+pub killed-ground : (s : State) → Sound s → (some : ℕ → Bool) (page slot : ℕ) → slotOf s page ≡ At slot → Ground s (killed some Taken s) page slot
 killed-ground s z some page slot e =
     let f = found-slot s page slot e in
     let b : slot < 64 = omega (arith, f .0, z .size-most) in
@@ -57,7 +57,7 @@ killed-ground s z some page slot e =
           ∙ dirtied-page page (wroteSlot some s slot) (slotAt s slot) ∙ has-page page (slotAt s slot .content) (f .1) (f .2);
     }
 
-filled-ground : (s : State) → Sound s → (page slot level : ℕ) → slot < s .size → Ground s (filled (pinnersKilled s slot) slot page level) page slot
+pub filled-ground : (s : State) → Sound s → (page slot level : ℕ) → slot < s .size → Ground s (filled (pinnersKilled s slot) slot page level) page slot
 unfolding filled pinnersKilled cleared
 filled-ground s z page slot level h =
     let k : State = killed (pins s slot) Taken s in
@@ -104,11 +104,6 @@ granted-answer {P} u row slot mode arrival back a e f g = go (leb arrival (u .cl
     go : (b : Bool) → leb arrival (u .clock) ≡ b → cond b (Ready slot back) (Fetch arrival slot back) ≡ a → P
     go true q k = f q (sym k)
     go false q k = g q (sym k)
-
--- the lowest level does not change the page
-lowest-page : (level page : ℕ) (c : Content) → hasPage page (withLowest level c) ≡ hasPage page c
-lowest-page level page Empty = refl
-lowest-page level page (Filled p arrival dirty lowest) = refl
 
 -- the pin asked for, or the stronger one that the row has
 stronger-least : (p q : Pin) → strength q ≤ strength (stronger p q)
@@ -157,8 +152,7 @@ module _ (s : State) (row page : ℕ) (mode : Mode) (mine : row < 32) (o : Outco
       own-page : hasPage page (slotAt (o .state) (g .slot) .content) ≡ true
       own-page =
           ap (λ (x : Outcome). hasPage page (slotAt (x .state) (g .slot) .content)) (g .same)
-          ∙ ap (λ (x : Slot). hasPage page (x .content)) (granted-slot (g .before) (g .ground .sized) row (g .slot) mine (g .ground .slot-is) mode (g .arrival) (g .back) (g .slot))
-          ∙ rw (eq-eqb (g .slot) (g .slot) refl) (lowest-page (levelOf row) page (slotAt (g .before) (g .slot) .content) ∙ g .ground .has-it)
+          ∙ granted-booked (g .before) (g .ground .sized) row (g .slot) mine (g .ground .slot-is) mode (g .arrival) (g .back) 0 page (g .slot) .has-it (g .ground .has-it)
 
       own-holding : holdingAt (o .state) (g .slot) row ≡ grantedHolding (g .before) row (g .slot) mode (g .arrival)
       own-holding =
