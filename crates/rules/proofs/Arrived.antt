@@ -22,10 +22,9 @@ use Rattle.rules.specs.Calls.{unless, lateKilled, ticked, looked, looked
 use Rattle.rules.specs.Run.{Call, tick, look, outcome}
 use Rattle.rules.proofs.SoundFacts.{Sound, facts}
 use Rattle.rules.proofs.CallCases.{Asks, isServed, named}
-use Rattle.rules.proofs.ServeCases.{serving}
-use Rattle.rules.proofs.Granting.{grant, grant-ready}
+use Rattle.rules.proofs.Granting.{grant-ready}
 use Rattle.rules.proofs.TickLaws.{later, ticked-clock, ticked-idle}
-use Rattle.rules.proofs.WaitFetch.{served-alone}
+use Rattle.rules.proofs.WaitFetch.{granted-alone}
 
 -- every holding of the row has arrived
 abbrev pub AllArrived : State → ℕ → Type 0
@@ -73,12 +72,11 @@ module _ (kept-sound : (s : State) (c : Call) → sound s ≡ true → sound (ou
   pub ready-arrived : (s : State) → sound s ≡ true → (c : Call) (slot : ℕ) (back : Back) → outcome s c .answer ≡ Ready slot back
       → (row : ℕ) × (page : ℕ) × (mode : Mode) × Asks s c row page mode × InHand (outcome s c .state) row page mode slot × AllArrived (outcome s c .state) row
   ready-arrived s z c slot back w =
-      let x = served-alone s z c (ap isServed w) in
+      let x = granted-alone s z c (ap isServed w) (λ e. let n : _≡_ {A = ℕ} 0 1 = cc in omega arith) in
       let row = x .0 in
       let page = x .1 in
       let mode = x .2 in
-      let g = grant s (facts s z) row page mode (x .4) (outcome s c) (rw (← x .5) at (serving s row page mode)) (λ e. let n : _≡_ {A = ℕ} 0 1 = cc in omega arith) in
-      let y = grant-ready s row page mode (x .4) (outcome s c) g slot back w in
+      let y = grant-ready s row page mode (x .4) (outcome s c) (x .5) slot back w in
       let t = facts (outcome s c .state) (kept-sound s c z) in
       let all = idle-arrived (outcome s c .state) t row (x .4) (y .1) in
       let h = strength-held mode (holdingAt (outcome s c .state) slot row .pin) (y .3) in

@@ -29,7 +29,7 @@ use Rattle.rules.proofs.SoundFacts.{Sound, facts}
 use Rattle.rules.proofs.PageLaws.{has-page, page-has, found-slot, not-found}
 use Rattle.rules.proofs.CallCases.{Asks, isServed, Effect, stays, starts, begins, unpins, ends, ticks, serves, effect}
 use Rattle.rules.proofs.ServeCases.{Serving, waits, waits-g, joins, fills, serving}
-use Rattle.rules.proofs.Granting.{grant, granted-answer, grant-fetch}
+use Rattle.rules.proofs.Granting.{Grant, grant, granted-answer, grant-fetch}
 
 -- ---- the slots where none is chosen
 
@@ -100,6 +100,13 @@ served-alone s z c = go (outcome s c) (effect s (facts s z) c)
     go o (ticks e) k = true-false (sym (rw e at k))
     go o (serves row page mode h a e) k = (row, page, mode, a, h, e)
 
+-- one that is not told to wait is granted
+pub granted-alone : (s : State) → sound s ≡ true → (c : Call) → isServed (outcome s c .answer) ≡ true → (outcome s c .answer ≡ Wait → ⊥)
+    → (row : ℕ) × (page : ℕ) × (mode : Mode) × Asks s c row page mode × (row < 32) × Grant s row page mode (outcome s c)
+granted-alone s z c e n =
+    let x = served-alone s z c e in
+    (x .0, x .1, x .2, x .3, x .4, grant s (facts s z) (x .0) (x .1) (x .2) (x .4) (outcome s c) (rw (← x .5) at (serving s (x .0) (x .1) (x .2))) n)
+
 -- ---- wait
 
 -- step 1: the page is seen through a holding, and a seen conflicting pin belongs to a row of better priority
@@ -166,7 +173,6 @@ wait-only s z c w =
 pub fetch-due : (s : State) → sound s ≡ true → (c : Call) (due slot : ℕ) (back : Back) → outcome s c .answer ≡ Fetch due slot back
     → (row : ℕ) × (page : ℕ) × (mode : Mode) × Asks s c row page mode × (s .clock < due) × (rowAt (outcome s c .state) row .condition ≡ Fetching due)
 fetch-due s z c due slot back w =
-    let x = served-alone s z c (ap isServed w) in
-    let g = grant s (facts s z) (x .0) (x .1) (x .2) (x .4) (outcome s c) (rw (← x .5) at (serving s (x .0) (x .1) (x .2))) (λ e. let n : _≡_ {A = ℕ} 0 1 = cc in omega arith) in
-    let y = grant-fetch s (x .0) (x .1) (x .2) (x .4) (outcome s c) g due slot back w in
+    let x = granted-alone s z c (ap isServed w) (λ e. let n : _≡_ {A = ℕ} 0 1 = cc in omega arith) in
+    let y = grant-fetch s (x .0) (x .1) (x .2) (x .4) (outcome s c) (x .5) due slot back w in
     (x .0, x .1, x .2, x .3, y .0, y .1)
