@@ -92,7 +92,7 @@ module _ (s : State) (z : Sound s) (slot q : ℕ) (b : slot < 64) (m : q < 32) (
   unfolding filled cleared pinnersKilled
   filled-drop row page i r c mode arrival back k = elim (ℕ-discrete slot i) [
     | yes w ↦ at-slot w (pins s slot q) refl
-    | no w ↦ inl (dropped-some (pins s i q) (holdingAt s slot q) (holdingAt u slot q) (u-holding ∙ rw (ne-eqb slot i w) (killed-holding (pins s i) s (z .sized) Taken slot q m)) before u-dropped dead)
+    | no w ↦ inl (dropped-some (pins s i q) (holdingAt s slot q) (holdingAt u slot q) (u-holding ∙ rw (ne-eqb slot i w) (killed-holding (pins s i) s (z .sized) Taken slot q m)) before u-dropped killed-other)
   ]
     where
       u : State
@@ -107,11 +107,11 @@ module _ (s : State) (z : Sound s) (slot q : ℕ) (b : slot < 64) (m : q < 32) (
       u-dropped : holds u slot q ≡ false
       u-dropped = not-true-false (holds u slot q) (λ h. true-false (sym (granted-holds u (g .sized) row i r (g .slot-is) mode arrival back slot q m h) ∙ k))
 
-      dead : pins s i q ≡ true → isLive (rowAt (granted u row i mode arrival back .state) q .condition) ≡ false
-      dead gone = taken-drop (pins s i) row r (chosen-free s row r z i c .1) gone u (g .sized) refl i (g .slot-is) mode arrival back
+      killed-other : pins s i q ≡ true → isLive (rowAt (granted u row i mode arrival back .state) q .condition) ≡ false
+      killed-other gone = taken-drop (pins s i) row r (chosen-free s row r z i c .1) gone u (g .sized) refl i (g .slot-is) mode arrival back
 
       at-slot : slot ≡ i → (p : Bool) → pins s slot q ≡ p → (isLive (rowAt (granted u row i mode arrival back .state) q .condition) ≡ false) ⊎ ((slot ≡ i) × (pins s slot q ≡ false))
-      at-slot w true p = inl (dead (rw w at p))
+      at-slot w true p = inl (killed-other (rw w at p))
       at-slot w false p = inr (w, p)
 
   module _ (c : Call) where
