@@ -7,3 +7,4 @@ pub mod DirtyLaws
 pub mod PutLaws
 pub mod PinLaws
 pub mod ArrivalLaws
+pub mod BookLaws

@@ -1,0 +1,101 @@
+-- What is told to be ready or idle has arrived.
+use mathlib.Core.Path.{_≡_, refl, ap}
+use mathlib.Core.Bool.{true}
+use Prim.Native.Nat.{ℕ, zero, suc, _+_, _<_, _≤_}
+use native.Mathlib.Omega.{arith}
+use Rattle.seq.proofs.Tests.{true-false}
+use Rattle.model.specs.declared.Answer.the-variants.{Ready, Clock, RowIdle}
+use Rattle.model.specs.declared.Back.{Back}
+use Rattle.model.specs.declared.Condition.{Condition}
+use Rattle.model.specs.declared.Condition.the-variants.{Free, Idle, Fetching, Waiting, Killed}
+use Rattle.model.specs.declared.Mode.{Mode}
+use Rattle.model.specs.declared.Pin.{Pin}
+use Rattle.model.specs.declared.Pin.the-variants.{Absent, Unpinned, Read, Write}
+use Rattle.model.specs.declared.Mode.the-variants as Mode
+use Rattle.model.specs.declared.State.{State}
+use Rattle.model.specs.Parties.{rowOf}
+use Rattle.model.specs.State.{rowAt, slotAt, holdingAt}
+use Rattle.model.specs.Words.{hasPage, arrivalIn, isHeld, pinOf, strength, holds}
+use Rattle.rules.specs.Sound.{sound}
+use Rattle.rules.specs.Refusals.{tickRefusal, lookRefusal}
+use Rattle.rules.specs.Calls.{unless, lateKilled, ticked, looked, lookedAt}
+use Rattle.rules.specs.Run.{Call, tick, look, outcome}
+use Rattle.rules.proofs.SoundFacts.{Sound, facts}
+use Rattle.rules.proofs.CallCases.{Asks, isServed, named}
+use Rattle.rules.proofs.Granting.{grant-ready}
+use Rattle.rules.proofs.TickLaws.{later, ticked-clock, ticked-idle}
+use Rattle.rules.proofs.WaitFetch.{granted-alone}
+
+-- every holding of the row has arrived
+abbrev pub AllArrived : State → ℕ → Type 0
+AllArrived s row = (slot : ℕ) → slot < 64 → holds s slot row ≡ true → holdingAt s slot row .arrival ≤ s .clock
+
+idle-arrived : (s : State) → Sound s → (row : ℕ) → row < 32 → rowAt s row .condition ≡ Idle → AllArrived s row
+idle-arrived s z row b e = (rw e at (z .row row b)) .arrived
+
+-- a look answers idle only where every holding of the row has arrived
+pub look-idle : (s : State) → sound s ≡ true → (level number : ℕ) → outcome s (look level number) .answer ≡ RowIdle → AllArrived s (rowOf level number)
+unfolding outcome lookedAt lookRefusal
+look-idle s z level number e = go (lookRefusal level number) refl e
+  where
+    idle : (x : Condition) → looked x ≡ RowIdle → x ≡ Idle
+    idle Free k = cc
+    idle Idle k = refl
+    idle (Fetching due) k = cc
+    idle (Waiting page mode) k = cc
+    idle (Killed cause) k = cc
+
+    row-is : lookRefusal level number ≡ 0 → rowOf level number < 32
+    row-is q = let n = named level number 0 q in omega (arith, n .0, n .1)
+
+    go : (n : ℕ) → lookRefusal level number ≡ n → unless n s (record { state = s; answer = looked (rowAt s (rowOf level number) .condition) }) .answer ≡ RowIdle → AllArrived s (rowOf level number)
+    go zero q k = idle-arrived s (facts s z) (rowOf level number) (row-is q) (idle (rowAt s (rowOf level number) .condition) k)
+    go (suc n) q k = true-false (cc)
+
+-- the row holds the slot of the page with the pin asked for or a stronger one, and holding and page have arrived
+pub record InHand (s : State) (row page : ℕ) (mode : Mode) (slot : ℕ) : Type 0 where
+  pub slot-is : slot < 64
+  pub has-it : hasPage page (slotAt s slot .content) ≡ true
+  pub pinned : strength (pinOf mode) ≤ strength (holdingAt s slot row .pin)
+  pub holding-arrived : holdingAt s slot row .arrival ≤ s .clock
+  pub slot-arrived : arrivalIn (slotAt s slot .content) ≤ s .clock
+
+strength-held : (mode : Mode) (p : Pin) → strength (pinOf mode) ≤ strength p → isHeld p ≡ true
+strength-held Mode.Read Absent h = absurd (omega arith)
+strength-held Mode.Write Absent h = absurd (omega arith)
+strength-held mode Unpinned h = refl
+strength-held mode Read h = refl
+strength-held mode Write h = refl
+
+module _ (kept-sound : (s : State) (c : Call) → sound s ≡ true → sound (outcome s c .state) ≡ true) where
+  -- ready comes only to a request or retry; then the page asked for is in hand, and every holding of the row has arrived
+  pub ready-arrived : (s : State) → sound s ≡ true → (c : Call) (slot : ℕ) (back : Back) → outcome s c .answer ≡ Ready slot back
+      → (row : ℕ) × (page : ℕ) × (mode : Mode) × Asks s c row page mode × InHand (outcome s c .state) row page mode slot × AllArrived (outcome s c .state) row
+  ready-arrived s z c slot back w =
+      let x = granted-alone s z c (ap isServed w) (λ e. let n : _≡_ {A = ℕ} 0 1 = cc in omega arith) in
+      let row = x .0 in
+      let page = x .1 in
+      let mode = x .2 in
+      let y = grant-ready s row page mode (x .4) (outcome s c) (x .5) slot back w in
+      let t = facts (outcome s c .state) (kept-sound s c z) in
+      let all = idle-arrived (outcome s c .state) t row (x .4) (y .1) in
+      let h = strength-held mode (holdingAt (outcome s c .state) slot row .pin) (y .3) in
+      let a = all slot (y .0) h in (
+        row,
+        page,
+        mode,
+        x .3,
+        record { slot-is = y .0; has-it = y .2; pinned = y .3; holding-arrived = a; slot-arrived = omega (arith, t .held slot row (y .0) (x .4) h .after) },
+        all,
+      )
+
+  -- a row that was fetching and is idle after a tick has reached its due tick, and every holding of it has arrived
+  pub tick-arrived : (s : State) → sound s ≡ true → (row due : ℕ) → row < 32 → rowAt s row .condition ≡ Fetching due → rowAt (outcome s tick .state) row .condition ≡ Idle
+      → (due ≤ outcome s tick .state .clock) × AllArrived (outcome s tick .state) row
+  unfolding outcome ticked
+  tick-arrived s z row due b f e = (go (tickRefusal s) e, idle-arrived (outcome s tick .state) (facts (outcome s tick .state) (kept-sound s tick z)) row b e)
+    where
+      go : (n : ℕ) → rowAt (unless n s (record { state = lateKilled (later s); answer = Clock (s .clock + 1) }) .state) row .condition ≡ Idle
+          → due ≤ unless n s (record { state = lateKilled (later s); answer = Clock (s .clock + 1) }) .state .clock
+      go zero k = rw (ticked-clock s (facts s z .sized)) (ticked-idle s (facts s z .sized) row due b f k)
+      go (suc n) k = true-false (cc)

@@ -1,0 +1,193 @@
+-- What an accepted call does, one case for each kind of change; which calls ask for a page; how a request or retry is served.
+use mathlib.Core.Path.{_≡_, refl, sym}
+use mathlib.Core.Bool.{Bool, true, false, cond}
+use mathlib.Core.List.{[], _∷_}
+use mathlib.Core.Logic.{_⊎_, inl, inr}
+use Prim.Native.Nat.{ℕ, zero, suc, _+_, _<_, _≤_}
+use native.Mathlib.Omega.{arith}
+use borrow.Author.Tests.{ltb-false}
+use lib.Dec.{ltb, eqb}
+use Rattle.seq.specs.Below.{atFound}
+use Rattle.seq.specs.declared.Found.{Found}
+use Rattle.seq.specs.declared.Found.the-variants.{At, Nowhere}
+use Rattle.seq.proofs.Tests.{true-false}
+use Rattle.model.specs.declared.Answer.{Answer}
+use Rattle.model.specs.declared.Answer.the-variants.{
+  Refused,
+  Started,
+  Begun,
+  Ready,
+  Fetch,
+  Wait,
+  Unpinned,
+  Ended,
+  Clock,
+  RowFree,
+  RowIdle,
+  RowFetching,
+  RowWaiting,
+  RowKilled,
+  PageUnseen,
+  PageActive,
+  PageRead,
+  PageWrite,
+  PageDormant,
+  Open,
+}
+use Rattle.model.specs.declared.Condition.{Condition}
+use Rattle.model.specs.declared.Condition.the-variants.{Free, Idle, Fetching, Waiting, Killed}
+use Rattle.model.specs.declared.Mode.{Mode}
+use Rattle.model.specs.declared.Pin.{Pin}
+use Rattle.model.specs.declared.Pin.the-variants as Pin
+use Rattle.model.specs.declared.Outcome.{Outcome}
+use Rattle.model.specs.declared.Row.{Row}
+use Rattle.model.specs.declared.State.{State}
+use Rattle.model.specs.Parties.{rowOf, modeOf}
+use Rattle.model.specs.State.{freeRow, fresh, rowAt, slotAt, putRow}
+use Rattle.model.specs.Words.{arrivalIn, pins, seen, seesDormant, strongestPin, leastArrival, slotOf}
+use Rattle.model.specs.Changes.{released}
+use Rattle.rules.specs.Refusals.{pinsPage, startRefusal, beginRefusal, requestRefusal, retryRefusal, unpinRefusal, endRefusal, tickRefusal, lookRefusal, viewRefusal, countRefusal}
+use Rattle.rules.specs.Calls.{
+  unless,
+  started,
+  begun,
+  unpinnedAt,
+  unpinned,
+  ended,
+  deliveredRows,
+  lateKilled,
+  advanced,
+  ticked,
+  served,
+  requested,
+  servedAgain,
+  retried,
+  looked,
+  lookedAt,
+  viewedPin,
+  viewedIn,
+  viewed,
+  counted,
+}
+use Rattle.rules.specs.Run.{Call, start, begin, request, retry, unpin, end, tick, look, view, count, outcome}
+use Rattle.rules.specs.Secrecy.{startsRefused}
+use Rattle.rules.proofs.SoundFacts.{Sound}
+use Rattle.rules.proofs.PageLaws.{found-slot}
+use Rattle.rules.proofs.SameRefusals.{unpin-passed}
+
+-- the call is a request, or a retry of the stored request, of the row for the page and mode
+pub record Asks (s : State) (c : Call) (row page : ℕ) (mode : Mode) : Type 0 where
+  pub level : ℕ
+  pub number : ℕ
+  pub level-most : level ≤ 3
+  pub number-most : number ≤ 7
+  pub row-is : row ≡ rowOf level number
+  pub call : ((m : ℕ) × (mode ≡ modeOf m) × (c ≡ request level number page m)) ⊎ ((rowAt s row .condition ≡ Waiting page mode) × (c ≡ retry level number))
+
+-- the answers of a served request or retry
+abbrev pub isServed : Answer → Bool
+isServed (Refused number) = false
+isServed Started = false
+isServed Begun = false
+isServed (Ready slot back) = true
+isServed (Fetch due slot back) = true
+isServed Wait = true
+isServed Unpinned = false
+isServed Ended = false
+isServed (Clock clock) = false
+isServed RowFree = false
+isServed RowIdle = false
+isServed (RowFetching due) = false
+isServed RowWaiting = false
+isServed (RowKilled cause) = false
+isServed PageUnseen = false
+isServed (PageActive arrival) = false
+isServed (PageRead arrival) = false
+isServed (PageWrite arrival) = false
+isServed (PageDormant arrival) = false
+isServed (Open n) = false
+
+pub data Effect (s : State) (c : Call) (o : Outcome) : Type 0 where
+  stays : (a : Answer) → isServed a ≡ false → o ≡ record { state = s; answer = a } → Effect s c o
+  starts : (slots delay : ℕ) → startsRefused (c ∷ []) ≡ false → o ≡ record { state = fresh slots delay; answer = Started } → Effect s c o
+  begins : (row : ℕ) (x : Row) → row < 32 → o ≡ record { state = putRow s row x; answer = Begun } → Effect s c o
+  unpins : (row slot : ℕ) → row < 32 → slot < 64 → o ≡ record { state = unpinnedAt s row slot; answer = Unpinned } → Effect s c o
+  ends : (row : ℕ) → row < 32 → o ≡ record { state = putRow (released (eqb row) s) row freeRow; answer = Ended } → Effect s c o
+  ticks : o ≡ record { state = lateKilled (deliveredRows (advanced s)); answer = Clock (s .clock + 1) } → Effect s c o
+  serves : (row page : ℕ) (mode : Mode) → row < 32 → Asks s c row page mode → o ≡ served s row page mode → Effect s c o
+
+-- a refused call
+by-refusal : (s : State) (c : Call) (n : ℕ) (o : Outcome) → (n ≡ 0 → Effect s c o) → Effect s c (unless n s o)
+by-refusal s c zero o f = f refl
+by-refusal s c (suc n) o f = stays (Refused (suc n)) refl refl
+
+-- the level and number that an accepted call names
+pub named : (level number rest : ℕ) → cond (ltb 3 level) 4 (cond (ltb 7 number) 5 rest) ≡ 0 → (level ≤ 3) × (number ≤ 7)
+named level number rest e = go (ltb 3 level) (ltb 7 number) refl refl e
+  where
+    go : (a b : Bool) → ltb 3 level ≡ a → ltb 7 number ≡ b → cond a 4 (cond b 5 rest) ≡ 0 → (level ≤ 3) × (number ≤ 7)
+    go true b p q k = absurd (omega arith)
+    go false true p q k = absurd (omega arith)
+    go false false p q k = (ltb-false 3 level p, ltb-false 7 number q)
+
+-- questions are answered by no served answer
+looked-other : (x : Condition) → isServed (looked x) ≡ false
+looked-other Free = refl
+looked-other Idle = refl
+looked-other (Fetching due) = refl
+looked-other (Waiting page mode) = refl
+looked-other (Killed cause) = refl
+
+viewed-other : (s : State) (level : ℕ) (f : Found) → isServed (viewedIn f s level) ≡ false
+viewed-other s level Nowhere = refl
+viewed-other s level (At slot) = go (seen s level slot) (seesDormant s level slot) (strongestPin s level slot)
+  where
+    go : (a b : Bool) (p : Pin) → isServed (cond a (viewedPin p (leastArrival s level slot)) (cond b (PageDormant (arrivalIn (slotAt s slot .content))) PageUnseen)) ≡ false
+    go true b Pin.Absent = refl
+    go true b Pin.Unpinned = refl
+    go true b Pin.Read = refl
+    go true b Pin.Write = refl
+    go false true p = refl
+    go false false p = refl
+
+module _ (s : State) (z : Sound s) where
+  unpin-effect : (c : Call) (row page : ℕ) → row < 32 → pinsPage s row page ≡ true → Effect s c (record { state = atFound (slotOf s page) (unpinnedAt s row) s; answer = Unpinned })
+  unfolding pinsPage
+  unpin-effect c row page b e = go (slotOf s page) refl e
+    where
+      go : (f : Found) → slotOf s page ≡ f → atFound f (λ slot. pins s slot row) false ≡ true → Effect s c (record { state = atFound f (unpinnedAt s row) s; answer = Unpinned })
+      go Nowhere q k = true-false (sym k)
+      go (At slot) q k = unpins row slot b (omega (arith, found-slot s page slot q .0, z .size-most)) refl
+
+  retry-effect : (level number : ℕ) → level ≤ 3 → number ≤ 7 → (x : Condition) → rowAt s (rowOf level number) .condition ≡ x → Effect s (retry level number) (servedAgain x s (rowOf level number))
+  retry-effect level number a b Free e = stays (Refused 9) refl refl
+  retry-effect level number a b Idle e = stays (Refused 16) refl refl
+  retry-effect level number a b (Fetching due) e = stays (Refused 16) refl refl
+  retry-effect level number a b (Waiting page mode) e =
+      serves (rowOf level number) page mode (omega arith)
+      (record { level = level; number = number; level-most = a; number-most = b; row-is = refl; call = inr (e, refl) }) refl
+  retry-effect level number a b (Killed cause) e = stays (Refused 10) refl refl
+
+  pub effect : (c : Call) → Effect s c (outcome s c)
+  unfolding outcome started begun requested retried unpinned ended ticked lookedAt viewed counted startsRefused beginRefusal requestRefusal retryRefusal unpinRefusal endRefusal
+  effect (start slots delay) = by-refusal s (start slots delay) (startRefusal slots delay) _ (λ e. starts slots delay (rw e) refl)
+  effect (begin level number deadline) = by-refusal s (begin level number deadline) (beginRefusal s level number deadline) _ (λ e.
+      let n = named level number _ e in
+      begins (rowOf level number) (record { condition = Idle; deadline = deadline }) (omega (arith, n .0, n .1)) refl)
+  effect (request level number page mode) = by-refusal s (request level number page mode) (requestRefusal s level number page mode) _ (λ e.
+      let n = named level number _ e in
+      serves (rowOf level number) page (modeOf mode) (omega (arith, n .0, n .1))
+      (record { level = level; number = number; level-most = n .0; number-most = n .1; row-is = refl; call = inl (mode, refl, refl) }) refl)
+  effect (retry level number) = by-refusal s (retry level number) (retryRefusal s level number) _ (λ e.
+      let n = named level number _ e in
+      retry-effect level number (n .0) (n .1) (rowAt s (rowOf level number) .condition) refl)
+  effect (unpin level number page) = by-refusal s (unpin level number page) (unpinRefusal s level number page) _ (λ e.
+      let n = named level number _ e in
+      unpin-effect (unpin level number page) (rowOf level number) page (omega (arith, n .0, n .1)) (unpin-passed s level number page e .1))
+  effect (end level number) = by-refusal s (end level number) (endRefusal s level number) _ (λ e.
+      let n = named level number _ e in
+      ends (rowOf level number) (omega (arith, n .0, n .1)) refl)
+  effect tick = by-refusal s tick (tickRefusal s) _ (λ e. ticks refl)
+  effect (look level number) = by-refusal s (look level number) (lookRefusal level number) _ (λ e. stays (looked (rowAt s (rowOf level number) .condition)) (looked-other (rowAt s (rowOf level number) .condition)) refl)
+  effect (view level page) = by-refusal s (view level page) (viewRefusal level page) _ (λ e. stays (viewedIn (slotOf s page) s level) (viewed-other s level (slotOf s page)) refl)
+  effect (count level) = by-refusal s (count level) (countRefusal level) _ (λ e. stays (Open _) refl refl)

@@ -1,0 +1,178 @@
+-- What an answer wait or fetch says of the state before: wait comes only by steps 1 and g.
+use mathlib.Core.Path.{_≡_, refl, sym, _∙_, ap}
+use mathlib.Core.Bool.{Bool, true, false, _&&_, not}
+use mathlib.Core.Logic.{_⊎_, inl, inr}
+use Prim.Native.Nat.{ℕ, _<_, _≤_}
+use native.Mathlib.Omega.{arith}
+use borrow.Author.Tests.{leb-true, eqb-false, eq-eqb, not-true, not-false}
+use lib.Dec.{leb, ltb, eqb}
+use Rattle.seq.specs.Below.{anyBelow, pickBelow}
+use Rattle.seq.specs.declared.Found.{Found}
+use Rattle.seq.specs.declared.Found.the-variants.{At, Nowhere}
+use Rattle.seq.proofs.Tests.{true-false, parts, both-true, not-true-false}
+use Rattle.seq.proofs.BelowLaws.{any-hit}
+use Rattle.seq.proofs.PickLaws.{pick-is, pick-none, pick-some, at-nowhere}
+use Rattle.model.specs.declared.Answer.the-variants.{Fetch, Wait}
+use Rattle.model.specs.declared.Back.{Back}
+use Rattle.model.specs.declared.Condition.the-variants.{Fetching}
+use Rattle.model.specs.declared.Mode.{Mode}
+use Rattle.model.specs.declared.Outcome.{Outcome}
+use Rattle.model.specs.declared.State.{State}
+use Rattle.model.specs.Parties.{levelOf}
+use Rattle.model.specs.State.{rowAt, slotAt, holdingAt}
+use Rattle.model.specs.Words.{isFilled, hasPage, pinOf, conflict, holds, seenHolder, seen, dormant, outranks, slotOf}
+use Rattle.rules.specs.Sound.{sound}
+use Rattle.rules.specs.Choice.{orElse, stepA, stepB, beforeDormant, heldAbove, holderLevel, highestLevel, pinnedAt, inC, inD, beforeHeld, stepHeld, chosen}
+use Rattle.rules.specs.Calls.{granted, conflicts, mustWait, served}
+use Rattle.rules.specs.Run.{Call, outcome}
+use Rattle.rules.proofs.SoundFacts.{Sound, facts}
+use Rattle.rules.proofs.PageLaws.{has-page, page-has, found-slot, not-found}
+use Rattle.rules.proofs.CallCases.{Asks, isServed, Effect, stays, starts, begins, unpins, ends, ticks, serves, effect}
+use Rattle.rules.proofs.ServeCases.{Serving, waits, waits-g, joins, fills, serving}
+use Rattle.rules.proofs.Granting.{Grant, grant, granted-answer, grant-fetch}
+
+-- ---- the slots where none is chosen
+
+or-none : {P : Type 0} (f g : Found) → orElse f g ≡ Nowhere → (f ≡ Nowhere → g ≡ Nowhere → P) → P
+or-none Nowhere g e k = k refl e
+or-none (At i) g e k = at-nowhere e
+
+-- the slot is filled and held by a row of the level or a lower one
+pub record HeldUpTo (s : State) (level slot : ℕ) : Type 0 where
+  pub filled : isFilled (slotAt s slot .content) ≡ true
+  pub holder : ℕ
+  pub holder-row : holder < 32
+  pub holder-level : levelOf holder ≤ level
+  pub holds-it : holds s slot holder ≡ true
+
+-- where slots are held only above the requester's level, steps c and d find one
+none-above : (s : State) (row slot : ℕ) → slot < s .size → heldAbove s row slot ≡ true → stepHeld s (inC s row) ≡ Nowhere → stepHeld s (inD s row) ≡ Nowhere → ⊥
+unfolding stepHeld inC inD highestLevel
+none-above s row slot b h c d =
+    let higher : ℕ → ℕ → Bool = λ i j. ltb (holderLevel s j) (holderLevel s i) in
+    let x = pick-some (heldAbove s row) higher (s .size) slot b h in
+    let y = pick-is (heldAbove s row) higher (s .size) (x .0) (x .1) in
+    go (x .0) (x .1) (y .0) (y .1) (pinnedAt s (highestLevel s row) (x .0)) refl
+  where
+    go : (i : ℕ) → pickBelow (s .size) (heldAbove s row) (λ i j. ltb (holderLevel s j) (holderLevel s i)) ≡ At i → i < s .size → heldAbove s row i ≡ true
+        → (p : Bool) → pinnedAt s (highestLevel s row) i ≡ p → ⊥
+    go i e k u true p = true-false (sym (both-true (both-true u (rw e (eq-eqb (holderLevel s i) (holderLevel s i) refl))) p) ∙ pick-none (inD s row) (beforeHeld s) (s .size) i d k)
+    go i e k u false p = true-false (sym (both-true (both-true u (rw e (eq-eqb (holderLevel s i) (holderLevel s i) refl))) (rw p)) ∙ pick-none (inC s row) (beforeHeld s) (s .size) i c k)
+
+held-up-to : (s : State) (level slot : ℕ) → isFilled (slotAt s slot .content) ≡ true → seen s level slot ≡ true → HeldUpTo s level slot
+unfolding seen seenHolder
+held-up-to s level slot f e =
+    let x = any-hit (λ row. leb (levelOf row) level && holds s slot row) 32 e in
+    let k = x .2 in
+    record { filled = f; holder = x .0; holder-row = x .1; holder-level = leb-true (levelOf (x .0)) level (search parts depth 20); holds-it = search parts depth 20 }
+
+-- g. none: every slot is held by a row of the requester's level or a lower one
+pub none-chosen : (s : State) (row : ℕ) → chosen s row ≡ Nowhere → (slot : ℕ) → slot < s .size → HeldUpTo s (levelOf row) slot
+unfolding chosen stepA stepB dormant heldAbove
+none-chosen s row e slot b =
+    or-none (stepA s) _ e λ a e1.
+    or-none (stepB s) _ e1 λ p e2.
+    or-none (stepHeld s (inC s row)) _ e2 λ c e3.
+    or-none (stepHeld s (inD s row)) _ e3 λ d _.
+    let f = not-false (isFilled (slotAt s slot .content)) (pick-none (λ i. not (isFilled (slotAt s i .content))) (λ i j. false) (s .size) slot a b) in
+    let k = pick-none (λ i. isFilled (slotAt s i .content) && not (anyBelow 32 (holds s i))) (beforeDormant s) (s .size) slot p b in
+    let h = not-false (anyBelow 32 (holds s slot)) (rw f at k) in
+    go f h c d (seen s (levelOf row) slot) refl
+  where
+    go : isFilled (slotAt s slot .content) ≡ true → anyBelow 32 (holds s slot) ≡ true → stepHeld s (inC s row) ≡ Nowhere → stepHeld s (inD s row) ≡ Nowhere
+        → (v : Bool) → seen s (levelOf row) slot ≡ v → HeldUpTo s (levelOf row) slot
+    go f h c d true q = held-up-to s (levelOf row) slot f q
+    go f h c d false q = absurd (none-above s row slot b (both-true h (rw q)) c d)
+
+-- ---- the calls that are served
+
+-- no call but a request and a retry answers ready, fetch or wait
+pub served-alone : (s : State) → sound s ≡ true → (c : Call) → isServed (outcome s c .answer) ≡ true
+    → (row : ℕ) × (page : ℕ) × (mode : Mode) × Asks s c row page mode × (row < 32) × (outcome s c ≡ served s row page mode)
+served-alone s z c = go (outcome s c) (effect s (facts s z) c)
+  where
+    go : (o : Outcome) → Effect s c o → isServed (o .answer) ≡ true → (row : ℕ) × (page : ℕ) × (mode : Mode) × Asks s c row page mode × (row < 32) × (o ≡ served s row page mode)
+    go o (stays a h e) k = true-false (sym (rw e at k) ∙ h)
+    go o (starts slots delay h e) k = true-false (sym (rw e at k))
+    go o (begins row x h e) k = true-false (sym (rw e at k))
+    go o (unpins row slot h i e) k = true-false (sym (rw e at k))
+    go o (ends row h e) k = true-false (sym (rw e at k))
+    go o (ticks e) k = true-false (sym (rw e at k))
+    go o (serves row page mode h a e) k = (row, page, mode, a, h, e)
+
+-- one that is not told to wait is granted
+pub granted-alone : (s : State) → sound s ≡ true → (c : Call) → isServed (outcome s c .answer) ≡ true → (outcome s c .answer ≡ Wait → ⊥)
+    → (row : ℕ) × (page : ℕ) × (mode : Mode) × Asks s c row page mode × (row < 32) × Grant s row page mode (outcome s c)
+granted-alone s z c e n =
+    let x = served-alone s z c e in
+    (x .0, x .1, x .2, x .3, x .4, grant s (facts s z) (x .0) (x .1) (x .2) (x .4) (outcome s c) (rw (← x .5) at (serving s (x .0) (x .1) (x .2))) n)
+
+-- ---- wait
+
+-- step 1: the page is seen through a holding, and a seen conflicting pin belongs to a row of better priority
+pub record Outranked (s : State) (row page : ℕ) (mode : Mode) : Type 0 where
+  pub slot : ℕ
+  pub slot-is : slot < 64
+  pub has-it : hasPage page (slotAt s slot .content) ≡ true
+  pub sees : seen s (levelOf row) slot ≡ true
+  pub other : ℕ
+  pub other-row : other < 32
+  pub different : other ≡ row → ⊥
+  pub other-level : levelOf other ≤ levelOf row
+  pub against : conflict (pinOf mode) (holdingAt s slot other .pin) ≡ true
+  pub better : outranks s other row ≡ true
+
+-- step g: the page is in no slot, and no slot is chosen
+pub record NoSlot (s : State) (row page : ℕ) : Type 0 where
+  pub nowhere : (slot : ℕ) → slot < 64 → hasPage page (slotAt s slot .content) ≡ false
+  pub none : chosen s row ≡ Nowhere
+  pub held : (slot : ℕ) → slot < s .size → HeldUpTo s (levelOf row) slot
+
+must-wait : (s : State) → Sound s → (row page : ℕ) (mode : Mode) (slot : ℕ) → slotOf s page ≡ At slot → seen s (levelOf row) slot ≡ true → mustWait s row slot mode ≡ true → Outranked s row page mode
+unfolding mustWait conflicts
+must-wait s z row page mode slot e v w =
+    let f = found-slot s page slot e in
+    let x = any-hit (λ other. leb (levelOf other) (levelOf row) && (not (eqb other row) && conflict (pinOf mode) (holdingAt s slot other .pin)) && outranks s other row) 32 w in
+    let k = x .2 in
+    record {
+      slot = slot;
+      slot-is = omega (arith, f .0, z .size-most);
+      has-it = has-page page (slotAt s slot .content) (f .1) (f .2);
+      sees = v;
+      other = x .0;
+      other-row = x .1;
+      different = eqb-false (x .0) row (not-true (eqb (x .0) row) (search parts depth 20));
+      other-level = leb-true (levelOf (x .0)) (levelOf row) (search parts depth 20);
+      against = search parts depth 20;
+      better = search parts depth 20;
+    }
+
+in-no-slot : (s : State) → Sound s → (page : ℕ) → slotOf s page ≡ Nowhere → (slot : ℕ) → slot < 64 → hasPage page (slotAt s slot .content) ≡ false
+in-no-slot s z page e slot b = not-true-false (hasPage page (slotAt s slot .content)) (λ h.
+    true-false (sym h ∙ not-found s page slot e (z .slot slot b .started (page-has page (slotAt s slot .content) h .0))))
+
+-- wait comes only by steps 1 and g
+pub wait-only : (s : State) → sound s ≡ true → (c : Call) → outcome s c .answer ≡ Wait
+    → (row : ℕ) × (page : ℕ) × (mode : Mode) × Asks s c row page mode × (Outranked s row page mode ⊎ NoSlot s row page)
+wait-only s z c w =
+    let x = served-alone s z c (ap isServed w) in
+    (x .0, x .1, x .2, x .3, go (x .0) (x .1) (x .2) (outcome s c) (rw (← x .5) at (serving s (x .0) (x .1) (x .2))) w)
+  where
+    never : {P : Type 0} (u : State) (row slot : ℕ) (mode : Mode) (arrival : ℕ) (back : Back) → granted u row slot mode arrival back .answer ≡ Wait → P
+    never u row slot mode arrival back e = granted-answer u row slot mode arrival back Wait e (λ q k. true-false (cc)) (λ q k. true-false (cc))
+
+    go : (row page : ℕ) (mode : Mode) (o : Outcome) → Serving s row page mode o → o .answer ≡ Wait → Outranked s row page mode ⊎ NoSlot s row page
+    go row page mode o (waits slot e v m q) k = inl (must-wait s (facts s z) row page mode slot e v m)
+    go row page mode o (waits-g e n q) k = inr (record { nowhere = in-no-slot s (facts s z) page e; none = n; held = none-chosen s row n })
+    go row page mode o (joins slot arrival some e n q) k = never _ _ _ _ _ _ (rw q at k)
+    go row page mode o (fills slot e n q) k = never _ _ _ _ _ _ (rw q at k)
+
+-- ---- fetch
+
+-- a fetch is due after the clock, and the row is fetching until then
+pub fetch-due : (s : State) → sound s ≡ true → (c : Call) (due slot : ℕ) (back : Back) → outcome s c .answer ≡ Fetch due slot back
+    → (row : ℕ) × (page : ℕ) × (mode : Mode) × Asks s c row page mode × (s .clock < due) × (rowAt (outcome s c .state) row .condition ≡ Fetching due)
+fetch-due s z c due slot back w =
+    let x = granted-alone s z c (ap isServed w) (λ e. let n : _≡_ {A = ℕ} 0 1 = cc in omega arith) in
+    let y = grant-fetch s (x .0) (x .1) (x .2) (x .4) (outcome s c) (x .5) due slot back w in
+    (x .0, x .1, x .2, x .3, y .0, y .1)
