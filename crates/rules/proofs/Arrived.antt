@@ -20,6 +20,7 @@ use Rattle.rules.specs.Sound.{sound}
 use Rattle.rules.specs.Refusals.{tickRefusal, lookRefusal}
 use Rattle.rules.specs.Calls.{unless, lateKilled, ticked, looked, lookedAt}
 use Rattle.rules.specs.Run.{Call, tick, look, outcome}
+use Rattle.rules.proofs.Kept.{kept-sound}
 use Rattle.rules.proofs.SoundFacts.{Sound, facts}
 use Rattle.rules.proofs.CallCases.{Asks, isServed, named}
 use Rattle.rules.proofs.Granting.{grant-ready}
@@ -67,35 +68,34 @@ strength-held mode Unpinned h = refl
 strength-held mode Read h = refl
 strength-held mode Write h = refl
 
-module _ (kept-sound : (s : State) (c : Call) → sound s ≡ true → sound (outcome s c .state) ≡ true) where
-  -- ready comes only to a request or retry; then the page asked for is in hand, and every holding of the row has arrived
-  pub ready-arrived : (s : State) → sound s ≡ true → (c : Call) (slot : ℕ) (back : Back) → outcome s c .answer ≡ Ready slot back
-      → (row : ℕ) × (page : ℕ) × (mode : Mode) × Asks s c row page mode × InHand (outcome s c .state) row page mode slot × AllArrived (outcome s c .state) row
-  ready-arrived s z c slot back w =
-      let x = granted-alone s z c (ap isServed w) (λ e. let n : _≡_ {A = ℕ} 0 1 = cc in omega arith) in
-      let row = x .0 in
-      let page = x .1 in
-      let mode = x .2 in
-      let y = grant-ready s row page mode (x .4) (outcome s c) (x .5) slot back w in
-      let t = facts (outcome s c .state) (kept-sound s c z) in
-      let all = idle-arrived (outcome s c .state) t row (x .4) (y .1) in
-      let h = strength-held mode (holdingAt (outcome s c .state) slot row .pin) (y .3) in
-      let a = all slot (y .0) h in (
-        row,
-        page,
-        mode,
-        x .3,
-        record { slot-is = y .0; has-it = y .2; pinned = y .3; holding-arrived = a; slot-arrived = omega (arith, t .held slot row (y .0) (x .4) h .after) },
-        all,
-      )
+-- ready comes only to a request or retry; then the page asked for is in hand, and every holding of the row has arrived
+pub ready-arrived : (s : State) → sound s ≡ true → (c : Call) (slot : ℕ) (back : Back) → outcome s c .answer ≡ Ready slot back
+    → (row : ℕ) × (page : ℕ) × (mode : Mode) × Asks s c row page mode × InHand (outcome s c .state) row page mode slot × AllArrived (outcome s c .state) row
+ready-arrived s z c slot back w =
+    let x = granted-alone s z c (ap isServed w) (λ e. let n : _≡_ {A = ℕ} 0 1 = cc in omega arith) in
+    let row = x .0 in
+    let page = x .1 in
+    let mode = x .2 in
+    let y = grant-ready s row page mode (x .4) (outcome s c) (x .5) slot back w in
+    let t = facts (outcome s c .state) (kept-sound s c z) in
+    let all = idle-arrived (outcome s c .state) t row (x .4) (y .1) in
+    let h = strength-held mode (holdingAt (outcome s c .state) slot row .pin) (y .3) in
+    let a = all slot (y .0) h in (
+      row,
+      page,
+      mode,
+      x .3,
+      record { slot-is = y .0; has-it = y .2; pinned = y .3; holding-arrived = a; slot-arrived = omega (arith, t .held slot row (y .0) (x .4) h .after) },
+      all,
+    )
 
-  -- a row that was fetching and is idle after a tick has reached its due tick, and every holding of it has arrived
-  pub tick-arrived : (s : State) → sound s ≡ true → (row due : ℕ) → row < 32 → rowAt s row .condition ≡ Fetching due → rowAt (outcome s tick .state) row .condition ≡ Idle
-      → (due ≤ outcome s tick .state .clock) × AllArrived (outcome s tick .state) row
-  unfolding outcome ticked
-  tick-arrived s z row due b f e = (go (tickRefusal s) e, idle-arrived (outcome s tick .state) (facts (outcome s tick .state) (kept-sound s tick z)) row b e)
-    where
-      go : (n : ℕ) → rowAt (unless n s (record { state = lateKilled (later s); answer = Clock (s .clock + 1) }) .state) row .condition ≡ Idle
-          → due ≤ unless n s (record { state = lateKilled (later s); answer = Clock (s .clock + 1) }) .state .clock
-      go zero k = rw (ticked-clock s (facts s z .sized)) (ticked-idle s (facts s z .sized) row due b f k)
-      go (suc n) k = true-false (cc)
+-- a row that was fetching and is idle after a tick has reached its due tick, and every holding of it has arrived
+pub tick-arrived : (s : State) → sound s ≡ true → (row due : ℕ) → row < 32 → rowAt s row .condition ≡ Fetching due → rowAt (outcome s tick .state) row .condition ≡ Idle
+    → (due ≤ outcome s tick .state .clock) × AllArrived (outcome s tick .state) row
+unfolding outcome ticked
+tick-arrived s z row due b f e = (go (tickRefusal s) e, idle-arrived (outcome s tick .state) (facts (outcome s tick .state) (kept-sound s tick z)) row b e)
+  where
+    go : (n : ℕ) → rowAt (unless n s (record { state = lateKilled (later s); answer = Clock (s .clock + 1) }) .state) row .condition ≡ Idle
+        → due ≤ unless n s (record { state = lateKilled (later s); answer = Clock (s .clock + 1) }) .state .clock
+    go zero k = rw (ticked-clock s (facts s z .sized)) (ticked-idle s (facts s z .sized) row due b f k)
+    go (suc n) k = true-false (cc)

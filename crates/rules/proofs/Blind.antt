@@ -20,6 +20,9 @@ use Rattle.rules.specs.Secrecy.{isKept, keptCalls, keptAnswers, startsRe
 use Rattle.rules.proofs.Alike.{Alike}
 use Rattle.rules.proofs.AlikeLaws.{alike-refl, alike-sym, alike-trans}
 use Rattle.rules.proofs.Hidden.{hidden, start-still, looked-still, viewed-still, counted-still}
+use Rattle.rules.proofs.KeptFresh.{fresh-sound}
+use Rattle.rules.proofs.Kept.{kept-sound}
+use Rattle.rules.proofs.SameStep.{same-step}
 use Rattle.rules.proofs.BlindRuns.{Blinding, two-runs}
 
 -- a call that is not kept for clearance 3 is refused: it leaves the state
@@ -45,30 +48,25 @@ same-blinding = record {
   other = λ s t c e k r. unkept-still s c k r ∙ e;
 }
 
-module _
-    (kept-sound : (s : State) (c : Call) → sound s ≡ true → sound (outcome s c .state) ≡ true)
-    (same-step : (L : ℕ) (s t : State) (c : Call) → L ≤ 2 → sound s ≡ true → sound t ≡ true → Alike L s t → isKept L c ≡ true
-    → (told (outcome s c .answer) ≡ told (outcome t c .answer)) × Alike L (outcome s c .state) (outcome t c .state))
-    (fresh-sound : (slots delay : ℕ) → 1 ≤ slots → slots ≤ 64 → 1 ≤ delay → delay ≤ 255 → sound (fresh slots delay) ≡ true) where
-  -- two sound states that a clearance up to 2 cannot tell apart
-  alike-blinding : (L : ℕ) → L ≤ 2 → Blinding L (λ s t. (sound s ≡ true) × (sound t ≡ true) × Alike L s t)
-  alike-blinding L b = record {
-    clock = λ s t x. x .2 .clock;
-    row = λ s t x. x .2 .row;
-    kept = λ s t c x k.
-        let y = same-step L s t c b (x .0) (x .1) (x .2) k in
-        (y .0, (kept-sound s c (x .0), kept-sound t c (x .1), y .1));
-    other = λ s t c x k r. (kept-sound s c (x .0), x .1, alike-trans (alike-sym (hidden L s c (x .0) k r)) (x .2));
-  }
+-- two sound states that a clearance up to 2 cannot tell apart
+alike-blinding : (L : ℕ) → L ≤ 2 → Blinding L (λ s t. (sound s ≡ true) × (sound t ≡ true) × Alike L s t)
+alike-blinding L b = record {
+  clock = λ s t x. x .2 .clock;
+  row = λ s t x. x .2 .row;
+  kept = λ s t c x k.
+      let y = same-step L s t c b (x .0) (x .1) (x .2) k in
+      (y .0, (kept-sound s c (x .0), kept-sound t c (x .1), y .1));
+  other = λ s t c x k r. (kept-sound s c (x .0), x .1, alike-trans (alike-sym (hidden L s c (x .0) k r)) (x .2));
+}
 
-  pub blind : (L slots delay : ℕ) (cs ds : List Call) → L ≤ 3 → 1 ≤ slots → slots ≤ 64 → 1 ≤ delay → delay ≤ 255
-      → startsRefused cs ≡ true → startsRefused ds ≡ true → keptCalls L cs ≡ keptCalls L ds
-      → (keptAnswers L (fresh slots delay) cs ≡ keptAnswers L (fresh slots delay) ds)
-      × ((row : ℕ) → row < 32 → levelOf row ≤ L → deliveries (fresh slots delay) cs row ≡ deliveries (fresh slots delay) ds row)
-      × ((c : Call) → isQuestion L c ≡ true → told (outcome (after (fresh slots delay) cs) c .answer) ≡ told (outcome (after (fresh slots delay) ds) c .answer))
-  blind L slots delay cs ds l a b c d p q e = elim (decLt L 3) [
-    | yes h ↦
-        let z = fresh-sound slots delay a b c d in
-        two-runs L (λ s t. (sound s ≡ true) × (sound t ≡ true) × Alike L s t) (alike-blinding L (omega arith)) (fresh slots delay) cs ds (z, z, alike-refl L (fresh slots delay)) p q e
-    | no h ↦ two-runs L (λ s t. s ≡ t) (let n : 3 ≡ L = omega arith in rw (← n) same-blinding) (fresh slots delay) cs ds refl p q e
-  ]
+pub blind : (L slots delay : ℕ) (cs ds : List Call) → L ≤ 3 → 1 ≤ slots → slots ≤ 64 → 1 ≤ delay → delay ≤ 255
+    → startsRefused cs ≡ true → startsRefused ds ≡ true → keptCalls L cs ≡ keptCalls L ds
+    → (keptAnswers L (fresh slots delay) cs ≡ keptAnswers L (fresh slots delay) ds)
+    × ((row : ℕ) → row < 32 → levelOf row ≤ L → deliveries (fresh slots delay) cs row ≡ deliveries (fresh slots delay) ds row)
+    × ((c : Call) → isQuestion L c ≡ true → told (outcome (after (fresh slots delay) cs) c .answer) ≡ told (outcome (after (fresh slots delay) ds) c .answer))
+blind L slots delay cs ds l a b c d p q e = elim (decLt L 3) [
+  | yes h ↦
+      let z = fresh-sound slots delay a b c d in
+      two-runs L (λ s t. (sound s ≡ true) × (sound t ≡ true) × Alike L s t) (alike-blinding L (omega arith)) (fresh slots delay) cs ds (z, z, alike-refl L (fresh slots delay)) p q e
+  | no h ↦ two-runs L (λ s t. s ≡ t) (let n : 3 ≡ L = omega arith in rw (← n) same-blinding) (fresh slots delay) cs ds refl p q e
+]

@@ -38,7 +38,7 @@ use Rattle.rules.proofs.GrantLaws.{granted-clock}
 use Rattle.rules.proofs.GrantBooks.{granted-booked, unpinned-booked}
 use Rattle.rules.proofs.Granting.{Ground, killed-ground, filled-ground}
 use Rattle.rules.proofs.TickLaws.{later, ticked-slot, ticked-holding, ticked-clock}
-use Rattle.rules.proofs.ChosenFree.{chosen-free}
+use Rattle.rules.proofs.KeptChoice.{chosen-free}
 use Rattle.rules.proofs.CallCases.{Effect, stays, starts, begins, unpins, ends, ticks, serves}
 use Rattle.rules.proofs.ServeCases.{Serving, waits, waits-g, joins, fills, serving}
 

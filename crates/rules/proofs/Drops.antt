@@ -30,7 +30,7 @@ use Rattle.rules.proofs.GrantLaws.{granted-row}
 use Rattle.rules.proofs.GrantBooks.{granted-holds, granted-booked, unpinned-holds}
 use Rattle.rules.proofs.Granting.{Ground, killed-ground, filled-ground}
 use Rattle.rules.proofs.TickLaws.{later, ticked-row, ticked-holding}
-use Rattle.rules.proofs.ChosenFree.{chosen-free}
+use Rattle.rules.proofs.KeptChoice.{chosen-free}
 use Rattle.rules.proofs.CallCases.{Asks, Effect, stays, starts, begins, unpins, ends, ticks, serves}
 use Rattle.rules.proofs.ServeCases.{Serving, waits, waits-g, joins, fills, serving}
 

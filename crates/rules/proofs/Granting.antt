@@ -34,7 +34,7 @@ use Rattle.rules.proofs.PageLaws.{has-page, found-slot}
 use Rattle.rules.proofs.HiddenFill.{sized-filled}
 use Rattle.rules.proofs.GrantLaws.{grantedRow, grantedHolding, granted-row, granted-holding}
 use Rattle.rules.proofs.GrantBooks.{granted-booked}
-use Rattle.rules.proofs.ChosenFree.{chosen-free}
+use Rattle.rules.proofs.KeptChoice.{chosen-free}
 use Rattle.rules.proofs.ServeCases.{Serving, waits, waits-g, joins, fills}
 
 -- the state on which a page is granted, made from s

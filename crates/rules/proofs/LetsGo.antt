@@ -20,6 +20,7 @@ use Rattle.rules.specs.Sound.{sound}
 use Rattle.rules.specs.Answers.{backTold}
 use Rattle.rules.specs.Run.{Call, outcome}
 use Rattle.rules.specs.Secrecy.{startsRefused}
+use Rattle.rules.proofs.Kept.{kept-sound}
 use Rattle.rules.proofs.SoundFacts.{facts}
 use Rattle.rules.proofs.PageLaws.{has-page}
 use Rattle.rules.proofs.CallCases.{effect}
@@ -29,18 +30,17 @@ use Rattle.rules.proofs.Booking.{Writes, stay, reported, writes}
 
 -- ---- rows
 
-module _ (kept-sound : (s : State) (c : Call) → sound s ≡ true → sound (outcome s c .state) ≡ true) where
-  -- after any call a row that is free or killed has no holding
-  pub not-live-unheld : (s : State) → sound s ≡ true → (c : Call) (row slot : ℕ) → row < 32 → slot < 64
-      → isLive (rowAt (outcome s c .state) row .condition) ≡ false → holdingAt (outcome s c .state) slot row ≡ emptyHolding
-  not-live-unheld s z c row slot r b d =
-      let t = facts (outcome s c .state) (kept-sound s c z) in
-      t .unheld slot row b r (not-true-false (holds (outcome s c .state) slot row) (λ h. true-false (sym (t .held slot row b r h .live) ∙ d)))
+-- after any call a row that is free or killed has no holding
+pub not-live-unheld : (s : State) → sound s ≡ true → (c : Call) (row slot : ℕ) → row < 32 → slot < 64
+    → isLive (rowAt (outcome s c .state) row .condition) ≡ false → holdingAt (outcome s c .state) slot row ≡ emptyHolding
+not-live-unheld s z c row slot r b d =
+    let t = facts (outcome s c .state) (kept-sound s c z) in
+    t .unheld slot row b r (not-true-false (holds (outcome s c .state) slot row) (λ h. true-false (sym (t .held slot row b r h .live) ∙ d)))
 
-  -- a row that was live and is ended or killed, by whatever call of whatever row, has let go of every page that it held
-  pub lets-go : (s : State) → sound s ≡ true → (c : Call) (row slot : ℕ) → row < 32 → slot < 64
-      → isLive (rowAt s row .condition) ≡ true → isLive (rowAt (outcome s c .state) row .condition) ≡ false → holds s slot row ≡ true → holds (outcome s c .state) slot row ≡ false
-  lets-go s z c row slot r b l d h = rw (not-live-unheld s z c row slot r b d)
+-- a row that was live and is ended or killed, by whatever call of whatever row, has let go of every page that it held
+pub lets-go : (s : State) → sound s ≡ true → (c : Call) (row slot : ℕ) → row < 32 → slot < 64
+    → isLive (rowAt s row .condition) ≡ true → isLive (rowAt (outcome s c .state) row .condition) ≡ false → holds s slot row ≡ true → holds (outcome s c .state) slot row ≡ false
+lets-go s z c row slot r b l d h = rw (not-live-unheld s z c row slot r b d)
 
 -- ---- holdings
 

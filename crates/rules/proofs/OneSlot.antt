@@ -1,15 +1,17 @@
 -- A page is in at most one slot: in every sound state, and after every list of calls from a fresh start.
 use mathlib.Core.Path.{_≡_, sym, _∙_}
 use mathlib.Core.Bool.{true}
-use mathlib.Core.List.{List, [], _∷_}
+use mathlib.Core.List.{List}
 use Prim.Native.Nat.{ℕ, _<_, _≤_}
 use Rattle.model.specs.declared.State.{State}
 use Rattle.model.specs.State.{fresh, slotAt}
 use Rattle.model.specs.Words.{hasPage}
 use Rattle.rules.specs.Sound.{sound}
-use Rattle.rules.specs.Run.{Call, outcome, after}
+use Rattle.rules.specs.Run.{Call, after}
 use Rattle.rules.proofs.SoundFacts.{facts}
 use Rattle.rules.proofs.PageLaws.{page-has}
+use Rattle.rules.proofs.KeptFresh.{fresh-sound}
+use Rattle.rules.proofs.Kept.{run-sound}
 
 -- no page in two slots
 pub one-slot : (s : State) → sound s ≡ true → (page i j : ℕ) → i < 64 → j < 64
@@ -19,15 +21,7 @@ one-slot s z page i j a b p q =
     let y = page-has page (slotAt s j .content) q in
     facts s z .one-slot i j a b (x .0) (y .0) (x .1 ∙ sym (y .1))
 
-module _
-    (kept-sound : (s : State) (c : Call) → sound s ≡ true → sound (outcome s c .state) ≡ true)
-    (fresh-sound : (slots delay : ℕ) → 1 ≤ slots → slots ≤ 64 → 1 ≤ delay → delay ≤ 255 → sound (fresh slots delay) ≡ true) where
-  run-sound : (s : State) (cs : List Call) → sound s ≡ true → sound (after s cs) ≡ true
-  unfolding after
-  run-sound s [] z = z
-  run-sound s (c ∷ cs) z = run-sound (outcome s c .state) cs (kept-sound s c z)
-
-  -- no page in two slots after any list of calls, starts among them, from a fresh start
-  pub one-slot-ever : (slots delay : ℕ) → 1 ≤ slots → slots ≤ 64 → 1 ≤ delay → delay ≤ 255 → (cs : List Call) (page i j : ℕ) → i < 64 → j < 64
-      → hasPage page (slotAt (after (fresh slots delay) cs) i .content) ≡ true → hasPage page (slotAt (after (fresh slots delay) cs) j .content) ≡ true → i ≡ j
-  one-slot-ever slots delay a b c d cs = one-slot (after (fresh slots delay) cs) (run-sound (fresh slots delay) cs (fresh-sound slots delay a b c d))
+-- no page in two slots after any list of calls, starts among them, from a fresh start
+pub one-slot-ever : (slots delay : ℕ) → 1 ≤ slots → slots ≤ 64 → 1 ≤ delay → delay ≤ 255 → (cs : List Call) (page i j : ℕ) → i < 64 → j < 64
+    → hasPage page (slotAt (after (fresh slots delay) cs) i .content) ≡ true → hasPage page (slotAt (after (fresh slots delay) cs) j .content) ≡ true → i ≡ j
+one-slot-ever slots delay a b c d cs = one-slot (after (fresh slots delay) cs) (run-sound (fresh slots delay) cs (fresh-sound slots delay a b c d))

@@ -1,5 +1,4 @@
 -- A call by a level up to L, or a tick, on two states alike for L gives the same answer and alike states.
--- Taken from elsewhere: a request for a page that no row up to L holds, and the count of open slots.
 use mathlib.Core.Path.{_≡_, refl, sym, _∙_}
 use mathlib.Core.Bool.{Bool, true, false, _&&_}
 use Prim.Native.Nat.{ℕ, _<_, _≤_}
@@ -29,69 +28,65 @@ use Rattle.rules.proofs.SameRefusals.{own-condition, same-request-refus
 use Rattle.rules.proofs.SameCalls.{same-begun, same-ended, same-ticked, same-looked, same-viewed, same-counted}
 use Rattle.rules.proofs.SameUnpin.{same-unpinned}
 use Rattle.rules.proofs.SameServed.{same-served}
+use Rattle.rules.proofs.IntoSeen.{count-same}
+use Rattle.rules.proofs.IntoSame.{into-same}
 
-module _
-    (into-same : (L : ℕ) (s t : State) (me page : ℕ) (mode : Mode) → L ≤ 2 → me < 32 → levelOf me ≤ L → Sound s → Sound t → Alike L s t → page ≤ 4095
-    → isLive (rowAt s me .condition) ≡ true → ((r : ℕ) → r < 32 → levelOf r ≤ L → isHeld (holdingOn s page r .pin) ≡ false)
-    → (told (served s me page mode .answer) ≡ told (served t me page mode .answer)) × Alike L (served s me page mode .state) (served t me page mode .state))
-    (count-same : (L L′ : ℕ) (s t : State) → L′ ≤ L → Sound s → Sound t → Alike L s t → countBelow (s .size) (isOpen s L′) ≡ countBelow (t .size) (isOpen t L′))
+same-request : (L : ℕ) (s t : State) (me page : ℕ) (mode : Mode) → L ≤ 2 → me < 32 → levelOf me ≤ L → Sound s → Sound t → Alike L s t → page ≤ 4095
+    → isLive (rowAt s me .condition) ≡ true → Same L (served s me page mode) (served t me page mode)
+same-request L s t me page mode two h l y z alike p live = go (anyBelow 32 (λ r. leb (levelOf r) L && isHeld (holdingOn s page r .pin))) refl
   where
-    same-request : (L : ℕ) (s t : State) (me page : ℕ) (mode : Mode) → L ≤ 2 → me < 32 → levelOf me ≤ L → Sound s → Sound t → Alike L s t → page ≤ 4095
-        → isLive (rowAt s me .condition) ≡ true → Same L (served s me page mode) (served t me page mode)
-    same-request L s t me page mode two h l y z alike p live = go (anyBelow 32 (λ r. leb (levelOf r) L && isHeld (holdingOn s page r .pin))) refl
-      where
-        go : (b : Bool) → anyBelow 32 (λ r. leb (levelOf r) L && isHeld (holdingOn s page r .pin)) ≡ b → Same L (served s me page mode) (served t me page mode)
-        go true e =
-            let x = any-hit (λ r. leb (levelOf r) L && isHeld (holdingOn s page r .pin)) 32 e in
-            let q = and-true (leb (levelOf (x .0)) L) (isHeld (holdingOn s page (x .0) .pin)) (x .2) in
-            same-served L s t y z alike me page mode h l two (x .0) (x .1) (leb-true (levelOf (x .0)) L (q .0)) (q .1)
-        go false e = into-same L s t me page mode two h l y z alike p live
-            (λ r k m. not-true-false (isHeld (holdingOn s page r .pin))
-            (λ w. true-false (sym (both-true (le-leb (levelOf r) L m) w) ∙ any-none (λ r. leb (levelOf r) L && isHeld (holdingOn s page r .pin)) 32 r e k)))
+    go : (b : Bool) → anyBelow 32 (λ r. leb (levelOf r) L && isHeld (holdingOn s page r .pin)) ≡ b → Same L (served s me page mode) (served t me page mode)
+    go true e =
+        let x = any-hit (λ r. leb (levelOf r) L && isHeld (holdingOn s page r .pin)) 32 e in
+        let q = and-true (leb (levelOf (x .0)) L) (isHeld (holdingOn s page (x .0) .pin)) (x .2) in
+        same-served L s t y z alike me page mode h l two (x .0) (x .1) (leb-true (levelOf (x .0)) L (q .0)) (q .1)
+    go false e = into-same L s t me page mode two h l y z alike p live
+        (λ r k m. not-true-false (isHeld (holdingOn s page r .pin))
+        (λ w. true-false (sym (both-true (le-leb (levelOf r) L m) w) ∙ any-none (λ r. leb (levelOf r) L && isHeld (holdingOn s page r .pin)) 32 r e k)))
 
-    module _ (L : ℕ) (s t : State) (two : L ≤ 2) (y : Sound s) (z : Sound t) (alike : Alike L s t) (level number : ℕ) (low : level ≤ L) where
-      same-requested : (page mode : ℕ) → Same L (requested s level number page mode) (requested t level number page mode)
-      unfolding requested
-      same-requested page mode =
-          same-unless L s t (requestRefusal s level number page mode) (requestRefusal t level number page mode)
-          (served s (rowOf level number) page (modeOf mode)) (served t (rowOf level number) page (modeOf mode))
-          alike (same-request-refusal L s t alike two level number low page mode)
-          (λ e.
-          let p = request-passed s level number page mode e in
-          same-request L s t (rowOf level number) page (modeOf mode) two (omega (arith, p .0)) (omega (arith, p .0)) y z alike (p .1) (p .2))
+module _ (L : ℕ) (s t : State) (two : L ≤ 2) (y : Sound s) (z : Sound t) (alike : Alike L s t) (level number : ℕ) (low : level ≤ L) where
+  same-requested : (page mode : ℕ) → Same L (requested s level number page mode) (requested t level number page mode)
+  unfolding requested
+  same-requested page mode =
+      same-unless L s t (requestRefusal s level number page mode) (requestRefusal t level number page mode)
+      (served s (rowOf level number) page (modeOf mode)) (served t (rowOf level number) page (modeOf mode))
+      alike (same-request-refusal L s t alike two level number low page mode)
+      (λ e.
+      let p = request-passed s level number page mode e in
+      same-request L s t (rowOf level number) page (modeOf mode) two (omega (arith, p .0)) (omega (arith, p .0)) y z alike (p .1) (p .2))
 
-      -- a waiting row's request is in range
-      again : (c : Condition) → number ≤ 7 → rowAt s (rowOf level number) .condition ≡ c → isWaiting c ≡ true
-          → Same L (servedAgain c s (rowOf level number)) (servedAgain c t (rowOf level number))
-      again Free n e w = true-false (sym w)
-      again Idle n e w = true-false (sym w)
-      again (Fetching due) n e w = true-false (sym w)
-      again (Killed cause) n e w = true-false (sym w)
-      again (Waiting page mode) n e w =
-          let h : rowOf level number < 32 = omega arith in
-          let q : RowSound s (rowOf level number) (Waiting page mode) (rowAt s (rowOf level number) .deadline) = rw e at (y .row (rowOf level number) h) in
-          same-request L s t (rowOf level number) page mode two h (omega arith) y z alike (q .1) (rw e)
+  -- a waiting row's request is in range
+  again : (c : Condition) → number ≤ 7 → rowAt s (rowOf level number) .condition ≡ c → isWaiting c ≡ true
+      → Same L (servedAgain c s (rowOf level number)) (servedAgain c t (rowOf level number))
+  again Free n e w = true-false (sym w)
+  again Idle n e w = true-false (sym w)
+  again (Fetching due) n e w = true-false (sym w)
+  again (Killed cause) n e w = true-false (sym w)
+  again (Waiting page mode) n e w =
+      let h : rowOf level number < 32 = omega arith in
+      let q : RowSound s (rowOf level number) (Waiting page mode) (rowAt s (rowOf level number) .deadline) = rw e at (y .row (rowOf level number) h) in
+      same-request L s t (rowOf level number) page mode two h (omega arith) y z alike (q .1) (rw e)
 
-      same-retried : Same L (retried s level number) (retried t level number)
-      unfolding retried
-      same-retried =
-          same-unless L s t (retryRefusal s level number) (retryRefusal t level number)
-          (servedAgain (rowAt s (rowOf level number) .condition) s (rowOf level number)) (servedAgain (rowAt t (rowOf level number) .condition) t (rowOf level number))
-          alike (same-retry-refusal L s t alike two level number low)
-          (λ e.
-          let p = retry-passed s level number e in
-          rw (← own-condition L s t alike two level number low (p .0)) (again (rowAt s (rowOf level number) .condition) (p .0) refl (p .1)))
+  same-retried : Same L (retried s level number) (retried t level number)
+  unfolding retried
+  same-retried =
+      same-unless L s t (retryRefusal s level number) (retryRefusal t level number)
+      (servedAgain (rowAt s (rowOf level number) .condition) s (rowOf level number)) (servedAgain (rowAt t (rowOf level number) .condition) t (rowOf level number))
+      alike (same-retry-refusal L s t alike two level number low)
+      (λ e.
+      let p = retry-passed s level number e in
+      rw (← own-condition L s t alike two level number low (p .0)) (again (rowAt s (rowOf level number) .condition) (p .0) refl (p .1)))
 
-    pub same-step : (L : ℕ) (s t : State) (c : Call) → L ≤ 2 → sound s ≡ true → sound t ≡ true → Alike L s t → isKept L c ≡ true
-        → (told (outcome s c .answer) ≡ told (outcome t c .answer)) × Alike L (outcome s c .state) (outcome t c .state)
-    unfolding outcome isKept
-    same-step L s t (start slots delay) two y z a k = true-false (sym k)
-    same-step L s t (begin level number deadline) two y z a k = same-begun L s t (facts s y) (facts t z) a two level (leb-true level L k) number deadline
-    same-step L s t (request level number page mode) two y z a k = same-requested L s t two (facts s y) (facts t z) a level number (leb-true level L k) page mode
-    same-step L s t (retry level number) two y z a k = same-retried L s t two (facts s y) (facts t z) a level number (leb-true level L k)
-    same-step L s t (unpin level number page) two y z a k = same-unpinned L s t two (facts s y) (facts t z) a level number page (leb-true level L k)
-    same-step L s t (end level number) two y z a k = same-ended L s t (facts s y) (facts t z) a two level (leb-true level L k) number
-    same-step L s t tick two y z a k = same-ticked L s t (facts s y) (facts t z) a
-    same-step L s t (look level number) two y z a k = same-looked L s t (facts s y) (facts t z) a two level (leb-true level L k) number
-    same-step L s t (view level page) two y z a k = same-viewed L s t (facts s y) (facts t z) a two level (leb-true level L k) page
-    same-step L s t (count level) two y z a k = same-counted L s t (facts s y) (facts t z) a two level (leb-true level L k) (count-same L level s t (leb-true level L k) (facts s y) (facts t z) a)
+pub same-step : (L : ℕ) (s t : State) (c : Call) → L ≤ 2 → sound s ≡ true → sound t ≡ true → Alike L s t → isKept L c ≡ true
+    → (told (outcome s c .answer) ≡ told (outcome t c .answer)) × Alike L (outcome s c .state) (outcome t c .state)
+unfolding outcome isKept
+same-step L s t (start slots delay) two y z a k = true-false (sym k)
+same-step L s t (begin level number deadline) two y z a k = same-begun L s t (facts s y) (facts t z) a two level (leb-true level L k) number deadline
+same-step L s t (request level number page mode) two y z a k = same-requested L s t two (facts s y) (facts t z) a level number (leb-true level L k) page mode
+same-step L s t (retry level number) two y z a k = same-retried L s t two (facts s y) (facts t z) a level number (leb-true level L k)
+same-step L s t (unpin level number page) two y z a k = same-unpinned L s t two (facts s y) (facts t z) a level number page (leb-true level L k)
+same-step L s t (end level number) two y z a k = same-ended L s t (facts s y) (facts t z) a two level (leb-true level L k) number
+same-step L s t tick two y z a k = same-ticked L s t (facts s y) (facts t z) a
+same-step L s t (look level number) two y z a k = same-looked L s t (facts s y) (facts t z) a two level (leb-true level L k) number
+same-step L s t (view level page) two y z a k = same-viewed L s t (facts s y) (facts t z) a two level (leb-true level L k) page
+same-step L s t (count level) two y z a k = same-counted L s t (facts s y) (facts t z) a two level (leb-true level L k) (count-same L s t (facts s y) (facts t z) a level (leb-true level L k))
