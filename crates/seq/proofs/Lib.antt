@@ -4,3 +4,4 @@ pub mod PickLaws
 pub mod EachLaws
 pub mod OrderLaws
 pub mod PickedLaws
+pub mod AllLaws

@@ -1,3 +1,18 @@
+use mathlib.Core.Path.{_≡_, refl, sym, _∙_, ap}
+use mathlib.Core.Bool.{Bool, cond, _&&_, _||_, not}
+use Prim.Native.Nat.{ℕ, _≤_, _+_, _-_, _*_, _/_}
+use native.Mathlib.Omega.{arith}
+use borrow.Author.Needs.{needs}
+use Rattle.seq.specs.Below.{anyBelow, allBelow, countBelow}
+use Rattle.seq.proofs.AllLaws.{all-turn, any-test-turn, count-turn, either-both, both-at}
+use Rattle.seq.proofs.BelowLaws.{count-at-most}
+use Rattle.model.specs.Parties.{levelOf}
+use Rattle.model.specs.State.{rowAt, slotAt, holdingAt}
+use Rattle.model.specs.Words.{isPin, isWrite}
+use Rattle.rules.specs.Sound.{arrived, awaits, samePage, soundSlot, soundPages, soundRow, soundHolding, soundPins}
+use Rattle.sound.specs.Elements.{slotTest, onePage, holdingTest, pinsTest}
+use Rattle.sound.proofs.ElementLaws.{slot-test, page-test, arrived-test, awaits-test, row-end, holding-test}
+use Rattle.sound.proofs.PinLaws.{pins-end}
 use Rattle.sound.proofs.are_slots_sound.Statement.{statement}
 use Rattle.sound.proofs.are_slots_sound.Tie as tie
 use Rattle.sound.proofs.are_slots_sound.Reads as reads
@@ -7,50 +22,57 @@ use Rattle.sound.proofs.is_slot_sound.Reads as is-slot-sound-reads
 use Rattle.sound.proofs.latest_arrival.Reads as latest-arrival-reads
 
 abbrev Inv-loop : tie.InvT-loop
-Inv-loop s size clock latest ok₀ i₀ ok i = ?
+Inv-loop s size clock latest ok₀ i₀ ok i = (i ≤ 64) × (ok ≡ allBelow i (soundSlot s))
 
 abbrev μ-loop : tie.MeasureT-loop
-μ-loop s size clock latest ok₀ i₀ ok i = ?
+μ-loop s size clock latest ok₀ i₀ ok i = 64 - i
 
 -- src/lib.rt:108:9
 latest-arrival-requires : tie.Need-latest-arrival-requires Inv-loop μ-loop
-latest-arrival-requires c κs = ?
+latest-arrival-requires c κs = search needs
 
 -- src/lib.rt:110:5
 loop-holds : tie.Need-loop-holds Inv-loop μ-loop
-loop-holds c = ?
+unfolding allBelow
+loop-holds c = (omega arith, refl)
 
 -- src/lib.rt:111:17
 mul-x : tie.Need-mul-x Inv-loop μ-loop
-mul-x c = ?
+mul-x c = omega arith
 
 -- src/lib.rt:111:17
 element-copy-out-x : tie.Need-element-copy-out-x Inv-loop μ-loop
-element-copy-out-x c = ?
+element-copy-out-x c = omega arith
 
 -- src/lib.rt:112:13
 is-slot-sound-requires : tie.Need-is-slot-sound-requires Inv-loop μ-loop
-is-slot-sound-requires c κs = ?
+is-slot-sound-requires c κs = search needs
 
 -- src/lib.rt:113:9
 both-requires : tie.Need-both-requires Inv-loop μ-loop
-both-requires c κs = ?
+both-requires c κs = search needs
 
 -- src/lib.rt:110:9
 add-i : tie.Need-add-i Inv-loop μ-loop
-add-i c = ?
+add-i c = omega arith
 
 -- src/lib.rt:110:5
 loop-less : tie.Need-loop-less Inv-loop μ-loop
-loop-less c = ?
+loop-less c = omega arith
 
 -- src/lib.rt:110:5
 loop-again : tie.Need-loop-again Inv-loop μ-loop
-loop-again c = ?
+loop-again c = let s = c .before .before .before .before .before .before .args .t1 in
+    let i = c .before .before .before .before .loop .i in (
+      omega arith,
+      all-turn (soundSlot s) i (c .before .before .before .before .loop .ok) (c .before .is-slot-sound .result) (c .both .result) (c .before .before .before .before .loop .inv .1)
+          (c .before .is-slot-sound .ensures ∙ ap (λ (n : ℕ). slotTest (slotAt s i) i (s .size) (s .clock) n) (c .before .before .before .before .before .latest-arrival .ensures) ∙ slot-test s i)
+          (c .both .ensures),
+    )
 
 -- src/lib.rt:103:1
 returns : tie.Need-returns Inv-loop μ-loop
-returns c = ?
+returns c = let e : c .before .loop .i ≡ 64 = omega arith in c .before .loop .inv .1 ∙ ap (λ (n : ℕ). allBelow n (soundSlot (c .before .before .before .args .t1))) e
 
 pub are-slots-sound-spec : {M : Type 1} → statement M
 are-slots-sound-spec =
