@@ -1,5 +1,5 @@
 -- One turn of a loop that tests each number below n, or counts those that pass.
-use mathlib.Core.Path.{_≡_, _∙_, ap}
+use mathlib.Core.Path.{_≡_}
 use mathlib.Core.Bool.{Bool, cond, _&&_, _||_}
 use Prim.Native.Nat.{ℕ, _+_}
 use Rattle.seq.specs.Below.{anyBelow, allBelow, countBelow}

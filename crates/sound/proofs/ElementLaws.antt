@@ -1,22 +1,20 @@
 -- The tests of the elements of a state are those of the state.
-use mathlib.Core.Path.{_≡_, refl, sym, _∙_, ap}
-use mathlib.Core.Bool.{Bool, true, false, cond, _&&_, _||_, not}
+use mathlib.Core.Path.{_≡_, refl}
+use mathlib.Core.Bool.{Bool, true, false, _&&_, _||_, not}
 use Prim.Native.Nat.{ℕ, _+_}
-use lib.Dec.{leb, ltb, eqb}
-use lib.ListN.{length}
-use borrow.Author.Tests.{eq-eqb}
+use lib.Dec.{ltb, eqb}
 use Rattle.seq.specs.Below.{allBelow, countBelow}
 use Rattle.model.specs.declared.Condition.{Condition}
 use Rattle.model.specs.declared.Condition.the-variants.{Free, Idle, Fetching, Waiting, Killed}
 use Rattle.model.specs.declared.Content.{Content}
 use Rattle.model.specs.declared.Content.the-variants.{Empty, Filled}
 use Rattle.model.specs.declared.State.{State}
-use Rattle.model.specs.Parties.{levelOf, lastClock}
+use Rattle.model.specs.Parties.{levelOf}
 use Rattle.model.specs.State.{rowAt, slotAt, holdingAt}
 use Rattle.model.specs.Words.{isFilled}
 use Rattle.model.proofs.StateLaws.{Sized}
 use Rattle.rules.specs.Sound.{soundNumbers, arrived, awaits, soundContent, soundSlot, samePage, soundCondition, soundRow, soundHolding, soundPins, soundPages, sound}
-use Rattle.sound.specs.Elements.{inRange, contentTest, slotTest, onePage, dueIn, arrivedTest, awaitsTest, conditionTest, rowTest, heldTest, holdingTest}
+use Rattle.sound.specs.Elements.{inRange, contentTest, slotTest, onePage, dueIn, arrivedTest, awaitsTest, fetchingTest, waitingTest, conditionTest, rowTest, heldTest, holdingTest}
 
 pub numbers-test : (s : State) → Sized s → inRange (s .size) (s .delay) (s .clock) ≡ soundNumbers s
 unfolding inRange soundNumbers
@@ -64,7 +62,7 @@ expectedIn s row due = allBelow 64 (λ slot. arrived s slot row || awaits s row 
 pub row-test : (s : State) (row : ℕ) →
     rowTest (rowAt s row) (levelOf row) (s .clock) (settledIn s row) (expectedIn s row (dueIn (rowAt s row .condition))) (countBelow 64 (awaits s row (dueIn (rowAt s row .condition))))
     ≡ soundRow s row
-unfolding rowTest soundRow
+unfolding rowTest fetchingTest waitingTest soundRow
 row-test s row = go (rowAt s row .condition)
   where
     go : (c : Condition) →

@@ -1,13 +1,13 @@
 -- No two pins of a slot conflict just where no pin is a write pin, or there is one pin alone.
-use mathlib.Core.Path.{_≡_, refl, sym, _∙_, ap}
+use mathlib.Core.Path.{_≡_, refl, sym, _∙_}
 use mathlib.Core.Bool.{Bool, true, false, cond, _&&_, _||_, not}
-use Prim.Native.Nat.{ℕ, _+_, _<_}
+use Prim.Native.Nat.{ℕ, _<_}
 use native.Mathlib.Omega.{arith}
-use native.Mathlib.Decide.{ℕ-discrete, decLt}
+use native.Mathlib.Decide.{decLt}
 use lib.Dec.{eqb}
 use borrow.Author.Tests.{eqb-true, eq-eqb, not-true}
 use Rattle.seq.specs.Below.{anyBelow, allBelow, countBelow}
-use Rattle.seq.proofs.Tests.{true-false, same-truth, not-true-false, both-true}
+use Rattle.seq.proofs.Tests.{true-false, same-truth}
 use Rattle.seq.proofs.BelowLaws.{One, any-none, any-hit, all-each, each-all, count-one, one-count}
 use Rattle.model.specs.declared.Pin.{Pin}
 use Rattle.model.specs.declared.Pin.the-variants.{Absent, Unpinned, Read, Write}

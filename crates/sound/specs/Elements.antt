@@ -1,12 +1,13 @@
 -- The tests of what sound means, each of one element of the state and the numbers that it is compared with.
 -- `latest` is the tick clock + delay.
-use mathlib.Core.Bool.{Bool, true, false, cond, _&&_, _||_, not}
+use mathlib.Core.Bool.{Bool, true, cond, _&&_, _||_, not}
 use Prim.Native.Nat.{ℕ}
 use lib.Dec.{leb, ltb, eqb}
 use Rattle.model.specs.declared.Condition.{Condition}
 use Rattle.model.specs.declared.Condition.the-variants.{Free, Idle, Fetching, Waiting, Killed}
 use Rattle.model.specs.declared.Content.{Content}
 use Rattle.model.specs.declared.Content.the-variants.{Empty, Filled}
+use Rattle.model.specs.declared.Mode.{Mode}
 use Rattle.model.specs.declared.Row.{Row}
 use Rattle.model.specs.declared.Slot.{Slot}
 use Rattle.model.specs.declared.Holding.{Holding}
@@ -43,15 +44,25 @@ arrivedTest clock h = not (isHeld (h .pin)) || leb (h .arrival) clock
 unfoldable pub awaitsTest : ℕ → Holding → Bool
 awaitsTest due h = isPin (h .pin) && eqb (h .arrival) due
 
+-- a fetching row: all its holdings have arrived or are awaited, and how many are awaited
+unfoldable pub fetchingTest : ℕ → ℕ → ℕ → Bool → ℕ → Bool
+fetchingTest due deadline clock expected number =
+    not (isPast clock deadline) && ltb clock due && eqb number 1 && expected
+
+-- a waiting row: all its holdings have arrived
+unfoldable pub waitingTest : ℕ → Mode → ℕ → ℕ → ℕ → Bool → Bool
+waitingTest page mode deadline level clock settled =
+    not (isPast clock deadline) && settled && leb page 4095 && mayAccess level page mode
+
 -- a row's condition, by what its holdings are: all have arrived; all have arrived or are awaited; how many are awaited
 abbrev pub conditionTest : Condition → ℕ → ℕ → ℕ → Bool → Bool → ℕ → Bool
 conditionTest Free deadline level clock settled expected number = eqb deadline 0
 conditionTest (Killed cause) deadline level clock settled expected number = eqb deadline 0
 conditionTest Idle deadline level clock settled expected number = not (isPast clock deadline) && settled
 conditionTest (Fetching due) deadline level clock settled expected number =
-    not (isPast clock deadline) && ltb clock due && eqb number 1 && expected
+    fetchingTest due deadline clock expected number
 conditionTest (Waiting page mode) deadline level clock settled expected number =
-    not (isPast clock deadline) && settled && leb page 4095 && mayAccess level page mode
+    waitingTest page mode deadline level clock settled
 
 unfoldable pub rowTest : Row → ℕ → ℕ → Bool → Bool → ℕ → Bool
 rowTest x level clock settled expected number = conditionTest (x .condition) (x .deadline) level clock settled expected number

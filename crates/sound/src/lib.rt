@@ -13,7 +13,7 @@ ghost use Prim.Native.Nat.{_+_, _<_};
 ghost use Rattle.seq.specs.Below.{allBelow};
 ghost use Rattle.model.specs.Parties.{mayAccess};
 ghost use Rattle.rules.specs.Sound.{pinAllowed, soundSlot, soundPages, soundRow, soundHolding, soundPins, sound};
-ghost use Rattle.sound.specs.Elements.{inRange, slotTest, onePage, dueIn, arrivedTest, awaitsTest, rowTest, fitTest, heldTest, holdingTest, pinsTest};
+ghost use Rattle.sound.specs.Elements.{inRange, slotTest, onePage, dueIn, arrivedTest, awaitsTest, fetchingTest, waitingTest, rowTest, fitTest, heldTest, holdingTest, pinsTest};
 
 fn both(a: bool, b: bool) -> bool
     ensures { λ r. ⌜ r ≡ a && b ⌝ }
@@ -196,6 +196,46 @@ fn is_awaited(h: Holding, due: u32) -> bool
     false
 }
 
+// A fetching row: all its holdings have arrived or are awaited, and how many are awaited.
+fn is_fetching_sound(due: u32, deadline: u32, clock: u32, expected: bool, number: usize) -> bool
+    ensures { λ r. ⌜ r ≡ fetchingTest due deadline clock expected number ⌝ }
+{
+    if deadline <= clock {
+        return false;
+    }
+    if due <= clock {
+        return false;
+    }
+    if number == 1 {
+        return expected;
+    }
+    false
+}
+
+// A waiting row: all its holdings have arrived.
+fn is_waiting_sound(
+    page: u32,
+    mode: Mode,
+    deadline: u32,
+    level: usize,
+    clock: u32,
+    settled: bool,
+) -> bool
+    requires { ⌜ level < 4 ⌝ }
+    ensures { λ r. ⌜ r ≡ waitingTest page mode deadline level clock settled ⌝ }
+{
+    if deadline <= clock {
+        return false;
+    }
+    if settled {
+        if page <= 4095 {
+            return model::is_allowed(level, page, mode);
+        }
+        return false;
+    }
+    false
+}
+
 // A row, by what its holdings are: all have arrived; all have arrived or are awaited; how many are awaited.
 fn is_row_sound(
     x: Row,
@@ -220,28 +260,10 @@ fn is_row_sound(
             return settled;
         }
         Condition::Fetching(due) => {
-            if x.deadline <= clock {
-                return false;
-            }
-            if due <= clock {
-                return false;
-            }
-            if number == 1 {
-                return expected;
-            }
-            return false;
+            return is_fetching_sound(due, x.deadline, clock, expected, number);
         }
         Condition::Waiting { page, mode } => {
-            if x.deadline <= clock {
-                return false;
-            }
-            if settled {
-                if page <= 4095 {
-                    return model::is_allowed(level, page, mode);
-                }
-                return false;
-            }
-            return false;
+            return is_waiting_sound(page, mode, x.deadline, level, clock, settled);
         }
         Condition::Killed(_) => {
             return x.deadline == 0;

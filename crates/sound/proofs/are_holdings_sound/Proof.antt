@@ -1,17 +1,16 @@
-use mathlib.Core.Path.{_≡_, refl, sym, _∙_, ap}
-use mathlib.Core.Bool.{Bool, cond, _&&_, _||_, not}
-use Prim.Native.Nat.{ℕ, _≤_, _+_, _-_, _*_, _/_}
+use mathlib.Core.Path.{_≡_, refl, _∙_, ap}
+use Prim.Native.Nat.{ℕ, _≤_, _-_}
 use native.Mathlib.Omega.{arith}
 use borrow.Author.Needs.{needs}
 use Rattle.seq.specs.Below.{anyBelow, allBelow, countBelow}
-use Rattle.seq.proofs.AllLaws.{all-turn, any-test-turn, count-turn, either-both, both-at}
+use Rattle.seq.proofs.AllLaws.{all-turn, any-test-turn, count-turn, both-at}
 use Rattle.seq.proofs.BelowLaws.{count-at-most}
 use Rattle.model.specs.Parties.{levelOf}
 use Rattle.model.specs.State.{rowAt, slotAt, holdingAt}
 use Rattle.model.specs.Words.{isPin, isWrite}
-use Rattle.rules.specs.Sound.{arrived, awaits, samePage, soundSlot, soundPages, soundRow, soundHolding, soundPins}
-use Rattle.sound.specs.Elements.{slotTest, onePage, holdingTest, pinsTest}
-use Rattle.sound.proofs.ElementLaws.{slot-test, page-test, arrived-test, awaits-test, row-end, holding-test}
+use Rattle.rules.specs.Sound.{soundHolding, soundPins}
+use Rattle.sound.specs.Elements.{holdingTest}
+use Rattle.sound.proofs.ElementLaws.{holding-test}
 use Rattle.sound.proofs.PinLaws.{pins-end}
 use Rattle.sound.proofs.are_holdings_sound.Statement.{statement}
 use Rattle.sound.proofs.are_holdings_sound.Tie as tie
@@ -38,85 +37,65 @@ Inv-loop s latest ok₀ clear₀ i₀ ok clear i = (i ≤ 64) × (ok ≡ allBelo
 abbrev μ-loop : tie.MeasureT-loop
 μ-loop s latest ok₀ clear₀ i₀ ok clear i = 64 - i
 
--- src/lib.rt:399:9
 latest-arrival-requires : tie.Need-latest-arrival-requires Inv-loop2 μ-loop2 Inv-loop μ-loop
 latest-arrival-requires c κs = search needs
 
--- src/lib.rt:402:5
 loop-holds : tie.Need-loop-holds Inv-loop2 μ-loop2 Inv-loop μ-loop
 unfolding allBelow
 loop-holds c = (omega arith, refl, refl)
 
--- src/lib.rt:403:17
 mul-x : tie.Need-mul-x Inv-loop2 μ-loop2 Inv-loop μ-loop
 mul-x c = omega arith
 
--- src/lib.rt:403:17
 element-copy-out-x : tie.Need-element-copy-out-x Inv-loop2 μ-loop2 Inv-loop μ-loop
 element-copy-out-x c = omega arith
 
--- src/lib.rt:407:9
 loop2-holds : tie.Need-loop2-holds Inv-loop2 μ-loop2 Inv-loop μ-loop
 unfolding allBelow anyBelow countBelow
 loop2-holds c = (omega arith, refl, refl, refl)
 
--- src/lib.rt:408:32
 mul-h : tie.Need-mul-h Inv-loop2 μ-loop2 Inv-loop μ-loop
 mul-h c = omega arith
 
--- src/lib.rt:408:32
 add-h : tie.Need-add-h Inv-loop2 μ-loop2 Inv-loop μ-loop
 add-h c = omega arith
 
--- src/lib.rt:408:21
 mul-h-2 : tie.Need-mul-h-2 Inv-loop2 μ-loop2 Inv-loop μ-loop
 mul-h-2 c = omega arith
 
--- src/lib.rt:408:21
 element-copy-out-h : tie.Need-element-copy-out-h Inv-loop2 μ-loop2 Inv-loop μ-loop
 element-copy-out-h c = omega arith
 
--- src/lib.rt:409:21
 mul-y : tie.Need-mul-y Inv-loop2 μ-loop2 Inv-loop μ-loop
 mul-y c = omega arith
 
--- src/lib.rt:409:21
 element-copy-out-y : tie.Need-element-copy-out-y Inv-loop2 μ-loop2 Inv-loop μ-loop
 element-copy-out-y c = omega arith
 
--- src/lib.rt:410:17
 is-holding-sound-requires : tie.Need-is-holding-sound-requires Inv-loop2 μ-loop2 Inv-loop μ-loop
 is-holding-sound-requires c κs = search needs
 
--- src/lib.rt:412:17
 is-write-requires : tie.Need-is-write-requires Inv-loop2 μ-loop2 Inv-loop μ-loop
 is-write-requires c κs = search needs
 
--- src/lib.rt:413:17
 is-pin-requires : tie.Need-is-pin-requires Inv-loop2 μ-loop2 Inv-loop μ-loop
 is-pin-requires c κs = search needs
 
--- src/lib.rt:414:13
 both-requires : tie.Need-both-requires Inv-loop2 μ-loop2 Inv-loop μ-loop
 both-requires c κs = search needs
 
--- src/lib.rt:415:13
 either-requires : tie.Need-either-requires Inv-loop2 μ-loop2 Inv-loop μ-loop
 either-requires c κs = search needs
 
--- src/lib.rt:416:13
 counted-requires : tie.Need-counted-requires Inv-loop2 μ-loop2 Inv-loop μ-loop
 counted-requires c κs = let s = c .before .before .before .before .before .before .before .before .before .before .before .before .before .args .t1 in let i = c .before .before .before .before .before .before .before .before .before .before .before .loop .i in omega (arith, c .before .before .before .before .before .before .before .before .loop2 .inv .3, count-at-most (λ row. isPin (holdingAt s i row .pin)) (c .before .before .before .before .before .before .before .before .loop2 .r))
 
--- src/lib.rt:407:13
 add-r : tie.Need-add-r Inv-loop2 μ-loop2 Inv-loop μ-loop
 add-r c = omega arith
 
--- src/lib.rt:407:9
 loop2-less : tie.Need-loop2-less Inv-loop2 μ-loop2 Inv-loop μ-loop
 loop2-less c = omega arith
 
--- src/lib.rt:407:9
 loop2-again : tie.Need-loop2-again Inv-loop2 μ-loop2 Inv-loop μ-loop
 loop2-again c = let s = c .before .before .before .before .before .before .before .before .before .before .before .before .before .before .args .t1 in
     let i = c .before .before .before .before .before .before .before .before .before .before .before .before .loop .i in
@@ -130,27 +109,21 @@ loop2-again c = let s = c .before .before .before .before .before .before .befor
       count-turn (λ row. isPin (holdingAt s i row .pin)) r (w .number) (c .before .before .before .is-pin .result) (c .counted .result) (w .inv .3) (c .before .before .before .is-pin .ensures) (c .counted .ensures),
     )
 
--- src/lib.rt:418:9
 both-requires-2 : tie.Need-both-requires-2 Inv-loop2 μ-loop2 Inv-loop μ-loop
 both-requires-2 c κs = search needs
 
--- src/lib.rt:419:13
 are-pins-sound-requires : tie.Need-are-pins-sound-requires Inv-loop2 μ-loop2 Inv-loop μ-loop
 are-pins-sound-requires c κs = search needs
 
--- src/lib.rt:420:9
 both-requires-3 : tie.Need-both-requires-3 Inv-loop2 μ-loop2 Inv-loop μ-loop
 both-requires-3 c κs = search needs
 
--- src/lib.rt:402:9
 add-i : tie.Need-add-i Inv-loop2 μ-loop2 Inv-loop μ-loop
 add-i c = omega arith
 
--- src/lib.rt:402:5
 loop-less : tie.Need-loop-less Inv-loop2 μ-loop2 Inv-loop μ-loop
 loop-less c = omega arith
 
--- src/lib.rt:402:5
 loop-again : tie.Need-loop-again Inv-loop2 μ-loop2 Inv-loop μ-loop
 loop-again c = let s = c .before .before .before .before .before .before .before .before .before .args .t1 in
     let i = c .before .before .before .before .before .before .before .loop .i in
@@ -163,11 +136,9 @@ loop-again c = let s = c .before .before .before .before .before .before .before
           (c .before .are-pins-sound .ensures ∙ pins-end s i (w .r) (w .wrote) (w .number) e (w .inv .2) (w .inv .3)) (c .both3 .ensures),
     )
 
--- src/lib.rt:422:5
 both-requires-4 : tie.Need-both-requires-4 Inv-loop2 μ-loop2 Inv-loop μ-loop
 both-requires-4 c κs = search needs
 
--- src/lib.rt:396:1
 returns : tie.Need-returns Inv-loop2 μ-loop2 Inv-loop μ-loop
 returns c = let s = c .before .before .before .before .args .t1 in
     let o = c .before .before .loop in

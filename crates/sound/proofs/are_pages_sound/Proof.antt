@@ -1,18 +1,12 @@
-use mathlib.Core.Path.{_≡_, refl, sym, _∙_, ap}
-use mathlib.Core.Bool.{Bool, cond, _&&_, _||_, not}
-use Prim.Native.Nat.{ℕ, _≤_, _+_, _-_, _*_, _/_}
+use mathlib.Core.Path.{_≡_, refl, _∙_, ap}
+use mathlib.Core.Bool.{not}
+use Prim.Native.Nat.{ℕ, _≤_, _-_}
 use native.Mathlib.Omega.{arith}
 use borrow.Author.Needs.{needs}
-use Rattle.seq.specs.Below.{anyBelow, allBelow, countBelow}
-use Rattle.seq.proofs.AllLaws.{all-turn, any-test-turn, count-turn, either-both, both-at}
-use Rattle.seq.proofs.BelowLaws.{count-at-most}
-use Rattle.model.specs.Parties.{levelOf}
-use Rattle.model.specs.State.{rowAt, slotAt, holdingAt}
-use Rattle.model.specs.Words.{isPin, isWrite}
-use Rattle.rules.specs.Sound.{arrived, awaits, samePage, soundSlot, soundPages, soundRow, soundHolding, soundPins}
-use Rattle.sound.specs.Elements.{slotTest, onePage, holdingTest, pinsTest}
-use Rattle.sound.proofs.ElementLaws.{slot-test, page-test, arrived-test, awaits-test, row-end, holding-test}
-use Rattle.sound.proofs.PinLaws.{pins-end}
+use Rattle.seq.specs.Below.{allBelow}
+use Rattle.seq.proofs.AllLaws.{all-turn}
+use Rattle.rules.specs.Sound.{samePage, soundPages}
+use Rattle.sound.proofs.ElementLaws.{page-test}
 use Rattle.sound.proofs.are_pages_sound.Statement.{statement}
 use Rattle.sound.proofs.are_pages_sound.Tie as tie
 use Rattle.sound.proofs.are_pages_sound.Reads as reads
@@ -32,49 +26,38 @@ Inv-loop s ok₀ i₀ ok i = (i ≤ 64) × (ok ≡ allBelow i (λ slot. allBelow
 abbrev μ-loop : tie.MeasureT-loop
 μ-loop s ok₀ i₀ ok i = 64 - i
 
--- src/lib.rt:153:5
 loop-holds : tie.Need-loop-holds Inv-loop2 μ-loop2 Inv-loop μ-loop
 unfolding allBelow
 loop-holds c = (omega arith, refl)
 
--- src/lib.rt:154:17
 mul-x : tie.Need-mul-x Inv-loop2 μ-loop2 Inv-loop μ-loop
 mul-x c = omega arith
 
--- src/lib.rt:154:17
 element-copy-out-x : tie.Need-element-copy-out-x Inv-loop2 μ-loop2 Inv-loop μ-loop
 element-copy-out-x c = omega arith
 
--- src/lib.rt:156:9
 loop2-holds : tie.Need-loop2-holds Inv-loop2 μ-loop2 Inv-loop μ-loop
 unfolding allBelow
 loop2-holds c = (omega arith, refl)
 
--- src/lib.rt:157:21
 mul-y : tie.Need-mul-y Inv-loop2 μ-loop2 Inv-loop μ-loop
 mul-y c = omega arith
 
--- src/lib.rt:157:21
 element-copy-out-y : tie.Need-element-copy-out-y Inv-loop2 μ-loop2 Inv-loop μ-loop
 element-copy-out-y c = omega arith
 
--- src/lib.rt:158:17
 have-two-pages-requires : tie.Need-have-two-pages-requires Inv-loop2 μ-loop2 Inv-loop μ-loop
 have-two-pages-requires c κs = search needs
 
--- src/lib.rt:159:13
 both-requires : tie.Need-both-requires Inv-loop2 μ-loop2 Inv-loop μ-loop
 both-requires c κs = search needs
 
--- src/lib.rt:156:13
 add-j : tie.Need-add-j Inv-loop2 μ-loop2 Inv-loop μ-loop
 add-j c = omega arith
 
--- src/lib.rt:156:9
 loop2-less : tie.Need-loop2-less Inv-loop2 μ-loop2 Inv-loop μ-loop
 loop2-less c = omega arith
 
--- src/lib.rt:156:9
 loop2-again : tie.Need-loop2-again Inv-loop2 μ-loop2 Inv-loop μ-loop
 loop2-again c = let s = c .before .before .before .before .before .before .before .before .args .t1 in
     let i = c .before .before .before .before .before .before .before .loop .i in
@@ -84,19 +67,15 @@ loop2-again c = let s = c .before .before .before .before .before .before .befor
           (c .before .have-two-pages .ensures ∙ ap not (page-test s i j)) (c .both .ensures),
     )
 
--- src/lib.rt:161:9
 both-requires-2 : tie.Need-both-requires-2 Inv-loop2 μ-loop2 Inv-loop μ-loop
 both-requires-2 c κs = search needs
 
--- src/lib.rt:153:9
 add-i : tie.Need-add-i Inv-loop2 μ-loop2 Inv-loop μ-loop
 add-i c = omega arith
 
--- src/lib.rt:153:5
 loop-less : tie.Need-loop-less Inv-loop2 μ-loop2 Inv-loop μ-loop
 loop-less c = omega arith
 
--- src/lib.rt:153:5
 loop-again : tie.Need-loop-again Inv-loop2 μ-loop2 Inv-loop μ-loop
 loop-again c = let s = c .before .before .before .before .before .before .args .t1 in
     let i = c .before .before .before .before .before .loop .i in
@@ -106,7 +85,6 @@ loop-again c = let s = c .before .before .before .before .before .before .args .
           (c .before .before .loop2 .inv .1 ∙ ap (λ (n : ℕ). allBelow n (λ other. not (samePage s i other))) e) (c .both2 .ensures),
     )
 
--- src/lib.rt:149:1
 returns : tie.Need-returns Inv-loop2 μ-loop2 Inv-loop μ-loop
 unfolding soundPages
 returns c = let s = c .before .before .args .t1 in let e : c .before .loop .i ≡ 64 = omega arith in c .before .loop .inv .1 ∙ ap (λ (n : ℕ). allBelow n (λ slot. allBelow slot (λ other. not (samePage s slot other)))) e

@@ -1,18 +1,13 @@
-use mathlib.Core.Path.{_≡_, refl, sym, _∙_, ap}
-use mathlib.Core.Bool.{Bool, cond, _&&_, _||_, not}
-use Prim.Native.Nat.{ℕ, _≤_, _+_, _-_, _*_, _/_}
+use mathlib.Core.Path.{_≡_, refl, _∙_, ap}
+use mathlib.Core.Bool.{_||_}
+use Prim.Native.Nat.{ℕ, _≤_, _-_}
 use native.Mathlib.Omega.{arith}
 use borrow.Author.Needs.{needs}
-use Rattle.seq.specs.Below.{anyBelow, allBelow, countBelow}
-use Rattle.seq.proofs.AllLaws.{all-turn, any-test-turn, count-turn, either-both, both-at}
+use Rattle.seq.specs.Below.{allBelow, countBelow}
+use Rattle.seq.proofs.AllLaws.{all-turn, count-turn, either-both}
 use Rattle.seq.proofs.BelowLaws.{count-at-most}
-use Rattle.model.specs.Parties.{levelOf}
-use Rattle.model.specs.State.{rowAt, slotAt, holdingAt}
-use Rattle.model.specs.Words.{isPin, isWrite}
-use Rattle.rules.specs.Sound.{arrived, awaits, samePage, soundSlot, soundPages, soundRow, soundHolding, soundPins}
-use Rattle.sound.specs.Elements.{slotTest, onePage, holdingTest, pinsTest}
-use Rattle.sound.proofs.ElementLaws.{slot-test, page-test, arrived-test, awaits-test, row-end, holding-test}
-use Rattle.sound.proofs.PinLaws.{pins-end}
+use Rattle.rules.specs.Sound.{arrived, awaits, soundRow}
+use Rattle.sound.proofs.ElementLaws.{arrived-test, awaits-test, row-end}
 use Rattle.sound.proofs.are_rows_sound.Statement.{statement}
 use Rattle.sound.proofs.are_rows_sound.Tie as tie
 use Rattle.sound.proofs.are_rows_sound.Reads as reads
@@ -37,77 +32,59 @@ Inv-loop s clock ok₀ r₀ ok r = (r ≤ 32) × (ok ≡ allBelow r (soundRow s)
 abbrev μ-loop : tie.MeasureT-loop
 μ-loop s clock ok₀ r₀ ok r = 32 - r
 
--- src/lib.rt:257:5
 loop-holds : tie.Need-loop-holds Inv-loop2 μ-loop2 Inv-loop μ-loop
 unfolding allBelow
 loop-holds c = (omega arith, refl)
 
--- src/lib.rt:258:17
 mul-x : tie.Need-mul-x Inv-loop2 μ-loop2 Inv-loop μ-loop
 mul-x c = omega arith
 
--- src/lib.rt:258:17
 element-copy-out-x : tie.Need-element-copy-out-x Inv-loop2 μ-loop2 Inv-loop μ-loop
 element-copy-out-x c = omega arith
 
--- src/lib.rt:260:13
 due-of-requires : tie.Need-due-of-requires Inv-loop2 μ-loop2 Inv-loop μ-loop
 due-of-requires c κs = search needs
 
--- src/lib.rt:264:9
 loop2-holds : tie.Need-loop2-holds Inv-loop2 μ-loop2 Inv-loop μ-loop
 unfolding allBelow countBelow
 loop2-holds c = (omega arith, refl, refl, refl)
 
--- src/lib.rt:265:32
 mul-h : tie.Need-mul-h Inv-loop2 μ-loop2 Inv-loop μ-loop
 mul-h c = omega arith
 
--- src/lib.rt:265:32
 add-h : tie.Need-add-h Inv-loop2 μ-loop2 Inv-loop μ-loop
 add-h c = omega arith
 
--- src/lib.rt:265:21
 mul-h-2 : tie.Need-mul-h-2 Inv-loop2 μ-loop2 Inv-loop μ-loop
 mul-h-2 c = omega arith
 
--- src/lib.rt:265:21
 element-copy-out-h : tie.Need-element-copy-out-h Inv-loop2 μ-loop2 Inv-loop μ-loop
 element-copy-out-h c = omega arith
 
--- src/lib.rt:266:17
 has-arrived-requires : tie.Need-has-arrived-requires Inv-loop2 μ-loop2 Inv-loop μ-loop
 has-arrived-requires c κs = search needs
 
--- src/lib.rt:267:17
 is-awaited-requires : tie.Need-is-awaited-requires Inv-loop2 μ-loop2 Inv-loop μ-loop
 is-awaited-requires c κs = search needs
 
--- src/lib.rt:268:17
 either-requires : tie.Need-either-requires Inv-loop2 μ-loop2 Inv-loop μ-loop
 either-requires c κs = search needs
 
--- src/lib.rt:269:13
 both-requires : tie.Need-both-requires Inv-loop2 μ-loop2 Inv-loop μ-loop
 both-requires c κs = search needs
 
--- src/lib.rt:270:13
 both-requires-2 : tie.Need-both-requires-2 Inv-loop2 μ-loop2 Inv-loop μ-loop
 both-requires-2 c κs = search needs
 
--- src/lib.rt:271:13
 counted-requires : tie.Need-counted-requires Inv-loop2 μ-loop2 Inv-loop μ-loop
 counted-requires c κs = omega (arith, c .before .before .before .before .before .before .before .loop2 .inv .3, count-at-most (awaits (c .before .before .before .before .before .before .before .before .before .before .before .before .args .t1) (c .before .before .before .before .before .before .before .before .before .before .before .loop .r) (c .before .before .before .before .before .before .before .before .due-of .result)) (c .before .before .before .before .before .before .before .loop2 .i))
 
--- src/lib.rt:264:13
 add-i : tie.Need-add-i Inv-loop2 μ-loop2 Inv-loop μ-loop
 add-i c = omega arith
 
--- src/lib.rt:264:9
 loop2-less : tie.Need-loop2-less Inv-loop2 μ-loop2 Inv-loop μ-loop
 loop2-less c = omega arith
 
--- src/lib.rt:264:9
 loop2-again : tie.Need-loop2-again Inv-loop2 μ-loop2 Inv-loop μ-loop
 loop2-again c = let s = c .before .before .before .before .before .before .before .before .before .before .before .before .before .args .t1 in
     let r = c .before .before .before .before .before .before .before .before .before .before .before .before .loop .r in
@@ -122,23 +99,18 @@ loop2-again c = let s = c .before .before .before .before .before .before .befor
       count-turn (awaits s r due) i (c .before .before .before .before .before .before .before .before .loop2 .number) (c .before .before .before .before .is-awaited .result) (c .counted .result) (c .before .before .before .before .before .before .before .before .loop2 .inv .3) awaited (c .counted .ensures),
     )
 
--- src/lib.rt:273:13
 is-row-sound-requires : tie.Need-is-row-sound-requires Inv-loop2 μ-loop2 Inv-loop μ-loop
 is-row-sound-requires c κs = search needs
 
--- src/lib.rt:274:9
 both-requires-3 : tie.Need-both-requires-3 Inv-loop2 μ-loop2 Inv-loop μ-loop
 both-requires-3 c κs = search needs
 
--- src/lib.rt:257:9
 add-r : tie.Need-add-r Inv-loop2 μ-loop2 Inv-loop μ-loop
 add-r c = omega arith
 
--- src/lib.rt:257:5
 loop-less : tie.Need-loop-less Inv-loop2 μ-loop2 Inv-loop μ-loop
 loop-less c = omega arith
 
--- src/lib.rt:257:5
 loop-again : tie.Need-loop-again Inv-loop2 μ-loop2 Inv-loop μ-loop
 loop-again c = let s = c .before .before .before .before .before .before .before .before .args .t1 in
     let r = c .before .before .before .before .before .before .before .loop .r in
@@ -150,7 +122,6 @@ loop-again c = let s = c .before .before .before .before .before .before .before
           (c .both3 .ensures),
     )
 
--- src/lib.rt:252:1
 returns : tie.Need-returns Inv-loop2 μ-loop2 Inv-loop μ-loop
 returns c = let e : c .before .loop .r ≡ 32 = omega arith in c .before .loop .inv .1 ∙ ap (λ (n : ℕ). allBelow n (soundRow (c .before .before .args .t1))) e
 

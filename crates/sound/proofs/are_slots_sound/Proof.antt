@@ -1,18 +1,13 @@
-use mathlib.Core.Path.{_≡_, refl, sym, _∙_, ap}
-use mathlib.Core.Bool.{Bool, cond, _&&_, _||_, not}
-use Prim.Native.Nat.{ℕ, _≤_, _+_, _-_, _*_, _/_}
+use mathlib.Core.Path.{_≡_, refl, _∙_, ap}
+use Prim.Native.Nat.{ℕ, _≤_, _-_}
 use native.Mathlib.Omega.{arith}
 use borrow.Author.Needs.{needs}
-use Rattle.seq.specs.Below.{anyBelow, allBelow, countBelow}
-use Rattle.seq.proofs.AllLaws.{all-turn, any-test-turn, count-turn, either-both, both-at}
-use Rattle.seq.proofs.BelowLaws.{count-at-most}
-use Rattle.model.specs.Parties.{levelOf}
-use Rattle.model.specs.State.{rowAt, slotAt, holdingAt}
-use Rattle.model.specs.Words.{isPin, isWrite}
-use Rattle.rules.specs.Sound.{arrived, awaits, samePage, soundSlot, soundPages, soundRow, soundHolding, soundPins}
-use Rattle.sound.specs.Elements.{slotTest, onePage, holdingTest, pinsTest}
-use Rattle.sound.proofs.ElementLaws.{slot-test, page-test, arrived-test, awaits-test, row-end, holding-test}
-use Rattle.sound.proofs.PinLaws.{pins-end}
+use Rattle.seq.specs.Below.{allBelow}
+use Rattle.seq.proofs.AllLaws.{all-turn}
+use Rattle.model.specs.State.{slotAt}
+use Rattle.rules.specs.Sound.{soundSlot}
+use Rattle.sound.specs.Elements.{slotTest}
+use Rattle.sound.proofs.ElementLaws.{slot-test}
 use Rattle.sound.proofs.are_slots_sound.Statement.{statement}
 use Rattle.sound.proofs.are_slots_sound.Tie as tie
 use Rattle.sound.proofs.are_slots_sound.Reads as reads
@@ -27,40 +22,31 @@ Inv-loop s size clock latest ok₀ i₀ ok i = (i ≤ 64) × (ok ≡ allBelow i 
 abbrev μ-loop : tie.MeasureT-loop
 μ-loop s size clock latest ok₀ i₀ ok i = 64 - i
 
--- src/lib.rt:108:9
 latest-arrival-requires : tie.Need-latest-arrival-requires Inv-loop μ-loop
 latest-arrival-requires c κs = search needs
 
--- src/lib.rt:110:5
 loop-holds : tie.Need-loop-holds Inv-loop μ-loop
 unfolding allBelow
 loop-holds c = (omega arith, refl)
 
--- src/lib.rt:111:17
 mul-x : tie.Need-mul-x Inv-loop μ-loop
 mul-x c = omega arith
 
--- src/lib.rt:111:17
 element-copy-out-x : tie.Need-element-copy-out-x Inv-loop μ-loop
 element-copy-out-x c = omega arith
 
--- src/lib.rt:112:13
 is-slot-sound-requires : tie.Need-is-slot-sound-requires Inv-loop μ-loop
 is-slot-sound-requires c κs = search needs
 
--- src/lib.rt:113:9
 both-requires : tie.Need-both-requires Inv-loop μ-loop
 both-requires c κs = search needs
 
--- src/lib.rt:110:9
 add-i : tie.Need-add-i Inv-loop μ-loop
 add-i c = omega arith
 
--- src/lib.rt:110:5
 loop-less : tie.Need-loop-less Inv-loop μ-loop
 loop-less c = omega arith
 
--- src/lib.rt:110:5
 loop-again : tie.Need-loop-again Inv-loop μ-loop
 loop-again c = let s = c .before .before .before .before .before .before .args .t1 in
     let i = c .before .before .before .before .loop .i in (
@@ -70,7 +56,6 @@ loop-again c = let s = c .before .before .before .before .before .before .args .
           (c .both .ensures),
     )
 
--- src/lib.rt:103:1
 returns : tie.Need-returns Inv-loop μ-loop
 returns c = let e : c .before .loop .i ≡ 64 = omega arith in c .before .loop .inv .1 ∙ ap (λ (n : ℕ). allBelow n (soundSlot (c .before .before .before .args .t1))) e
 

@@ -5,15 +5,12 @@ use Rattle.sound.proofs.counted.Tie as tie
 use Rattle.sound.proofs.counted.Reads as reads
 use Rattle.sound.proofs.counted.Lts as lts
 
--- src/lib.rt:42:16
 add-result : tie.Need-add-result
 add-result c = search needs
 
--- src/lib.rt:42:9
 returns : tie.Need-returns
 returns c = simp (c .if1 .taken)
 
--- src/lib.rt:37:1
 returns-2 : tie.Need-returns-2
 returns-2 c = simp (c .if1 .left) (omega arith)
 

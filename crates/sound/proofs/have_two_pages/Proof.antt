@@ -1,4 +1,3 @@
-use Rattle.seq.proofs.Tests.{tests}
 use Rattle.sound.specs.Elements.{onePage}
 use borrow.Author.Needs.{needs}
 use Rattle.sound.proofs.have_two_pages.Statement.{statement}
@@ -6,36 +5,29 @@ use Rattle.sound.proofs.have_two_pages.Tie as tie
 use Rattle.sound.proofs.have_two_pages.Reads as reads
 use Rattle.sound.proofs.have_two_pages.Lts as lts
 
--- src/lib.rt:126:13
 enum-told : tie.Need-enum-told
 enum-told c = search needs
 
--- src/lib.rt:126:13
 returns : tie.Need-returns
 unfolding onePage
-returns c = simp (tests, c .enum-told .given .1)
+returns c = simp (c .enum-told .given .1)
 
--- src/lib.rt:129:13
 enum-known-c : tie.Need-enum-known-c
 enum-known-c c = search needs
 
--- src/lib.rt:135:17
 enum-told-2 : tie.Need-enum-told-2
 enum-told-2 c = search needs
 
--- src/lib.rt:135:17
 returns-2 : tie.Need-returns-2
 unfolding onePage
-returns-2 c = simp (tests, c .enum-told2 .given .1, c .before .before .before .c .given .1)
+returns-2 c = simp (c .enum-told2 .given .1, c .before .before .before .c .given .1)
 
--- src/lib.rt:138:23
 enum-known-d : tie.Need-enum-known-d
 enum-known-d c = search needs
 
--- src/lib.rt:143:17
 returns-3 : tie.Need-returns-3
 unfolding onePage
-returns-3 c = simp (tests, c .before .d .given .1, c .before .before .before .before .c .given .1)
+returns-3 c = simp (c .before .d .given .1, c .before .before .before .before .c .given .1)
 
 pub have-two-pages-spec : {M : Type 1} → statement M
 have-two-pages-spec =

@@ -1,4 +1,3 @@
-use Rattle.seq.proofs.Tests.{tests}
 use Rattle.sound.specs.Elements.{awaitsTest}
 use borrow.Author.Needs.{needs}
 use Rattle.sound.proofs.is_awaited.Statement.{statement}
@@ -7,19 +6,16 @@ use Rattle.sound.proofs.is_awaited.Reads as reads
 use Rattle.sound.proofs.is_awaited.Lts as lts
 use Rattle.model.proofs.is_pin.Reads as is-pin-reads
 
--- src/lib.rt:193:8
 is-pin-requires : tie.Need-is-pin-requires
 is-pin-requires c κs = search needs
 
--- src/lib.rt:194:9
 returns : tie.Need-returns
 unfolding awaitsTest
-returns c = simp (tests, c .before .if1 .taken, ← c .before .before .is-pin .ensures)
+returns c = simp (c .before .if1 .taken, ← c .before .before .is-pin .ensures)
 
--- src/lib.rt:189:1
 returns-2 : tie.Need-returns-2
 unfolding awaitsTest
-returns-2 c = simp (tests, c .if1 .left, ← c .before .is-pin .ensures)
+returns-2 c = simp (c .if1 .left, ← c .before .is-pin .ensures)
 
 pub is-awaited-spec : {M : Type 1} → statement M
 is-awaited-spec = tie.close (tie.spec is-pin-requires returns returns-2)

@@ -7,38 +7,31 @@ use Rattle.sound.proofs.is_fit.Reads as reads
 use Rattle.sound.proofs.is_fit.Lts as lts
 use Rattle.sound.proofs.is_pin_allowed.Reads as is-pin-allowed-reads
 
--- src/lib.rt:331:8
 is-pin-allowed-requires : tie.Need-is-pin-allowed-requires
 is-pin-allowed-requires c κs = search needs
 
--- src/lib.rt:333:13
 returns : tie.Need-returns
 unfolding fitTest
 returns c = simp (tests, c .if2 .taken, c .before .before .if1 .taken, ← c .before .before .before .is-pin-allowed .ensures)
 
--- src/lib.rt:335:21
 cast-if3 : tie.Need-cast-if3
 cast-if3 c = search needs
 
--- src/lib.rt:336:13
 returns-2 : tie.Need-returns-2
 unfolding fitTest
 returns-2 c = simp (tests, c .if3 .taken, c .before .before .if2 .left, c .before .before .before .before .if1 .taken, ← c .before .before .before .before .before .is-pin-allowed .ensures)
 
--- src/lib.rt:339:13
 returns-3 : tie.Need-returns-3
 unfolding fitTest
 returns-3 c = simp (tests, c .if4 .taken, c .before .before .if3 .left, c .before .before .before .before .if2 .left, c .before .before .before .before .before .before .if1 .taken, ← c .before .before .before .before .before .before .before .is-pin-allowed .ensures)
 
--- src/lib.rt:341:9
 returns-4 : tie.Need-returns-4
 unfolding fitTest
 returns-4 c = simp (tests, c .if4 .left, c .before .before .if3 .left, c .before .before .before .before .if2 .left, c .before .before .before .before .before .before .if1 .taken, ← c .before .before .before .before .before .before .before .is-pin-allowed .ensures)
 
--- src/lib.rt:318:1
 returns-5 : tie.Need-returns-5
 unfolding fitTest
-returns-5 c = simp (tests, c .if1 .left, ← c .before .is-pin-allowed .ensures)
+returns-5 c = simp (c .if1 .left, ← c .before .is-pin-allowed .ensures)
 
 pub is-fit-spec : {M : Type 1} → statement M
 is-fit-spec =

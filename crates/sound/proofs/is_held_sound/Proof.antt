@@ -1,4 +1,3 @@
-use Rattle.seq.proofs.Tests.{tests}
 use Rattle.sound.specs.Elements.{heldTest, fitTest}
 use borrow.Author.Needs.{needs}
 use Rattle.sound.proofs.is_held_sound.Statement.{statement}
@@ -7,32 +6,26 @@ use Rattle.sound.proofs.is_held_sound.Reads as reads
 use Rattle.sound.proofs.is_held_sound.Lts as lts
 use Rattle.sound.proofs.is_fit.Reads as is-fit-reads
 
--- src/lib.rt:355:17
 enum-told : tie.Need-enum-told
 enum-told c = search needs
 
--- src/lib.rt:355:17
 returns : tie.Need-returns
 unfolding heldTest fitTest
-returns c = simp (tests, c .enum-told .given .1, c .before .before .if1 .taken)
+returns c = simp (c .enum-told .given .1, c .before .before .if1 .taken)
 
--- src/lib.rt:358:17
 enum-known-c : tie.Need-enum-known-c
 enum-known-c c = search needs
 
--- src/lib.rt:363:17
 is-fit-requires : tie.Need-is-fit-requires
 is-fit-requires c κs = search needs
 
--- src/lib.rt:363:17
 returns-2 : tie.Need-returns-2
 unfolding heldTest fitTest
-returns-2 c = simp (tests, ← c .is-fit .ensures, c .before .before .c .given .1, c .before .before .before .before .if1 .taken)
+returns-2 c = simp (← c .is-fit .ensures, c .before .before .c .given .1, c .before .before .before .before .if1 .taken)
 
--- src/lib.rt:347:1
 returns-3 : tie.Need-returns-3
 unfolding heldTest fitTest
-returns-3 c = simp (tests, c .if1 .left)
+returns-3 c = simp (c .if1 .left)
 
 pub is-held-sound-spec : {M : Type 1} → statement M
 is-held-sound-spec =

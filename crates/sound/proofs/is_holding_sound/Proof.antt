@@ -9,29 +9,23 @@ use Rattle.model.proofs.is_held.Reads as is-held-reads
 use Rattle.model.proofs.is_live.Reads as is-live-reads
 use Rattle.sound.proofs.is_held_sound.Reads as is-held-sound-reads
 
--- src/lib.rt:375:8
 is-held-requires : tie.Need-is-held-requires
 is-held-requires c κs = search needs
 
--- src/lib.rt:377:13
 is-live-requires : tie.Need-is-live-requires
 is-live-requires c κs = search needs
 
--- src/lib.rt:378:9
 is-held-sound-requires : tie.Need-is-held-sound-requires
 is-held-sound-requires c κs = search needs
 
--- src/lib.rt:378:9
 returns : tie.Need-returns
 unfolding holdingTest
-returns c = simp (tests, ← c .is-held-sound .ensures, ← c .before .is-live .ensures, c .before .before .if1 .taken, ← c .before .before .before .is-held .ensures)
+returns c = simp (← c .is-held-sound .ensures, ← c .before .is-live .ensures, c .before .before .if1 .taken, ← c .before .before .before .is-held .ensures)
 
--- src/lib.rt:381:9
 returns-2 : tie.Need-returns-2
 unfolding holdingTest
-returns-2 c = simp (tests, c .before .if2 .taken, c .before .before .before .if1 .left, ← c .before .before .before .before .is-held .ensures)
+returns-2 c = simp (c .before .if2 .taken, c .before .before .before .if1 .left, ← c .before .before .before .before .is-held .ensures)
 
--- src/lib.rt:370:1
 returns-3 : tie.Need-returns-3
 unfolding holdingTest
 returns-3 c = simp (tests, c .if2 .left, c .before .before .if1 .left, ← c .before .before .before .is-held .ensures)

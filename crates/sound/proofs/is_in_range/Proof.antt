@@ -5,27 +5,22 @@ use Rattle.sound.proofs.is_in_range.Tie as tie
 use Rattle.sound.proofs.is_in_range.Reads as reads
 use Rattle.sound.proofs.is_in_range.Lts as lts
 
--- src/lib.rt:51:9
 returns : tie.Need-returns
 unfolding inRange
 returns c = simp (tests, c .if1 .taken)
 
--- src/lib.rt:54:9
 returns-2 : tie.Need-returns-2
 unfolding inRange
 returns-2 c = simp (tests, c .if2 .taken, c .before .if1 .left)
 
--- src/lib.rt:57:9
 returns-3 : tie.Need-returns-3
 unfolding inRange
 returns-3 c = simp (tests, c .if3 .taken, c .before .if2 .left, c .before .before .if1 .left)
 
--- src/lib.rt:60:9
 returns-4 : tie.Need-returns-4
 unfolding inRange
 returns-4 c = simp (tests, c .if4 .taken, c .before .if3 .left, c .before .before .if2 .left, c .before .before .before .if1 .left)
 
--- src/lib.rt:47:1
 returns-5 : tie.Need-returns-5
 unfolding inRange
 returns-5 c = simp (tests, c .if4 .left, c .before .if3 .left, c .before .before .if2 .left, c .before .before .before .if1 .left)

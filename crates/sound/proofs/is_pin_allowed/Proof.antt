@@ -1,4 +1,3 @@
-use Rattle.seq.proofs.Tests.{tests}
 use borrow.Author.Needs.{needs}
 use Rattle.sound.proofs.is_pin_allowed.Statement.{statement}
 use Rattle.sound.proofs.is_pin_allowed.Tie as tie
@@ -6,45 +5,35 @@ use Rattle.sound.proofs.is_pin_allowed.Reads as reads
 use Rattle.sound.proofs.is_pin_allowed.Lts as lts
 use Rattle.sound.proofs.may_access.Reads as may-access-reads
 
--- src/lib.rt:303:13
 enum-told : tie.Need-enum-told
 enum-told c = search needs
 
--- src/lib.rt:303:13
 returns : tie.Need-returns
 returns c = search needs
 
--- src/lib.rt:306:13
 enum-told-2 : tie.Need-enum-told-2
 enum-told-2 c = search needs
 
--- src/lib.rt:306:13
 returns-2 : tie.Need-returns-2
 returns-2 c = search needs
 
--- src/lib.rt:309:44
 enum-told-3 : tie.Need-enum-told-3
 enum-told-3 c = search needs
 
--- src/lib.rt:309:13
 may-access-requires : tie.Need-may-access-requires
 may-access-requires c κs = search needs
 
--- src/lib.rt:309:13
 returns-3 : tie.Need-returns-3
-returns-3 c = simp (tests, ← c .may-access .ensures, c .before .enum-told3 .given .1)
+returns-3 c = simp (← c .may-access .ensures, c .before .enum-told3 .given .1)
 
--- src/lib.rt:312:44
 enum-told-4 : tie.Need-enum-told-4
 enum-told-4 c = search needs
 
--- src/lib.rt:312:13
 may-access-requires-2 : tie.Need-may-access-requires-2
 may-access-requires-2 c κs = search needs
 
--- src/lib.rt:312:13
 returns-4 : tie.Need-returns-4
-returns-4 c = simp (tests, ← c .may-access2 .ensures, c .before .enum-told4 .given .1)
+returns-4 c = simp (← c .may-access2 .ensures, c .before .enum-told4 .given .1)
 
 pub is-pin-allowed-spec : {M : Type 1} → statement M
 is-pin-allowed-spec =

@@ -6,44 +6,35 @@ use Rattle.sound.proofs.is_slot_sound.Tie as tie
 use Rattle.sound.proofs.is_slot_sound.Reads as reads
 use Rattle.sound.proofs.is_slot_sound.Lts as lts
 
--- src/lib.rt:78:13
 enum-told : tie.Need-enum-told
 enum-told c = search needs
 
--- src/lib.rt:78:13
 returns : tie.Need-returns
 unfolding slotTest
-returns c = simp (tests, c .before .enum-told .given .1)
+returns c = simp (c .before .enum-told .given .1)
 
--- src/lib.rt:81:13
 enum-known-c : tie.Need-enum-known-c
 enum-known-c c = search needs
 
--- src/lib.rt:87:17
 returns-2 : tie.Need-returns-2
 unfolding slotTest
 returns-2 c = simp (tests, c .if1 .taken, c .before .before .c .given .1)
 
--- src/lib.rt:90:17
 returns-3 : tie.Need-returns-3
 unfolding slotTest
 returns-3 c = simp (tests, c .if2 .taken, c .before .if1 .left, c .before .before .before .c .given .1)
 
--- src/lib.rt:93:17
 returns-4 : tie.Need-returns-4
 unfolding slotTest
 returns-4 c = simp (tests, c .if3 .taken, c .before .before .if2 .left, c .before .before .before .if1 .left, c .before .before .before .before .before .c .given .1)
 
--- src/lib.rt:95:25
 cast-if4 : tie.Need-cast-if4
 cast-if4 c = search needs
 
--- src/lib.rt:96:17
 returns-5 : tie.Need-returns-5
 unfolding slotTest
 returns-5 c = simp (tests, c .if4 .taken, c .before .if3 .left, c .before .before .before .if2 .left, c .before .before .before .before .if1 .left, c .before .before .before .before .before .before .c .given .1)
 
--- src/lib.rt:98:13
 returns-6 : tie.Need-returns-6
 unfolding slotTest
 returns-6 c = simp (tests, c .if4 .left, c .before .if3 .left, c .before .before .before .if2 .left, c .before .before .before .before .if1 .left, c .before .before .before .before .before .before .c .given .1)

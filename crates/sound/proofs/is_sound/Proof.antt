@@ -12,43 +12,33 @@ use Rattle.sound.proofs.are_slots_sound.Reads as are-slots-sound-reads
 use Rattle.sound.proofs.both.Reads as both-reads
 use Rattle.sound.proofs.is_in_range.Reads as is-in-range-reads
 
--- src/lib.rt:429:9
 is-in-range-requires : tie.Need-is-in-range-requires
 is-in-range-requires c κs = search needs
 
--- src/lib.rt:430:9
 are-slots-sound-requires : tie.Need-are-slots-sound-requires
 are-slots-sound-requires c κs = search needs
 
--- src/lib.rt:431:9
 are-pages-sound-requires : tie.Need-are-pages-sound-requires
 are-pages-sound-requires c κs = search needs
 
--- src/lib.rt:432:9
 are-rows-sound-requires : tie.Need-are-rows-sound-requires
 are-rows-sound-requires c κs = search needs
 
--- src/lib.rt:433:9
 are-holdings-sound-requires : tie.Need-are-holdings-sound-requires
 are-holdings-sound-requires c κs = search needs
 
--- src/lib.rt:434:20
 both-requires : tie.Need-both-requires
 both-requires c κs = search needs
 
--- src/lib.rt:434:15
 both-requires-2 : tie.Need-both-requires-2
 both-requires-2 c κs = search needs
 
--- src/lib.rt:434:10
 both-requires-3 : tie.Need-both-requires-3
 both-requires-3 c κs = search needs
 
--- src/lib.rt:434:5
 both-requires-4 : tie.Need-both-requires-4
 both-requires-4 c κs = search needs
 
--- src/lib.rt:426:1
 returns : tie.Need-returns
 returns c =
     let s = c .before .before .before .before .before .before .before .before .before .args .s in

@@ -10,28 +10,22 @@ use Rattle.sound.proofs.may_access.Reads as reads
 use Rattle.sound.proofs.may_access.Lts as lts
 use Rattle.model.proofs.is_allowed.Reads as is-allowed-reads
 
--- src/lib.rt:285:9
 is-allowed-requires : tie.Need-is-allowed-requires
 is-allowed-requires c κs = search needs
 
--- src/lib.rt:285:9
 returns : tie.Need-returns
 returns c = search needs
 
--- src/lib.rt:289:13
 enum-told : tie.Need-enum-told
 enum-told c = search needs
 
--- src/lib.rt:289:13
 returns-2 : tie.Need-returns-2
 unfolding allowed
 returns-2 c = rw (c .enum-told .given .1) (sym (lt-leb (c .before .before .before .args .page / 1024) (c .before .before .before .args .level) (omega arith)))
 
--- src/lib.rt:292:13
 enum-told-2 : tie.Need-enum-told-2
 enum-told-2 c = search needs
 
--- src/lib.rt:292:13
 returns-3 : tie.Need-returns-3
 unfolding allowed
 returns-3 c = rw (c .enum-told2 .given .1) (sym (le-leb (c .before .before .before .args .level) (c .before .before .before .args .page / 1024) (omega arith)))
