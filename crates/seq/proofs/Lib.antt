@@ -8,3 +8,4 @@ pub mod OneLaws
 pub mod BoolLaws
 pub mod CountLaws
 pub mod PairLaws
+pub mod AllLaws

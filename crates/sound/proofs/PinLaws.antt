@@ -1,0 +1,126 @@
+-- No two pins of a slot conflict just where no pin is a write pin, or there is one pin alone.
+use mathlib.Core.Path.{_≡_, refl, sym, _∙_}
+use mathlib.Core.Bool.{Bool, true, false, cond, _&&_, _||_, not}
+use Prim.Native.Nat.{ℕ, _<_}
+use native.Mathlib.Omega.{arith}
+use native.Mathlib.Decide.{decLt}
+use lib.Dec.{eqb}
+use borrow.Author.Tests.{eqb-true, eq-eqb, not-true}
+use Rattle.seq.specs.Below.{anyBelow, allBelow, countBelow}
+use Rattle.seq.proofs.Tests.{true-false, same-truth}
+use Rattle.seq.proofs.BelowLaws.{One, any-none, any-hit, all-each, each-all, count-one, one-count}
+use Rattle.model.specs.declared.Pin.{Pin}
+use Rattle.model.specs.declared.Pin.the-variants.{Absent, Unpinned, Read, Write}
+use Rattle.model.specs.declared.State.{State}
+use Rattle.model.specs.State.{holdingAt}
+use Rattle.model.specs.Words.{isPin, isWrite, conflict}
+use Rattle.rules.specs.Sound.{soundPins}
+use Rattle.sound.specs.Elements.{pinsTest}
+
+write-pin : (p : Pin) → isWrite p ≡ true → isPin p ≡ true
+write-pin Absent e = e
+write-pin Unpinned e = e
+write-pin Read e = refl
+write-pin Write e = refl
+
+-- a pin beside a write pin
+write-first : (p q : Pin) → isWrite p ≡ true → isPin q ≡ true → conflict p q ≡ true
+unfolding conflict
+write-first p q w e = rw (write-pin p w, e, w)
+
+write-second : (p q : Pin) → isPin p ≡ true → isWrite q ≡ true → conflict p q ≡ true
+unfolding conflict
+write-second p q e w = rw (e, write-pin q w, w) (or-right (isWrite p))
+  where
+    or-right : (a : Bool) → a || true ≡ true
+    or-right true = refl
+    or-right false = refl
+
+no-write : (p q : Pin) → isWrite p ≡ false → isWrite q ≡ false → conflict p q ≡ false
+unfolding conflict
+no-write p q e f = rw (e, f) (and-right (isPin p && isPin q))
+  where
+    and-right : (a : Bool) → a && false ≡ false
+    and-right true = refl
+    and-right false = refl
+
+no-pin : (p q : Pin) → (isPin p ≡ true → isPin q ≡ true → ⊥) → conflict p q ≡ false
+unfolding conflict
+no-pin p q f = go (isPin p) (isPin q) refl refl
+  where
+    go : (a b : Bool) → isPin p ≡ a → isPin q ≡ b → isPin p && isPin q && (isWrite p || isWrite q) ≡ false
+    go true true d e = absurd (f d e)
+    go true false d e = rw (d, e)
+    go false b d e = rw d
+
+module _ (f : ℕ → Pin) (n : ℕ) where
+  abbrev apart : Bool
+  apart = allBelow n (λ row. allBelow row (λ other. not (conflict (f row) (f other))))
+
+  abbrev wrote : Bool
+  wrote = anyBelow n (λ row. isWrite (f row))
+
+  abbrev number : ℕ
+  number = countBelow n (λ row. isPin (f row))
+
+  apart-each : apart ≡ true → (i j : ℕ) → i < n → j < i → conflict (f i) (f j) ≡ false
+  apart-each e i j a b =
+      not-true (conflict (f i) (f j))
+      (all-each (λ other. not (conflict (f i) (f other))) i j
+      (all-each (λ row. allBelow row (λ other. not (conflict (f row) (f other)))) n i e a) b)
+
+  each-apart : ((i j : ℕ) → i < n → j < i → conflict (f i) (f j) ≡ false) → apart ≡ true
+  each-apart h =
+      each-all (λ row. allBelow row (λ other. not (conflict (f row) (f other)))) n
+      (λ i a. each-all (λ other. not (conflict (f i) (f other))) i (λ j b. rw (h i j a b)))
+
+  -- a write pin is the only pin
+  only-write : apart ≡ true → (w : ℕ) → w < n → isWrite (f w) ≡ true → One (λ row. isPin (f row)) n
+  only-write e w a p = record {
+    at = w;
+    below = a;
+    passes = write-pin (f w) p;
+    only = λ i b q. elim (decLt i w) [
+      | yes h ↦ true-false (sym (write-first (f w) (f i) p q) ∙ apart-each e w i a h)
+      | no h ↦ elim (decLt w i) [
+        | yes k ↦ true-false (sym (write-second (f i) (f w) q p) ∙ apart-each e i w b k)
+        | no k ↦ omega arith
+      ]
+    ];
+  }
+
+  to-test : apart ≡ true → pinsTest wrote number ≡ true
+  unfolding pinsTest
+  to-test e = go wrote refl
+    where
+      go : (b : Bool) → wrote ≡ b → cond wrote (eqb number 1) true ≡ true
+      go true q =
+          let x = any-hit (λ row. isWrite (f row)) n q in
+          rw q (eq-eqb number 1 (one-count (λ row. isPin (f row)) n (only-write e (x .0) (x .1) (x .2))))
+      go false q = rw q
+
+  from-test : pinsTest wrote number ≡ true → apart ≡ true
+  unfolding pinsTest
+  from-test e = go wrote refl
+    where
+      go : (b : Bool) → wrote ≡ b → apart ≡ true
+      go true q =
+          let o = count-one (λ row. isPin (f row)) n (eqb-true number 1 (rw q at e)) in
+          each-apart (λ i j a b. no-pin (f i) (f j) (λ c d.
+          let x = o .only i a c in
+          let y = o .only j (omega arith) d in
+          omega arith))
+      go false q = each-apart (λ i j a b. no-write (f i) (f j) (any-none (λ row. isWrite (f row)) n i q a) (any-none (λ row. isWrite (f row)) n j q (omega arith)))
+
+  pins-test : pinsTest wrote number ≡ apart
+  pins-test = same-truth (pinsTest wrote number) apart from-test to-test
+
+pub slot-pins : (s : State) (slot : ℕ)
+    → pinsTest (anyBelow 32 (λ row. isWrite (holdingAt s slot row .pin))) (countBelow 32 (λ row. isPin (holdingAt s slot row .pin))) ≡ soundPins s slot
+unfolding soundPins
+slot-pins s slot = pins-test (λ row. holdingAt s slot row .pin) 32
+
+-- the same, as the loop over a slot's holdings leaves it
+pub pins-end : (s : State) (slot n : ℕ) (wrote : Bool) (number : ℕ) → n ≡ 32 → wrote ≡ anyBelow n (λ row. isWrite (holdingAt s slot row .pin)) → number ≡ countBelow n (λ row. isPin (holdingAt s slot row .pin))
+    → pinsTest wrote number ≡ soundPins s slot
+pins-end s slot n wrote number e p q = rw (p, q, e) (slot-pins s slot)

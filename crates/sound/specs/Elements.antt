@@ -1,0 +1,90 @@
+-- The tests of what sound means, each of one element of the state and the numbers that it is compared with.
+-- `latest` is the tick clock + delay.
+use mathlib.Core.Bool.{Bool, true, cond, _&&_, _||_, not}
+use Prim.Native.Nat.{ℕ}
+use lib.Dec.{leb, ltb, eqb}
+use Rattle.model.specs.declared.Condition.{Condition}
+use Rattle.model.specs.declared.Condition.the-variants.{Free, Idle, Fetching, Waiting, Killed}
+use Rattle.model.specs.declared.Content.{Content}
+use Rattle.model.specs.declared.Content.the-variants.{Empty, Filled}
+use Rattle.model.specs.declared.Mode.{Mode}
+use Rattle.model.specs.declared.Row.{Row}
+use Rattle.model.specs.declared.Slot.{Slot}
+use Rattle.model.specs.declared.Holding.{Holding}
+use Rattle.model.specs.Parties.{mayAccess, lastClock, isPast}
+use Rattle.model.specs.Words.{isLive, isFilled, pageIn, arrivalIn, lowestIn, hasPage, isHeld, isPin}
+use Rattle.rules.specs.Sound.{pinAllowed}
+
+unfoldable pub inRange : ℕ → ℕ → ℕ → Bool
+inRange size delay clock = leb 1 size && leb size 64 && leb 1 delay && leb delay 255 && leb clock lastClock
+
+abbrev pub contentTest : Content → ℕ → ℕ → ℕ → ℕ → ℕ → Bool
+contentTest Empty touch slot size clock latest = eqb touch 0
+contentTest (Filled page arrival dirty lowest) touch slot size clock latest =
+    leb page 4095 && leb lowest 3 && leb touch clock && leb arrival latest && ltb slot size
+
+unfoldable pub slotTest : Slot → ℕ → ℕ → ℕ → ℕ → Bool
+slotTest x slot size clock latest = contentTest (x .content) (x .touch) slot size clock latest
+
+-- both slots have one page
+unfoldable pub onePage : Slot → Slot → Bool
+onePage x y = isFilled (x .content) && hasPage (pageIn (x .content)) (y .content)
+
+-- the due tick of a fetching row, and 0 of another
+abbrev pub dueIn : Condition → ℕ
+dueIn Free = 0
+dueIn Idle = 0
+dueIn (Fetching due) = due
+dueIn (Waiting page mode) = 0
+dueIn (Killed cause) = 0
+
+unfoldable pub arrivedTest : ℕ → Holding → Bool
+arrivedTest clock h = not (isHeld (h .pin)) || leb (h .arrival) clock
+
+unfoldable pub awaitsTest : ℕ → Holding → Bool
+awaitsTest due h = isPin (h .pin) && eqb (h .arrival) due
+
+-- a fetching row: all its holdings have arrived or are awaited, and how many are awaited
+unfoldable pub fetchingTest : ℕ → ℕ → ℕ → Bool → ℕ → Bool
+fetchingTest due deadline clock expected number =
+    not (isPast clock deadline) && ltb clock due && eqb number 1 && expected
+
+-- a waiting row: all its holdings have arrived
+unfoldable pub waitingTest : ℕ → Mode → ℕ → ℕ → ℕ → Bool → Bool
+waitingTest page mode deadline level clock settled =
+    not (isPast clock deadline) && settled && leb page 4095 && mayAccess level page mode
+
+-- a row's condition, by what its holdings are: all have arrived; all have arrived or are awaited; how many are awaited
+abbrev pub conditionTest : Condition → ℕ → ℕ → ℕ → Bool → Bool → ℕ → Bool
+conditionTest Free deadline level clock settled expected number = eqb deadline 0
+conditionTest (Killed cause) deadline level clock settled expected number = eqb deadline 0
+conditionTest Idle deadline level clock settled expected number = not (isPast clock deadline) && settled
+conditionTest (Fetching due) deadline level clock settled expected number =
+    fetchingTest due deadline clock expected number
+conditionTest (Waiting page mode) deadline level clock settled expected number =
+    waitingTest page mode deadline level clock settled
+
+unfoldable pub rowTest : Row → ℕ → ℕ → Bool → Bool → ℕ → Bool
+rowTest x level clock settled expected number = conditionTest (x .condition) (x .deadline) level clock settled expected number
+
+-- a holding on a filled slot, by the slot's page, arrival, lowest level and touch
+unfoldable pub fitTest : ℕ → ℕ → ℕ → ℕ → ℕ → Holding → ℕ → Bool
+fitTest level page arrival lowest touch h latest =
+    pinAllowed level page (h .pin) && leb arrival (h .arrival) && leb (h .arrival) latest
+    && leb (h .touch) touch && leb lowest level
+
+-- a holding that is there
+unfoldable pub heldTest : ℕ → Bool → Slot → Holding → ℕ → Bool
+heldTest level live x h latest =
+    live && isFilled (x .content)
+    && pinAllowed level (pageIn (x .content)) (h .pin)
+    && leb (arrivalIn (x .content)) (h .arrival) && leb (h .arrival) latest
+    && leb (h .touch) (x .touch) && leb (lowestIn (x .content)) level
+
+unfoldable pub holdingTest : ℕ → Row → Slot → Holding → ℕ → Bool
+holdingTest level y x h latest =
+    cond (isHeld (h .pin)) (heldTest level (isLive (y .condition)) x h latest) (eqb (h .arrival) 0 && eqb (h .touch) 0)
+
+-- the pins of a slot: no write pin, or no other pin beside it
+unfoldable pub pinsTest : Bool → ℕ → Bool
+pinsTest wrote number = cond wrote (eqb number 1) true

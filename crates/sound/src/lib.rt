@@ -1,0 +1,457 @@
+// The test whether a state is sound: document 01, "State".
+use model::Condition;
+use model::Content;
+use model::Holding;
+use model::Mode;
+use model::Pin;
+use model::Row;
+use model::Slot;
+use model::State;
+ghost use mathlib.Core.Path.{_≡_};
+ghost use mathlib.Core.Bool.{cond, _&&_, _||_, not};
+ghost use Prim.Native.Nat.{_+_, _<_};
+ghost use Rattle.seq.specs.Below.{allBelow};
+ghost use Rattle.model.specs.Parties.{mayAccess};
+ghost use Rattle.rules.specs.Sound.{pinAllowed, soundSlot, soundPages, soundRow, soundHolding, soundPins, sound};
+ghost use Rattle.sound.specs.Elements.{inRange, slotTest, onePage, dueIn, arrivedTest, awaitsTest, fetchingTest, waitingTest, rowTest, fitTest, heldTest, holdingTest, pinsTest};
+
+fn both(a: bool, b: bool) -> bool
+    ensures { λ r. ⌜ r ≡ a && b ⌝ }
+{
+    if a {
+        return b;
+    }
+    false
+}
+
+fn either(a: bool, b: bool) -> bool
+    ensures { λ r. ⌜ r ≡ a || b ⌝ }
+{
+    if a {
+        return true;
+    }
+    b
+}
+
+// The count, one more where an element passed.
+fn counted(n: usize, b: bool) -> usize
+    requires { ⌜ n < 64 ⌝ }
+    ensures { λ r. ⌜ r ≡ n + cond b 1 0 ⌝ }
+{
+    if b {
+        return n + 1;
+    }
+    n
+}
+
+fn is_in_range(size: usize, delay: u32, clock: u32) -> bool
+    ensures { λ r. ⌜ r ≡ inRange size delay clock ⌝ }
+{
+    if size < 1 {
+        return false;
+    }
+    if 64 < size {
+        return false;
+    }
+    if delay < 1 {
+        return false;
+    }
+    if 255 < delay {
+        return false;
+    }
+    clock <= 4000000000
+}
+
+// The tick clock + delay, which no arrival passes. It is wide, since the numbers of a state may be any.
+fn latest_arrival(clock: u32, delay: u32) -> u64
+    ensures { λ r. ⌜ r ≡ clock + delay ⌝ }
+{
+    clock as u64 + delay as u64
+}
+
+fn is_slot_sound(x: Slot, slot: usize, size: usize, clock: u32, latest: u64) -> bool
+    ensures { λ r. ⌜ r ≡ slotTest x slot size clock latest ⌝ }
+{
+    let c = x.content;
+    match c {
+        Content::Empty => {
+            return x.touch == 0;
+        }
+        Content::Filled {
+            page,
+            arrival,
+            dirty: _,
+            lowest,
+        } => {
+            if 4095 < page {
+                return false;
+            }
+            if 3 < lowest {
+                return false;
+            }
+            if clock < x.touch {
+                return false;
+            }
+            if latest < arrival as u64 {
+                return false;
+            }
+            return slot < size;
+        }
+    }
+}
+
+fn are_slots_sound(s: State) -> bool
+    ensures { λ r. ⌜ r ≡ allBelow 64 (soundSlot s) ⌝ }
+{
+    let size = s.size;
+    let clock = s.clock;
+    let latest = latest_arrival(clock, s.delay);
+    let mut ok = true;
+    for i in 0..64usize {
+        let x = s.slots[i];
+        let t = is_slot_sound(x, i, size, clock, latest);
+        ok = both(ok, t);
+    }
+    ok
+}
+
+// The slots have no page in common.
+fn have_two_pages(x: Slot, y: Slot) -> bool
+    ensures { λ r. ⌜ r ≡ not (onePage x y) ⌝ }
+{
+    let c = x.content;
+    let d = y.content;
+    match c {
+        Content::Empty => {
+            return true;
+        }
+        Content::Filled {
+            page,
+            arrival: _,
+            dirty: _,
+            lowest: _,
+        } => match d {
+            Content::Empty => {
+                return true;
+            }
+            Content::Filled {
+                page: other,
+                arrival: _,
+                dirty: _,
+                lowest: _,
+            } => {
+                return other != page;
+            }
+        },
+    }
+}
+
+fn are_pages_sound(s: State) -> bool
+    ensures { λ r. ⌜ r ≡ soundPages s ⌝ }
+{
+    let mut ok = true;
+    for i in 0..64usize {
+        let x = s.slots[i];
+        let mut apart = true;
+        for j in 0..i {
+            let y = s.slots[j];
+            let t = have_two_pages(x, y);
+            apart = both(apart, t);
+        }
+        ok = both(ok, apart);
+    }
+    ok
+}
+
+// The due tick of a fetching row, and 0 of another.
+fn due_of(c: Condition) -> u32
+    ensures { λ r. ⌜ r ≡ dueIn c ⌝ }
+{
+    match c {
+        Condition::Free => 0,
+        Condition::Idle => 0,
+        Condition::Fetching(due) => due,
+        Condition::Waiting { page: _, mode: _ } => 0,
+        Condition::Killed(_) => 0,
+    }
+}
+
+fn has_arrived(h: Holding, clock: u32) -> bool
+    ensures { λ r. ⌜ r ≡ arrivedTest clock h ⌝ }
+{
+    let p = h.pin;
+    if model::is_held(p) {
+        return h.arrival <= clock;
+    }
+    true
+}
+
+fn is_awaited(h: Holding, due: u32) -> bool
+    ensures { λ r. ⌜ r ≡ awaitsTest due h ⌝ }
+{
+    let p = h.pin;
+    if model::is_pin(p) {
+        return h.arrival == due;
+    }
+    false
+}
+
+// A fetching row: all its holdings have arrived or are awaited, and how many are awaited.
+fn is_fetching_sound(due: u32, deadline: u32, clock: u32, expected: bool, number: usize) -> bool
+    ensures { λ r. ⌜ r ≡ fetchingTest due deadline clock expected number ⌝ }
+{
+    if deadline <= clock {
+        return false;
+    }
+    if due <= clock {
+        return false;
+    }
+    if number == 1 {
+        return expected;
+    }
+    false
+}
+
+// A waiting row: all its holdings have arrived.
+fn is_waiting_sound(
+    page: u32,
+    mode: Mode,
+    deadline: u32,
+    level: usize,
+    clock: u32,
+    settled: bool,
+) -> bool
+    requires { ⌜ level < 4 ⌝ }
+    ensures { λ r. ⌜ r ≡ waitingTest page mode deadline level clock settled ⌝ }
+{
+    if deadline <= clock {
+        return false;
+    }
+    if settled {
+        if page <= 4095 {
+            return model::is_allowed(level, page, mode);
+        }
+        return false;
+    }
+    false
+}
+
+// A row, by what its holdings are: all have arrived; all have arrived or are awaited; how many are awaited.
+fn is_row_sound(
+    x: Row,
+    level: usize,
+    clock: u32,
+    settled: bool,
+    expected: bool,
+    number: usize,
+) -> bool
+    requires { ⌜ level < 4 ⌝ }
+    ensures { λ r. ⌜ r ≡ rowTest x level clock settled expected number ⌝ }
+{
+    let c = x.condition;
+    match c {
+        Condition::Free => {
+            return x.deadline == 0;
+        }
+        Condition::Idle => {
+            if x.deadline <= clock {
+                return false;
+            }
+            return settled;
+        }
+        Condition::Fetching(due) => {
+            return is_fetching_sound(due, x.deadline, clock, expected, number);
+        }
+        Condition::Waiting { page, mode } => {
+            return is_waiting_sound(page, mode, x.deadline, level, clock, settled);
+        }
+        Condition::Killed(_) => {
+            return x.deadline == 0;
+        }
+    }
+}
+
+fn are_rows_sound(s: State) -> bool
+    ensures { λ r. ⌜ r ≡ allBelow 32 (soundRow s) ⌝ }
+{
+    let clock = s.clock;
+    let mut ok = true;
+    for r in 0..32usize {
+        let x = s.rows[r];
+        let c = x.condition;
+        let due = due_of(c);
+        let mut settled = true;
+        let mut expected = true;
+        let mut number: usize = 0;
+        for i in 0..64usize {
+            let h = s.holdings[i * 32 + r];
+            let here = has_arrived(h, clock);
+            let awaited = is_awaited(h, due);
+            let known = either(here, awaited);
+            settled = both(settled, here);
+            expected = both(expected, known);
+            number = counted(number, awaited);
+        }
+        let t = is_row_sound(x, r / 8, clock, settled, expected, number);
+        ok = both(ok, t);
+    }
+    ok
+}
+
+// The access rule for any page: past the last one the class is above every level.
+fn may_access(level: usize, page: u32, mode: Mode) -> bool
+    requires { ⌜ level < 4 ⌝ }
+    ensures { λ r. ⌜ r ≡ mayAccess level page mode ⌝ }
+{
+    if page <= 4095 {
+        return model::is_allowed(level, page, mode);
+    }
+    match mode {
+        Mode::Read => {
+            return false;
+        }
+        Mode::Write => {
+            return true;
+        }
+    }
+}
+
+fn is_pin_allowed(level: usize, page: u32, p: Pin) -> bool
+    requires { ⌜ level < 4 ⌝ }
+    ensures { λ r. ⌜ r ≡ pinAllowed level page p ⌝ }
+{
+    match p {
+        Pin::Absent => {
+            return true;
+        }
+        Pin::Unpinned => {
+            return true;
+        }
+        Pin::Read => {
+            return may_access(level, page, Mode::Read);
+        }
+        Pin::Write => {
+            return may_access(level, page, Mode::Write);
+        }
+    }
+}
+
+// A holding on a filled slot, by the slot's page, arrival, lowest level and touch.
+fn is_fit(
+    level: usize,
+    page: u32,
+    arrival: u32,
+    lowest: usize,
+    touch: u32,
+    h: Holding,
+    latest: u64,
+) -> bool
+    requires { ⌜ level < 4 ⌝ }
+    ensures { λ r. ⌜ r ≡ fitTest level page arrival lowest touch h latest ⌝ }
+{
+    let p = h.pin;
+    if is_pin_allowed(level, page, p) {
+        if h.arrival < arrival {
+            return false;
+        }
+        if latest < h.arrival as u64 {
+            return false;
+        }
+        if touch < h.touch {
+            return false;
+        }
+        return lowest <= level;
+    }
+    false
+}
+
+// A holding that is there: only of a live row, and only in a filled slot.
+fn is_held_sound(level: usize, live: bool, x: Slot, h: Holding, latest: u64) -> bool
+    requires { ⌜ level < 4 ⌝ }
+    ensures { λ r. ⌜ r ≡ heldTest level live x h latest ⌝ }
+{
+    if live {
+        let c = x.content;
+        match c {
+            Content::Empty => {
+                return false;
+            }
+            Content::Filled {
+                page,
+                arrival,
+                dirty: _,
+                lowest,
+            } => {
+                return is_fit(level, page, arrival, lowest, x.touch, h, latest);
+            }
+        }
+    }
+    false
+}
+
+fn is_holding_sound(level: usize, y: Row, x: Slot, h: Holding, latest: u64) -> bool
+    requires { ⌜ level < 4 ⌝ }
+    ensures { λ r. ⌜ r ≡ holdingTest level y x h latest ⌝ }
+{
+    let p = h.pin;
+    if model::is_held(p) {
+        let c = y.condition;
+        let live = model::is_live(c);
+        return is_held_sound(level, live, x, h, latest);
+    }
+    if h.arrival == 0 {
+        return h.touch == 0;
+    }
+    false
+}
+
+// The pins of a slot, by whether one is a write pin, and their number.
+fn are_pins_sound(wrote: bool, number: usize) -> bool
+    ensures { λ r. ⌜ r ≡ pinsTest wrote number ⌝ }
+{
+    if wrote {
+        return number == 1;
+    }
+    true
+}
+
+fn are_holdings_sound(s: State) -> bool
+    ensures { λ r. ⌜ r ≡ allBelow 64 (λ slot. allBelow 32 (soundHolding s slot)) && allBelow 64 (soundPins s) ⌝ }
+{
+    let latest = latest_arrival(s.clock, s.delay);
+    let mut ok = true;
+    let mut clear = true;
+    for i in 0..64usize {
+        let x = s.slots[i];
+        let mut fit = true;
+        let mut wrote = false;
+        let mut number: usize = 0;
+        for r in 0..32usize {
+            let h = s.holdings[i * 32 + r];
+            let y = s.rows[r];
+            let t = is_holding_sound(r / 8, y, x, h, latest);
+            let p = h.pin;
+            let write = model::is_write(p);
+            let pin = model::is_pin(p);
+            fit = both(fit, t);
+            wrote = either(wrote, write);
+            number = counted(number, pin);
+        }
+        ok = both(ok, fit);
+        let u = are_pins_sound(wrote, number);
+        clear = both(clear, u);
+    }
+    both(ok, clear)
+}
+
+// Whether the state is sound.
+pub fn is_sound(s: State) -> bool
+    ensures { λ r. ⌜ r ≡ sound s ⌝ }
+{
+    let numbers = is_in_range(s.size, s.delay, s.clock);
+    let slots = are_slots_sound(s);
+    let pages = are_pages_sound(s);
+    let rows = are_rows_sound(s);
+    let holdings = are_holdings_sound(s);
+    both(both(both(both(numbers, slots), pages), rows), holdings)
+}
