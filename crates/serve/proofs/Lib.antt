@@ -1,1 +1,3 @@
 pub mod SlotLaws
+pub mod ClearLaws
+pub mod StepLaws
