@@ -1,13 +1,13 @@
 -- The loop that clears a slot: the state after the holdings of its first r rows have gone.
-use mathlib.Core.Path.{_≡_, refl, sym, _∙_, ap}
+use mathlib.Core.Path.{_≡_, refl, sym, ap}
 use mathlib.Core.Bool.{cond}
-use Prim.Native.Nat.{ℕ, _+_, _*_, _/_, _<_, _≤_}
+use Prim.Native.Nat.{ℕ, _+_, _*_, _/_, _<_}
 use native.Mathlib.Omega.{arith}
 use native.Mathlib.Decide.{decLt}
 use borrow.Author.Tests.{eq-eqb, ne-eqb, lt-ltb, le-ltb}
 use lib.Dec.{ltb, eqb}
-use lib.ListN.{length, getD, set}
-use Rattle.seq.specs.Each.{each, eachBelow}
+use lib.ListN.{getD, set}
+use Rattle.seq.specs.Each.{eachBelow}
 use Rattle.seq.proofs.EachLaws.{each-still, each-same, each-below-turn}
 use Rattle.model.specs.declared.Holding.{Holding}
 use Rattle.model.specs.declared.State.{State}

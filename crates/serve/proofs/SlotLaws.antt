@@ -1,13 +1,13 @@
 -- What the steps read of the 32 holdings of a slot is what they read of the state.
-use mathlib.Core.Path.{_≡_, refl, sym, _∙_, ap}
-use mathlib.Core.Bool.{Bool, true, false, _&&_, not}
+use mathlib.Core.Path.{_≡_, refl, sym, _∙_}
+use mathlib.Core.Bool.{Bool, true, false, _&&_}
 use mathlib.Core.List.{List}
-use Prim.Native.Nat.{ℕ, _<_, _≤_}
+use Prim.Native.Nat.{ℕ, _<_}
 use native.Mathlib.Omega.{arith}
 use borrow.Author.Tests.{le-leb, eq-eqb}
 use lib.Dec.{leb, ltb, eqb}
 use lib.ListN.{getD}
-use Rattle.seq.specs.Below.{anyBelow, pickBelow, atFound}
+use Rattle.seq.specs.Below.{anyBelow}
 use Rattle.seq.proofs.Tests.{and-false-right}
 use Rattle.seq.proofs.BelowLaws.{any-same}
 use Rattle.seq.proofs.PickedLaws.{picked-same}

@@ -1,6 +1,6 @@
 -- The steps of a request, put together from what the functions called in each give.
-use mathlib.Core.Path.{_≡_, refl, sym, _∙_, ap}
-use mathlib.Core.Bool.{Bool, true, false, cond}
+use mathlib.Core.Path.{_≡_, ap}
+use mathlib.Core.Bool.{Bool, true, false}
 use mathlib.Core.List.{List}
 use Prim.Native.Nat.{ℕ, _+_}
 use Rattle.seq.specs.declared.Found.the-variants.{At}
@@ -17,13 +17,13 @@ use Rattle.model.specs.declared.Slot.{Slot}
 use Rattle.model.specs.declared.State.{State}
 use Rattle.model.specs.Parties.{levelOf}
 use Rattle.model.specs.State.{rowAt, slotAt, holdingAt, putRow, putSlot, putHolding}
-use Rattle.model.specs.Words.{arrivalIn, seen, seesDormant, slotOf}
+use Rattle.model.specs.Words.{arrivalIn}
 use Rattle.model.specs.Changes.{marked, released, killed, cleared}
 use Rattle.model.proofs.StateLaws.{Sized}
-use Rattle.rules.specs.Calls.{waiting, granted, conflicts, mustWait, step1, step2, step3, pinnersKilled, writeBack, filled, intoSlot, servedAt, served}
+use Rattle.rules.specs.Calls.{waiting, granted, step1, step2, step3, writeBack, filled, intoSlot}
 use Rattle.serve.specs.Elements.{heldNow, touchedSlot, grantedRow, grantedAnswer}
-use Rattle.serve.specs.OneSlot.{holdingsOn, seenIn, leastIn, seesDormantIn, mustWaitIn, conflictMarks, pinMarks}
-use Rattle.serve.proofs.SlotLaws.{seen-in, least-in, dormant-in, must-wait-in, conflicts-killed, pinners-killed}
+use Rattle.serve.specs.OneSlot.{holdingsOn, leastIn, mustWaitIn, conflictMarks, pinMarks}
+use Rattle.serve.proofs.SlotLaws.{least-in, must-wait-in, conflicts-killed, pinners-killed}
 
 -- step 4
 pub grant-is : (s : State) (row slot : ℕ) (mode : Mode) (arrival : ℕ) (back : Back) (x : Slot) (h : Holding) (y : Row) (a : Answer)

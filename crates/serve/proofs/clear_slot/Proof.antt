@@ -1,8 +1,8 @@
 use mathlib.Core.Path.{_≡_, _∙_}
 use Prim.Native.Nat.{_≤_, _-_}
+use native.Mathlib.Omega.{arith}
 use Rattle.model.proofs.Ranges.{state-ok}
 use Rattle.serve.proofs.ClearLaws.{clearing, clearing-none, clearing-more, clearing-all}
-use native.Mathlib.Omega.{arith}
 use Rattle.serve.proofs.clear_slot.Statement.{statement}
 use Rattle.serve.proofs.clear_slot.Tie as tie
 use Rattle.serve.proofs.clear_slot.Reads as reads
@@ -14,39 +14,30 @@ Inv-loop slot n₀ r₀ n r = (r ≤ 32) × (n ≡ clearing slot n₀ r)
 abbrev μ-loop : tie.MeasureT-loop
 μ-loop slot n₀ r₀ n r = 32 - r
 
--- src/lib.rt:351:5
 loop-holds : tie.Need-loop-holds Inv-loop μ-loop
 loop-holds c = (omega arith, clearing-none (c .args .slot) (c .args .s) (state-ok (c .args .s) _ (c .good .0) .sized))
 
--- src/lib.rt:352:20
 mul-t8 : tie.Need-mul-t8 Inv-loop μ-loop
 mul-t8 c = omega arith
 
--- src/lib.rt:352:20
 add-t9 : tie.Need-add-t9 Inv-loop μ-loop
 add-t9 c = omega arith
 
--- src/lib.rt:352:9
 mul-t10 : tie.Need-mul-t10 Inv-loop μ-loop
 mul-t10 c = omega arith
 
--- src/lib.rt:352:9
 element-set-from-n : tie.Need-element-set-from-n Inv-loop μ-loop
 element-set-from-n c = omega arith
 
--- src/lib.rt:351:9
 add-r : tie.Need-add-r Inv-loop μ-loop
 add-r c = omega arith
 
--- src/lib.rt:351:5
 loop-less : tie.Need-loop-less Inv-loop μ-loop
 loop-less c = omega arith
 
--- src/lib.rt:351:5
 loop-again : tie.Need-loop-again Inv-loop μ-loop
 loop-again c = (omega arith, clearing-more (c .before .before .args .slot) (c .before .before .args .s) (state-ok (c .before .before .args .s) _ (c .before .before .good .0) .sized) (c .before .loop .r) (c .before .loop .n) (omega arith) (omega arith) (c .before .loop .inv .1))
 
--- src/lib.rt:346:1
 returns : tie.Need-returns Inv-loop μ-loop
 returns c = c .before .loop .inv .1 ∙ clearing-all (c .before .before .args .slot) (c .before .before .args .s) (state-ok (c .before .before .args .s) _ (c .before .before .good .0) .sized) (c .before .loop .r) (omega arith)
 

@@ -1,19 +1,14 @@
-use mathlib.Core.Path.{_≡_, refl, sym, _∙_, ap}
-use mathlib.Core.Bool.{Bool, false}
-use Prim.Native.Nat.{ℕ, _≤_, _<_, _+_, _-_}
-use lib.Dec.{ltb}
-use lib.ListN.{getD, replicate}
-use Rattle.seq.specs.Below.{anyBelow, pickBelow, atFound}
-use Rattle.seq.specs.Each.{eachBelow}
-use Rattle.seq.proofs.AllLaws.{any-test-turn}
-use Rattle.seq.proofs.EachLaws.{each-below-none}
-use Rattle.seq.proofs.ValueLaws.{value-turn, made-turn, made-all}
-use Rattle.model.specs.State.{freeRow, emptyHolding, holdingAt}
-use Rattle.model.specs.Words.{isPin}
-use Rattle.serve.specs.Elements.{seenTest, lesser, conflictTest, barTest}
-use Rattle.serve.specs.OneSlot.{heldBy, holdingsOn, seenIn, leastIn, mustWaitIn, conflictMarks, pinMarks}
-use borrow.Author.Needs.{needs}
+use mathlib.Core.Path.{_≡_, _∙_}
+use mathlib.Core.Bool.{false}
+use Prim.Native.Nat.{_≤_, _-_}
 use native.Mathlib.Omega.{arith}
+use borrow.Author.Needs.{needs}
+use lib.ListN.{replicate}
+use Rattle.seq.specs.Each.{eachBelow}
+use Rattle.seq.proofs.EachLaws.{each-below-none}
+use Rattle.seq.proofs.ValueLaws.{made-turn, made-all}
+use Rattle.serve.specs.Elements.{conflictTest}
+use Rattle.serve.specs.OneSlot.{heldBy, conflictMarks}
 use Rattle.serve.proofs.conflict_marks.Statement.{statement}
 use Rattle.serve.proofs.conflict_marks.Tie as tie
 use Rattle.serve.proofs.conflict_marks.Reads as reads
@@ -26,41 +21,32 @@ Inv-loop row mode held marks₀ r₀ marks r = (r ≤ 32) × (marks ≡ eachBelo
 abbrev μ-loop : tie.MeasureT-loop
 μ-loop row mode held marks₀ r₀ marks r = 32 - r
 
--- src/lib.rt:193:5
 loop-holds : tie.Need-loop-holds Inv-loop μ-loop
 loop-holds c = (omega arith, each-below-none (λ other _. conflictTest (c .args .row) (c .args .mode) other (heldBy (c .args .t1) other)) (replicate 32 false))
 
--- src/lib.rt:194:17
 mul-h : tie.Need-mul-h Inv-loop μ-loop
 mul-h c = omega arith
 
--- src/lib.rt:194:17
 array-copy-out-h : tie.Need-array-copy-out-h Inv-loop μ-loop
 array-copy-out-h c = omega arith
 
--- src/lib.rt:195:13
 is-rival-requires : tie.Need-is-rival-requires Inv-loop μ-loop
 is-rival-requires c κs = search needs
 
--- src/lib.rt:196:9
 array-write-marks : tie.Need-array-write-marks Inv-loop μ-loop
 array-write-marks c = omega arith
 
--- src/lib.rt:193:9
 add-r : tie.Need-add-r Inv-loop μ-loop
 add-r c = omega arith
 
--- src/lib.rt:193:5
 loop-less : tie.Need-loop-less Inv-loop μ-loop
 loop-less c = omega arith
 
--- src/lib.rt:193:5
 loop-again : tie.Need-loop-again Inv-loop μ-loop
 loop-again c = let a = c .before .before .before .before .args in
     let w = c .before .before .before .loop in
     (omega arith, made-turn 32 false (λ other. conflictTest (a .row) (a .mode) other (heldBy (a .t1) other)) (w .r) (w .marks) (c .is-rival .result) (omega arith) (w .inv .1) (c .is-rival .ensures))
 
--- src/lib.rt:189:1
 returns : tie.Need-returns Inv-loop μ-loop
 unfolding conflictMarks
 returns c = let a = c .before .before .args in c .before .loop .inv .1 ∙ made-all 32 false (λ other. conflictTest (a .row) (a .mode) other (heldBy (a .t1) other)) (c .before .loop .r) (omega arith)

@@ -1,28 +1,23 @@
-use Rattle.serve.proofs.StepLaws.{fill-is}
 use borrow.Author.Needs.{needs}
+use Rattle.serve.proofs.StepLaws.{fill-is}
 use Rattle.serve.proofs.fill.Statement.{statement}
 use Rattle.serve.proofs.fill.Tie as tie
 use Rattle.serve.proofs.fill.Reads as reads
 use Rattle.serve.proofs.fill.Lts as lts
 use Rattle.serve.proofs.clear_slot.Reads as clear-slot-reads
 
--- src/lib.rt:367:19
 add-arrival : tie.Need-add-arrival
 add-arrival c = search needs
 
--- src/lib.rt:368:17
 clear-slot-requires : tie.Need-clear-slot-requires
 clear-slot-requires c κs = search needs
 
--- src/lib.rt:369:5
 mul-t11 : tie.Need-mul-t11
 mul-t11 c = search needs
 
--- src/lib.rt:369:5
 element-set-from-n : tie.Need-element-set-from-n
 element-set-from-n c = search needs
 
--- src/lib.rt:362:1
 returns : tie.Need-returns
 returns c = fill-is (c .before .before .args .s) (c .before .before .args .slot) (c .before .before .args .page) (c .before .before .args .level) (c .clear-slot .result) (c .clear-slot .ensures)
 

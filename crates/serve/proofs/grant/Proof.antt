@@ -1,5 +1,5 @@
-use Rattle.serve.proofs.StepLaws.{grant-is}
 use borrow.Author.Needs.{needs}
+use Rattle.serve.proofs.StepLaws.{grant-is}
 use Rattle.serve.proofs.grant.Statement.{statement}
 use Rattle.serve.proofs.grant.Tie as tie
 use Rattle.serve.proofs.grant.Reads as reads
@@ -9,87 +9,66 @@ use Rattle.serve.proofs.grant_row.Reads as grant-row-reads
 use Rattle.serve.proofs.hold.Reads as hold-reads
 use Rattle.serve.proofs.touch_slot.Reads as touch-slot-reads
 
--- src/lib.rt:315:13
 mul-x : tie.Need-mul-x
 mul-x c = search needs
 
--- src/lib.rt:315:13
 element-copy-out-x : tie.Need-element-copy-out-x
 element-copy-out-x c = search needs
 
--- src/lib.rt:316:9
 touch-slot-requires : tie.Need-touch-slot-requires
 touch-slot-requires c κs = search needs
 
--- src/lib.rt:317:5
 mul-x2 : tie.Need-mul-x2
 mul-x2 c = search needs
 
--- src/lib.rt:317:5
 element-set-from-x2 : tie.Need-element-set-from-x2
 element-set-from-x2 c = search needs
 
--- src/lib.rt:318:26
 mul-own : tie.Need-mul-own
 mul-own c = search needs
 
--- src/lib.rt:318:26
 add-own : tie.Need-add-own
 add-own c = search needs
 
--- src/lib.rt:318:15
 mul-own-2 : tie.Need-mul-own-2
 mul-own-2 c = search needs
 
--- src/lib.rt:318:15
 element-copy-out-own : tie.Need-element-copy-out-own
 element-copy-out-own c = search needs
 
--- src/lib.rt:319:9
 hold-requires : tie.Need-hold-requires
 hold-requires c κs = search needs
 
--- src/lib.rt:320:16
 mul-h : tie.Need-mul-h
 mul-h c = search needs
 
--- src/lib.rt:320:16
 add-h : tie.Need-add-h
 add-h c = search needs
 
--- src/lib.rt:320:5
 mul-h-2 : tie.Need-mul-h-2
 mul-h-2 c = search needs
 
--- src/lib.rt:320:5
 element-set-from-h : tie.Need-element-set-from-h
 element-set-from-h c = search needs
 
--- src/lib.rt:321:13
 mul-y : tie.Need-mul-y
 mul-y c = search needs
 
--- src/lib.rt:321:13
 element-copy-out-y : tie.Need-element-copy-out-y
 element-copy-out-y c = search needs
 
--- src/lib.rt:322:9
 grant-row-requires : tie.Need-grant-row-requires
 grant-row-requires c κs = search needs
 
--- src/lib.rt:323:5
 mul-y2 : tie.Need-mul-y2
 mul-y2 c = search needs
 
--- src/lib.rt:323:5
 element-set-from-y2 : tie.Need-element-set-from-y2
 element-set-from-y2 c = search needs
 
--- src/lib.rt:324:9
 grant-answer-requires : tie.Need-grant-answer-requires
 grant-answer-requires c κs = search needs
 
--- src/lib.rt:309:1
 returns : tie.Need-returns
 returns c = grant-is (c .before .before .before .before .before .before .before .args .t1) (c .before .before .before .before .before .before .before .args .row) (c .before .before .before .before .before .before .before .args .slot) (c .before .before .before .before .before .before .before .args .mode) (c .before .before .before .before .before .before .before .args .arrival) (c .before .before .before .before .before .before .before .args .back) (c .before .before .before .before .before .touch-slot .result) (c .before .before .before .hold .result) (c .before .grant-row .result) (c .grant-answer .result) (c .before .before .before .before .before .touch-slot .ensures) (c .before .before .before .hold .ensures) (c .before .grant-row .ensures) (c .grant-answer .ensures)
 

@@ -1,7 +1,7 @@
 use native.Mathlib.Omega.{arith}
+use borrow.Author.Needs.{needs}
 use Rattle.model.proofs.Ranges.{state-ok}
 use Rattle.serve.proofs.StepLaws.{kill-keeps, into-grant}
-use borrow.Author.Needs.{needs}
 use Rattle.serve.proofs.into_slot.Statement.{statement}
 use Rattle.serve.proofs.into_slot.Tie as tie
 use Rattle.serve.proofs.into_slot.Reads as reads
@@ -13,43 +13,33 @@ use Rattle.serve.proofs.holdings_on.Reads as holdings-on-reads
 use Rattle.serve.proofs.pin_marks.Reads as pin-marks-reads
 use Rattle.serve.proofs.write_back.Reads as write-back-reads
 
--- src/lib.rt:453:19
 add-arrival : tie.Need-add-arrival
 add-arrival c = search needs
 
--- src/lib.rt:454:9
 holdings-on-requires : tie.Need-holdings-on-requires
 holdings-on-requires c κs = search needs
 
--- src/lib.rt:455:9
 pin-marks-requires : tie.Need-pin-marks-requires
 pin-marks-requires c κs = search needs
 
--- src/lib.rt:456:13
 kill-requires : tie.Need-kill-requires
 kill-requires c κs = search needs
 
--- src/lib.rt:457:13
 mul-x : tie.Need-mul-x
 mul-x c = search needs
 
--- src/lib.rt:457:13
 element-copy-out-x : tie.Need-element-copy-out-x
 element-copy-out-x c = search needs
 
--- src/lib.rt:458:9
 write-back-requires : tie.Need-write-back-requires
 write-back-requires c κs = search needs
 
--- src/lib.rt:459:9
 fill-requires : tie.Need-fill-requires
 fill-requires c κs = let e = kill-keeps (c .before .before .before .before .before .before .args .s) (c .before .before .before .pin-marks .result) (c .before .before .kill .result) (c .before .before .kill .ensures) in (omega arith, omega (arith, c .before .before .before .before .before .before .pre .2))
 
--- src/lib.rt:460:5
 grant-requires : tie.Need-grant-requires
 grant-requires c κs = search needs
 
--- src/lib.rt:449:1
 returns : tie.Need-returns
 returns c = into-grant (c .before .before .before .before .before .before .before .before .args .s) (c .before .before .before .before .before .before .before .before .args .row) (c .before .before .before .before .before .before .before .before .args .slot) (c .before .before .before .before .before .before .before .before .args .page) (c .before .before .before .before .before .before .before .before .args .mode) (c .before .before .before .before .before .before .holdings-on .result) (c .before .before .before .before .before .before .holdings-on .ensures) (state-ok (c .before .before .before .before .before .before .before .before .args .s) _ (c .before .before .before .before .before .before .before .before .good .0) .sized) (c .before .before .before .before .before .pin-marks .result) (c .before .before .before .before .kill .result) (c .before .before .write-back .result) (c .before .fill .result) (c .grant .result) (c .before .before .before .before .before .pin-marks .ensures) (c .before .before .before .before .kill .ensures) (c .before .before .write-back .ensures) (c .before .fill .ensures) (c .grant .ensures)
 

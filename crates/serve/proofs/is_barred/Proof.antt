@@ -1,6 +1,6 @@
+use borrow.Author.Needs.{needs}
 use Rattle.seq.proofs.Tests.{tests}
 use Rattle.serve.specs.Elements.{barTest}
-use borrow.Author.Needs.{needs}
 use Rattle.serve.proofs.is_barred.Statement.{statement}
 use Rattle.serve.proofs.is_barred.Tie as tie
 use Rattle.serve.proofs.is_barred.Reads as reads
@@ -8,25 +8,20 @@ use Rattle.serve.proofs.is_barred.Lts as lts
 use Rattle.model.proofs.is_better.Reads as is-better-reads
 use Rattle.serve.proofs.is_rival.Reads as is-rival-reads
 
--- src/lib.rt:104:12
 is-rival-requires : tie.Need-is-rival-requires
 is-rival-requires c κs = search needs
 
--- src/lib.rt:105:13
 is-better-requires : tie.Need-is-better-requires
 is-better-requires c κs = search needs
 
--- src/lib.rt:105:13
 returns : tie.Need-returns
 unfolding barTest
 returns c = simp (tests, c .is-better .ensures, c .before .if2 .taken, ← c .before .before .is-rival .ensures, c .before .before .before .if1 .taken)
 
--- src/lib.rt:107:9
 returns-2 : tie.Need-returns-2
 unfolding barTest
 returns-2 c = simp (tests, c .if2 .left, ← c .before .is-rival .ensures, c .before .before .if1 .taken)
 
--- src/lib.rt:100:1
 returns-3 : tie.Need-returns-3
 unfolding barTest
 returns-3 c = simp (tests, c .if1 .left)

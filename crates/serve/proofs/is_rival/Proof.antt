@@ -1,6 +1,6 @@
+use borrow.Author.Needs.{needs}
 use Rattle.seq.proofs.Tests.{tests}
 use Rattle.serve.specs.Elements.{conflictTest}
-use borrow.Author.Needs.{needs}
 use Rattle.serve.proofs.is_rival.Statement.{statement}
 use Rattle.serve.proofs.is_rival.Tie as tie
 use Rattle.serve.proofs.is_rival.Reads as reads
@@ -8,20 +8,16 @@ use Rattle.serve.proofs.is_rival.Lts as lts
 use Rattle.model.proofs.is_conflict.Reads as is-conflict-reads
 use Rattle.model.proofs.pin_of.Reads as pin-of-reads
 
--- src/lib.rt:93:9
 returns : tie.Need-returns
 unfolding conflictTest
 returns c = simp (tests, c .if1 .taken)
 
--- src/lib.rt:95:9
 pin-of-requires : tie.Need-pin-of-requires
 pin-of-requires c κs = search needs
 
--- src/lib.rt:96:5
 is-conflict-requires : tie.Need-is-conflict-requires
 is-conflict-requires c κs = search needs
 
--- src/lib.rt:88:1
 returns-2 : tie.Need-returns-2
 unfolding conflictTest
 returns-2 c = simp (tests, c .before .before .if1 .left, c .is-conflict .ensures, c .before .pin-of .ensures)

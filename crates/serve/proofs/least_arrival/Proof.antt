@@ -1,19 +1,14 @@
-use mathlib.Core.Path.{_≡_, refl, sym, _∙_, ap}
-use mathlib.Core.Bool.{Bool, false}
-use Prim.Native.Nat.{ℕ, _≤_, _<_, _+_, _-_}
-use lib.Dec.{ltb}
-use lib.ListN.{getD, replicate}
-use Rattle.seq.specs.Below.{anyBelow, pickBelow, atFound}
-use Rattle.seq.specs.Each.{eachBelow}
-use Rattle.seq.proofs.AllLaws.{any-test-turn}
-use Rattle.seq.proofs.EachLaws.{each-below-none}
-use Rattle.seq.proofs.ValueLaws.{value-turn, made-turn, made-all}
-use Rattle.model.specs.State.{freeRow, emptyHolding, holdingAt}
-use Rattle.model.specs.Words.{isPin}
-use Rattle.serve.specs.Elements.{seenTest, lesser, conflictTest, barTest}
-use Rattle.serve.specs.OneSlot.{heldBy, holdingsOn, seenIn, leastIn, mustWaitIn, conflictMarks, pinMarks}
-use borrow.Author.Needs.{needs}
+use mathlib.Core.Path.{_≡_, refl, _∙_}
+use mathlib.Core.Bool.{Bool}
+use Prim.Native.Nat.{ℕ, _≤_, _-_}
 use native.Mathlib.Omega.{arith}
+use borrow.Author.Needs.{needs}
+use lib.Dec.{ltb}
+use Rattle.seq.specs.Below.{anyBelow, pickBelow, atFound}
+use Rattle.seq.proofs.AllLaws.{any-test-turn}
+use Rattle.seq.proofs.ValueLaws.{value-turn}
+use Rattle.serve.specs.Elements.{seenTest, lesser}
+use Rattle.serve.specs.OneSlot.{heldBy, leastIn}
 use Rattle.serve.proofs.least_arrival.Statement.{statement}
 use Rattle.serve.proofs.least_arrival.Tie as tie
 use Rattle.serve.proofs.least_arrival.Reads as reads
@@ -28,40 +23,31 @@ Inv-loop level held found₀ least₀ r₀ found least r = (r ≤ 32) × (found 
 abbrev μ-loop : tie.MeasureT-loop
 μ-loop level held found₀ least₀ r₀ found least r = 32 - r
 
--- src/lib.rt:148:5
 loop-holds : tie.Need-loop-holds Inv-loop μ-loop
 unfolding anyBelow pickBelow
 loop-holds c = (omega arith, refl, refl)
 
--- src/lib.rt:149:17
 mul-h : tie.Need-mul-h Inv-loop μ-loop
 mul-h c = omega arith
 
--- src/lib.rt:149:17
 array-copy-out-h : tie.Need-array-copy-out-h Inv-loop μ-loop
 array-copy-out-h c = omega arith
 
--- src/lib.rt:150:13
 is-seen-requires : tie.Need-is-seen-requires Inv-loop μ-loop
 is-seen-requires c κs = search needs
 
--- src/lib.rt:151:9
 lesser-arrival-requires : tie.Need-lesser-arrival-requires Inv-loop μ-loop
 lesser-arrival-requires c κs = search needs
 
--- src/lib.rt:152:9
 either-requires : tie.Need-either-requires Inv-loop μ-loop
 either-requires c κs = search needs
 
--- src/lib.rt:148:9
 add-r : tie.Need-add-r Inv-loop μ-loop
 add-r c = omega arith
 
--- src/lib.rt:148:5
 loop-less : tie.Need-loop-less Inv-loop μ-loop
 loop-less c = omega arith
 
--- src/lib.rt:148:5
 loop-again : tie.Need-loop-again Inv-loop μ-loop
 unfolding lesser
 loop-again c = let held = c .before .before .before .before .before .before .args .t1 in
@@ -72,7 +58,6 @@ loop-again c = let held = c .before .before .before .before .before .before .arg
       value-turn p (λ row. heldBy held row .arrival) ltb 0 (w .r) (c .before .before .is-seen .result) (heldBy held (w .r) .arrival) (w .found) (w .least) (c .before .lesser-arrival .result) (c .before .before .is-seen .ensures) refl (w .inv .1) (w .inv .2) (c .before .lesser-arrival .ensures),
     )
 
--- src/lib.rt:143:1
 returns : tie.Need-returns Inv-loop μ-loop
 unfolding leastIn
 returns c = let e : c .before .loop .r ≡ 32 = omega arith in c .before .loop .inv .2 ∙ rw e

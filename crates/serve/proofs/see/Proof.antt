@@ -1,19 +1,11 @@
-use mathlib.Core.Path.{_≡_, refl, sym, _∙_, ap}
-use mathlib.Core.Bool.{Bool, false}
-use Prim.Native.Nat.{ℕ, _≤_, _<_, _+_, _-_}
-use lib.Dec.{ltb}
-use lib.ListN.{getD, replicate}
-use Rattle.seq.specs.Below.{anyBelow, pickBelow, atFound}
-use Rattle.seq.specs.Each.{eachBelow}
-use Rattle.seq.proofs.AllLaws.{any-test-turn}
-use Rattle.seq.proofs.EachLaws.{each-below-none}
-use Rattle.seq.proofs.ValueLaws.{value-turn, made-turn, made-all}
-use Rattle.model.specs.State.{freeRow, emptyHolding, holdingAt}
-use Rattle.model.specs.Words.{isPin}
-use Rattle.serve.specs.Elements.{seenTest, lesser, conflictTest, barTest}
-use Rattle.serve.specs.OneSlot.{heldBy, holdingsOn, seenIn, leastIn, mustWaitIn, conflictMarks, pinMarks}
-use borrow.Author.Needs.{needs}
+use mathlib.Core.Path.{_≡_, refl, _∙_}
+use Prim.Native.Nat.{_≤_, _-_}
 use native.Mathlib.Omega.{arith}
+use borrow.Author.Needs.{needs}
+use Rattle.seq.specs.Below.{anyBelow}
+use Rattle.seq.proofs.AllLaws.{any-test-turn}
+use Rattle.serve.specs.Elements.{seenTest}
+use Rattle.serve.specs.OneSlot.{heldBy, seenIn}
 use Rattle.serve.proofs.see.Statement.{statement}
 use Rattle.serve.proofs.see.Tie as tie
 use Rattle.serve.proofs.see.Reads as reads
@@ -27,40 +19,31 @@ Inv-loop level held found₀ r₀ found r = (r ≤ 32) × (found ≡ anyBelow r 
 abbrev μ-loop : tie.MeasureT-loop
 μ-loop level held found₀ r₀ found r = 32 - r
 
--- src/lib.rt:134:5
 loop-holds : tie.Need-loop-holds Inv-loop μ-loop
 unfolding anyBelow
 loop-holds c = (omega arith, refl)
 
--- src/lib.rt:135:17
 mul-h : tie.Need-mul-h Inv-loop μ-loop
 mul-h c = omega arith
 
--- src/lib.rt:135:17
 array-copy-out-h : tie.Need-array-copy-out-h Inv-loop μ-loop
 array-copy-out-h c = omega arith
 
--- src/lib.rt:136:13
 is-seen-requires : tie.Need-is-seen-requires Inv-loop μ-loop
 is-seen-requires c κs = search needs
 
--- src/lib.rt:137:9
 either-requires : tie.Need-either-requires Inv-loop μ-loop
 either-requires c κs = search needs
 
--- src/lib.rt:134:9
 add-r : tie.Need-add-r Inv-loop μ-loop
 add-r c = omega arith
 
--- src/lib.rt:134:5
 loop-less : tie.Need-loop-less Inv-loop μ-loop
 loop-less c = omega arith
 
--- src/lib.rt:134:5
 loop-again : tie.Need-loop-again Inv-loop μ-loop
 loop-again c = (omega arith, any-test-turn (λ row. seenTest (c .before .before .before .before .before .args .level) row (heldBy (c .before .before .before .before .before .args .t1) row)) (c .before .before .before .before .loop .r) (c .before .before .before .before .loop .found) (c .before .is-seen .result) (c .either .result) (c .before .before .before .before .loop .inv .1) (c .before .is-seen .ensures) (c .either .ensures))
 
--- src/lib.rt:130:1
 returns : tie.Need-returns Inv-loop μ-loop
 unfolding seenIn
 returns c = let e : c .before .loop .r ≡ 32 = omega arith in c .before .loop .inv .1 ∙ rw e

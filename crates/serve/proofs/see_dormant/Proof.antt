@@ -1,7 +1,7 @@
+use borrow.Author.Needs.{needs}
 use Rattle.seq.proofs.Tests.{tests}
 use Rattle.serve.specs.OneSlot.{seesDormantIn}
 use Rattle.serve.proofs.SlotLaws.{not-dormant, is-dormant}
-use borrow.Author.Needs.{needs}
 use Rattle.serve.proofs.see_dormant.Statement.{statement}
 use Rattle.serve.proofs.see_dormant.Tie as tie
 use Rattle.serve.proofs.see_dormant.Reads as reads
@@ -9,23 +9,18 @@ use Rattle.serve.proofs.see_dormant.Lts as lts
 use Rattle.serve.proofs.is_filled.Reads as is-filled-reads
 use Rattle.serve.proofs.see.Reads as see-reads
 
--- src/lib.rt:163:12
 see-requires : tie.Need-see-requires
 see-requires c κs = search needs
 
--- src/lib.rt:164:13
 returns : tie.Need-returns
 returns c = not-dormant (c .before .before .before .args .held) (c .before .before .before .args .x) (c .before .before .before .args .level) (c .before .see .result) (c .before .see .ensures) (c .if2 .taken)
 
--- src/lib.rt:166:9
 is-filled-requires : tie.Need-is-filled-requires
 is-filled-requires c κs = search needs
 
--- src/lib.rt:166:9
 returns-2 : tie.Need-returns-2
 returns-2 c = is-dormant (c .before .before .before .before .args .held) (c .before .before .before .before .args .x) (c .before .before .before .before .args .level) (c .before .before .see .result) (c .is-filled .result) (c .before .before .before .if1 .taken) (c .before .before .see .ensures) (c .before .if2 .left) (c .is-filled .ensures)
 
--- src/lib.rt:158:1
 returns-3 : tie.Need-returns-3
 unfolding seesDormantIn
 returns-3 c = simp (tests, c .if1 .left)

@@ -1,5 +1,5 @@
-use Rattle.serve.proofs.StepLaws.{step2-grant}
 use borrow.Author.Needs.{needs}
+use Rattle.serve.proofs.StepLaws.{step2-grant}
 use Rattle.serve.proofs.step_two.Statement.{statement}
 use Rattle.serve.proofs.step_two.Tie as tie
 use Rattle.serve.proofs.step_two.Reads as reads
@@ -7,23 +7,18 @@ use Rattle.serve.proofs.step_two.Lts as lts
 use Rattle.serve.proofs.arrival_in.Reads as arrival-in-reads
 use Rattle.serve.proofs.grant.Reads as grant-reads
 
--- src/lib.rt:431:13
 mul-x : tie.Need-mul-x
 mul-x c = search needs
 
--- src/lib.rt:431:13
 element-copy-out-x : tie.Need-element-copy-out-x
 element-copy-out-x c = search needs
 
--- src/lib.rt:433:9
 arrival-in-requires : tie.Need-arrival-in-requires
 arrival-in-requires c κs = search needs
 
--- src/lib.rt:434:5
 grant-requires : tie.Need-grant-requires
 grant-requires c κs = search needs
 
--- src/lib.rt:427:1
 returns : tie.Need-returns
 returns c = step2-grant (c .before .before .before .args .t1) (c .before .before .before .args .row) (c .before .before .before .args .slot) (c .before .before .before .args .mode) (c .before .arrival-in .result) (c .grant .result) (c .before .arrival-in .ensures) (c .grant .ensures)
 

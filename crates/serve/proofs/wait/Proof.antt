@@ -1,28 +1,23 @@
 use mathlib.Core.Path.{refl}
-use Rattle.rules.specs.Calls.{waiting}
 use borrow.Author.Needs.{needs}
+use Rattle.rules.specs.Calls.{waiting}
 use Rattle.serve.proofs.wait.Statement.{statement}
 use Rattle.serve.proofs.wait.Tie as tie
 use Rattle.serve.proofs.wait.Reads as reads
 use Rattle.serve.proofs.wait.Lts as lts
 
--- src/lib.rt:333:13
 mul-x : tie.Need-mul-x
 mul-x c = search needs
 
--- src/lib.rt:333:13
 element-copy-out-x : tie.Need-element-copy-out-x
 element-copy-out-x c = search needs
 
--- src/lib.rt:335:5
 mul-t8 : tie.Need-mul-t8
 mul-t8 c = search needs
 
--- src/lib.rt:335:5
 element-set-from-n : tie.Need-element-set-from-n
 element-set-from-n c = search needs
 
--- src/lib.rt:329:1
 returns : tie.Need-returns
 unfolding waiting
 returns c = refl
