@@ -1,0 +1,70 @@
+-- One row more in the search for the best holder and in the tally of a slot.
+use mathlib.Core.Path.{_≡_, refl, sym, _∙_, ap}
+use mathlib.Core.Bool.{Bool, true, false, cond, _&&_, _||_, not}
+use Prim.Native.Nat.{ℕ, _+_, _<_, _≤_}
+use native.Mathlib.Omega.{arith}
+use borrow.Author.Tests.{ltb-true, ltb-false, le-ltb}
+use lib.Dec.{leb, ltb, eqb}
+use Rattle.seq.specs.Below.{anyBelow, allBelow, pickBelow, considered, atFound}
+use Rattle.seq.specs.declared.Found.{Found}
+use Rattle.seq.specs.declared.Found.the-variants.{At, Nowhere}
+use Rattle.seq.proofs.BelowLaws.{any-more, all-more}
+use Rattle.seq.proofs.PickLaws.{pick-more}
+use Rattle.model.specs.declared.State.{State}
+use Rattle.model.specs.Parties.{levelOf, better}
+use Rattle.model.specs.State.{rowAt, holdingAt}
+use Rattle.model.specs.Words.{isHeld, isPin, holds, pins, seenHolder, outranks}
+use Rattle.choice.specs.declared.Best.{Best}
+use Rattle.choice.specs.declared.Tally.{Tally}
+use Rattle.choice.specs.Summary.{largerOf, bestBelow, bestWith, levelIn, tallied, tallyWith}
+
+abbrev made : Found → ℕ → Best
+made f d = record { row = f; deadline = d }
+
+pub best-turn : (s : State) (slot r : ℕ) (b c : Best) → b ≡ bestBelow s slot r → c ≡ bestWith (holds s slot r) b r (rowAt s r .deadline) → c ≡ bestBelow s slot (r + 1)
+unfolding bestBelow bestWith outranks
+best-turn s slot r b c e q = q ∙ (rw (e, pick-more (holds s slot) (outranks s)) (go (holds s slot r) (pickBelow r (holds s slot) (outranks s))))
+  where
+    D : ℕ → ℕ
+    D row = rowAt s row .deadline
+
+    last : (j : ℕ) (x : Bool) → cond x (made (At r) (D r)) (made (At j) (D j)) ≡ made (cond x (At r) (At j)) (atFound (cond x (At r) (At j)) D 0)
+    last j true = refl
+    last j false = refl
+
+    go : (held : Bool) (f : Found) → bestWith held (made f (atFound f D 0)) r (D r) ≡ made (considered held f r (outranks s)) (atFound (considered held f r (outranks s)) D 0)
+    go false f = refl
+    go true Nowhere = refl
+    go true (At j) = last j (better r (D r) j (D j))
+
+-- the greatest value among what passes, carried along
+pub most-turn : (p : ℕ → Bool) (f : ℕ → ℕ) (n : ℕ)
+    → atFound (pickBelow (n + 1) p (λ i j. ltb (f j) (f i))) f 0 ≡ cond (p n) (largerOf (atFound (pickBelow n p (λ i j. ltb (f j) (f i))) f 0) (f n)) (atFound (pickBelow n p (λ i j. ltb (f j) (f i))) f 0)
+unfolding largerOf
+most-turn p f n = rw (pick-more p (λ i j. ltb (f j) (f i))) (go (p n) (pickBelow n p (λ i j. ltb (f j) (f i))))
+  where
+    zero-less : (b : Bool) → ltb 0 (f n) ≡ b → f n ≡ cond (ltb 0 (f n)) (f n) 0
+    zero-less true e = rw e
+    zero-less false e = rw e (let h = ltb-false 0 (f n) e in omega arith)
+
+    last : (j : ℕ) (x : Bool) → atFound (cond x (At n) (At j)) f 0 ≡ cond x (f n) (f j)
+    last j true = refl
+    last j false = refl
+
+    go : (b : Bool) (g : Found) → atFound (considered b g n (λ i j. ltb (f j) (f i))) f 0 ≡ cond b (cond (ltb (atFound g f 0) (f n)) (f n) (atFound g f 0)) (atFound g f 0)
+    go false g = refl
+    go true Nowhere = zero-less (ltb 0 (f n)) refl
+    go true (At j) = last j (ltb (f j) (f n))
+
+pub tally-turn : (s : State) (me slot r level mine : ℕ) (t u : Tally) → t ≡ tallied s me slot r → level ≡ levelIn (bestBelow s slot 32) → mine ≡ rowAt s me .deadline
+    → u ≡ tallyWith t me mine level r (rowAt s r .deadline) (holdingAt s slot r) → u ≡ tallied s me slot (r + 1)
+unfolding tallied tallyWith seenHolder outranks
+tally-turn s me slot r level mine t u e l m q =
+    q ∙ rw (e, l, m) (λ j. record {
+      held = sym (any-more (holds s slot) r) j;
+      seen = sym (any-more (seenHolder s (levelOf me) slot) r) j;
+      latest = sym (most-turn (λ row. eqb (levelOf row) (levelIn (bestBelow s slot 32)) && holds s slot row) (λ row. holdingAt s slot row .touch) r) j;
+      pinned = sym (any-more (λ row. eqb (levelOf row) (levelIn (bestBelow s slot 32)) && pins s slot row) r) j;
+      beside = sym (all-more (λ other. not (seenHolder s (levelOf me) slot other) || (eqb (levelOf other) (levelOf me) && not (outranks s other me))) r) j;
+      pin = sym (any-more (λ row. leb (levelOf row) (levelOf me) && pins s slot row) r) j;
+    })
