@@ -10,13 +10,14 @@ use Rattle.seq.specs.declared.Found.{Found}
 use Rattle.seq.specs.declared.Found.the-variants.{At, Nowhere}
 use Rattle.seq.proofs.BelowLaws.{any-more, all-more}
 use Rattle.seq.proofs.PickLaws.{pick-more}
+use Rattle.model.specs.declared.Holding.{Holding}
 use Rattle.model.specs.declared.State.{State}
 use Rattle.model.specs.Parties.{levelOf, better}
 use Rattle.model.specs.State.{rowAt, holdingAt}
 use Rattle.model.specs.Words.{isHeld, isPin, holds, pins, seenHolder, outranks}
 use Rattle.choice.specs.declared.Best.{Best}
 use Rattle.choice.specs.declared.Tally.{Tally}
-use Rattle.choice.specs.Summary.{largerOf, bestBelow, bestWith, levelIn, tallied, tallyWith}
+use Rattle.choice.specs.Summary.{largerOf, bestBelow, bestWith, levelIn, tallied, latestWith, besideWith, tallyWith}
 
 abbrev made : Found → ℕ → Best
 made f d = record { row = f; deadline = d }
@@ -58,7 +59,7 @@ most-turn p f n = rw (pick-more p (λ i j. ltb (f j) (f i))) (go (p n) (pickBelo
 
 pub tally-turn : (s : State) (me slot r level mine : ℕ) (t u : Tally) → t ≡ tallied s me slot r → level ≡ levelIn (bestBelow s slot 32) → mine ≡ rowAt s me .deadline
     → u ≡ tallyWith t me mine level r (rowAt s r .deadline) (holdingAt s slot r) → u ≡ tallied s me slot (r + 1)
-unfolding tallied tallyWith seenHolder outranks
+unfolding tallied tallyWith latestWith besideWith seenHolder outranks
 tally-turn s me slot r level mine t u e l m q =
     q ∙ rw (e, l, m) (λ j. record {
       held = sym (any-more (holds s slot) r) j;
@@ -68,3 +69,19 @@ tally-turn s me slot r level mine t u e l m q =
       beside = sym (all-more (λ other. not (seenHolder s (levelOf me) slot other) || (eqb (levelOf other) (levelOf me) && not (outranks s other me))) r) j;
       pin = sym (any-more (λ row. leb (levelOf row) (levelOf me) && pins s slot row) r) j;
     })
+
+-- a tally put together from its parts
+abbrev together : Bool → Bool → ℕ → Bool → Bool → Bool → Tally
+together held seen latest pinned beside pin = record { held = held; seen = seen; latest = latest; pinned = pinned; beside = beside; pin = pin }
+
+pub tally-made : (t : Tally) (me mine level row deadline : ℕ) (h : Holding) (held pin sees rank counts pinned beside near a b d e f : Bool) (latest : ℕ)
+    → held ≡ isHeld (h .pin) → pin ≡ isPin (h .pin) → sees ≡ leb (levelOf row) (levelOf me) && held → rank ≡ better row deadline me mine
+    → a ≡ t .held || held → b ≡ t .seen || sees
+    → counts ≡ eqb (levelOf row) level && held → latest ≡ latestWith counts (t .latest) (h .touch)
+    → pinned ≡ eqb (levelOf row) level && pin → d ≡ t .pinned || pinned
+    → beside ≡ besideWith sees (eqb (levelOf row) (levelOf me)) rank → e ≡ t .beside && beside
+    → near ≡ leb (levelOf row) (levelOf me) && pin → f ≡ t .pin || near
+    → together a b latest d e f ≡ tallyWith t me mine level row deadline h
+unfolding tallyWith
+tally-made t me mine level row deadline h held pin sees rank counts pinned beside near a b d e f latest h1 h2 h3 h4 h5 h6 h7 h8 h9 h10 h11 h12 h13 h14 =
+    rw (h5, h6, h8, h10, h12, h14, h7, h9, h11, h13, h3, h4, h1, h2)

@@ -71,16 +71,22 @@ tallied s me slot n =
 abbrev pub noTally : Tally
 noTally = record { held = false; seen = false; latest = 0; pinned = false; beside = true; pin = false }
 
+-- the latest touch, with one holder more where it counts
+unfoldable pub latestWith : Bool → ℕ → ℕ → ℕ
+latestWith counts latest touch = cond counts (largerOf latest touch) latest
+
+-- a holder that is not seen, or is of the requester's level and not better than the requester
+unfoldable pub besideWith : Bool → Bool → Bool → Bool
+besideWith sees same better = not sees || (same && not better)
+
 -- one row more: me has the deadline mine, the row the deadline given and the holding h
 unfoldable pub tallyWith : Tally → ℕ → ℕ → ℕ → ℕ → ℕ → Holding → Tally
 tallyWith t me mine level row deadline h = record {
   held = t .held || isHeld (h .pin);
   seen = t .seen || (leb (levelOf row) (levelOf me) && isHeld (h .pin));
-  latest = cond (eqb (levelOf row) level && isHeld (h .pin)) (largerOf (t .latest) (h .touch)) (t .latest);
+  latest = latestWith (eqb (levelOf row) level && isHeld (h .pin)) (t .latest) (h .touch);
   pinned = t .pinned || (eqb (levelOf row) level && isPin (h .pin));
-  beside =
-      t .beside
-      && (not (leb (levelOf row) (levelOf me) && isHeld (h .pin)) || (eqb (levelOf row) (levelOf me) && not (better row deadline me mine)));
+  beside = t .beside && besideWith (leb (levelOf row) (levelOf me) && isHeld (h .pin)) (eqb (levelOf row) (levelOf me)) (better row deadline me mine);
   pin = t .pin || (leb (levelOf row) (levelOf me) && isPin (h .pin));
 }
 

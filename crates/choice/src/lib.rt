@@ -8,9 +8,11 @@ ghost use mathlib.Core.Path.{_≡_};
 ghost use mathlib.Core.Bool.{_&&_, _||_, not};
 ghost use Prim.Native.Nat.{_<_, _≤_};
 ghost use Rattle.seq.specs.Below.{considered};
-ghost use Rattle.model.specs.Words.{hasPage, slotOf};
+ghost use Rattle.model.specs.Words.{isFilled, pageIn, dirtyIn, lowestIn, hasPage, slotOf};
 ghost use Rattle.choice.specs.Search.{never};
-ghost use Rattle.choice.specs.Summary.{largerOf, bestWith, bestOf, levelIn, tallyWith};
+ghost use Rattle.choice.specs.Summary.{largerOf, bestWith, bestOf, levelIn, latestWith, besideWith, tallyWith, summariesOf, emptyIn, dormantIn, aboveIn, besideIn, inClass, noOrder, dormantBefore, higher, worseIn, heldBefore, pickFrom, pickWith, topFrom, heldFrom, chosenFrom};
+ghost use Rattle.rules.specs.Choice.{dirtyNumber, chosen};
+ghost use Rattle.seq.specs.Order.{lexLess};
 
 fn has_page(page: u32, c: Content) -> bool
     ensures { λ r. ⌜ r ≡ hasPage page c ⌝ }
@@ -187,4 +189,57 @@ fn level_in(b: Best) -> usize
         return 0;
     };
     row / 8
+}
+
+// The latest touch, with one holder more.
+fn latest_with(counts: bool, latest: u32, touch: u32) -> u32
+    ensures { λ r. ⌜ r ≡ latestWith counts latest touch ⌝ }
+{
+    if counts {
+        return larger(latest, touch);
+    }
+    latest
+}
+
+// Whether a seen holder is of the requester's level and not better than the requester.
+fn beside_with(sees: bool, same: bool, better: bool) -> bool
+    ensures { λ r. ⌜ r ≡ besideWith sees same better ⌝ }
+{
+    if sees {
+        if same {
+            return negated(better);
+        }
+        return false;
+    }
+    true
+}
+
+// One row more in the tally of a slot.
+fn tally_with(
+    t: Tally,
+    me: usize,
+    mine: u32,
+    level: usize,
+    row: usize,
+    deadline: u32,
+    h: Holding,
+) -> Tally
+    ensures { λ r. ⌜ r ≡ tallyWith t me mine level row deadline h ⌝ }
+{
+    let p = h.pin;
+    let held = model::is_held(p);
+    let pin = model::is_pin(p);
+    let near = row / 8 <= me / 8;
+    let same = row / 8 == me / 8;
+    let best = row / 8 == level;
+    let sees = both(near, held);
+    let better = model::is_better(row, deadline, me, mine);
+    Tally {
+        held: either(t.held, held),
+        seen: either(t.seen, sees),
+        latest: latest_with(both(best, held), t.latest, h.touch),
+        pinned: either(t.pinned, both(best, pin)),
+        beside: both(t.beside, beside_with(sees, same, better)),
+        pin: either(t.pin, both(near, pin)),
+    }
 }
