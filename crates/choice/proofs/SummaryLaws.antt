@@ -1,23 +1,28 @@
 -- One row more in the search for the best holder and in the tally of a slot.
 use mathlib.Core.Path.{_≡_, refl, sym, _∙_, ap}
+use mathlib.Core.List.{List}
 use mathlib.Core.Bool.{Bool, true, false, cond, _&&_, _||_, not}
 use Prim.Native.Nat.{ℕ, _+_, _<_, _≤_}
 use native.Mathlib.Omega.{arith}
 use borrow.Author.Tests.{ltb-true, ltb-false, le-ltb}
 use lib.Dec.{leb, ltb, eqb}
+use lib.ListN.{getD}
 use Rattle.seq.specs.Below.{anyBelow, allBelow, pickBelow, considered, atFound}
 use Rattle.seq.specs.declared.Found.{Found}
 use Rattle.seq.specs.declared.Found.the-variants.{At, Nowhere}
 use Rattle.seq.proofs.BelowLaws.{any-more, all-more}
 use Rattle.seq.proofs.PickLaws.{pick-more}
+use Rattle.seq.proofs.BuildLaws.{build-at}
 use Rattle.model.specs.declared.Holding.{Holding}
+use Rattle.model.specs.declared.Slot.{Slot}
 use Rattle.model.specs.declared.State.{State}
 use Rattle.model.specs.Parties.{levelOf, better}
-use Rattle.model.specs.State.{rowAt, holdingAt}
+use Rattle.model.specs.State.{rowAt, slotAt, holdingAt}
 use Rattle.model.specs.Words.{isHeld, isPin, holds, pins, seenHolder, outranks}
 use Rattle.choice.specs.declared.Best.{Best}
 use Rattle.choice.specs.declared.Tally.{Tally}
-use Rattle.choice.specs.Summary.{largerOf, bestBelow, bestWith, levelIn, tallied, latestWith, besideWith, tallyWith}
+use Rattle.choice.specs.declared.Summary.{Summary}
+use Rattle.choice.specs.Summary.{largerOf, bestBelow, noBest, bestWith, bestOf, levelIn, tallied, latestWith, besideWith, tallyWith, summaryOf}
 
 abbrev made : Found → ℕ → Best
 made f d = record { row = f; deadline = d }
@@ -85,3 +90,17 @@ pub tally-made : (t : Tally) (me mine level row deadline : ℕ) (h : Holding) (h
 unfolding tallyWith
 tally-made t me mine level row deadline h held pin sees rank counts pinned beside near a b d e f latest h1 h2 h3 h4 h5 h6 h7 h8 h9 h10 h11 h12 h13 h14 =
     rw (h5, h6, h8, h10, h12, h14, h7, h9, h11, h13, h3, h4, h1, h2)
+
+-- the best holder of a slot, read off the list
+pub best-at : (s : State) (best : List Best) (slot : ℕ) → best ≡ bestOf s → slot < 64 → getD best slot noBest ≡ bestBelow s slot 32
+unfolding bestOf
+best-at s best slot e h = ap (λ (l : List Best). getD l slot noBest) e ∙ build-at (λ i. bestBelow s i 32) 64 noBest slot noBest h
+
+-- a summary put together from its parts
+abbrev summed : Slot → Best → Tally → Bool → Summary
+summed slot best tally own = record { slot = slot; best = best; tally = tally; own = own }
+
+pub summary-made : (s : State) (me slot n : ℕ) (b : Best) (t : Tally) (own : Bool) → n ≡ 32 → b ≡ bestBelow s slot 32 → t ≡ tallied s me slot n → own ≡ pins s slot me
+    → summed (slotAt s slot) b t own ≡ summaryOf s me slot
+unfolding summaryOf
+summary-made s me slot n b t own e h k o = rw (h, k, o, e)

@@ -243,3 +243,61 @@ fn tally_with(
         pin: either(t.pin, both(near, pin)),
     }
 }
+
+// The summaries of all slots for a requester, in one pass over the holdings.
+fn summaries(s: State, me: usize) -> [Summary; 64]
+    requires { ⌜ me < 32 ⌝ }
+    ensures { λ r. ⌜ r ≡ summariesOf s me ⌝ }
+{
+    let best = best_holders(s);
+    let own = s.rows[me];
+    let mine = own.deadline;
+    let mut out = [Summary {
+        slot: Slot {
+            content: Content::Empty,
+            touch: 0,
+        },
+        best: Best {
+            row: Found::Nowhere,
+            deadline: 0,
+        },
+        tally: Tally {
+            held: false,
+            seen: false,
+            latest: 0,
+            pinned: false,
+            beside: false,
+            pin: false,
+        },
+        own: false,
+    }; 64];
+    for i in 0..64usize {
+        let b = best[i];
+        let level = level_in(b);
+        let mut t = Tally {
+            held: false,
+            seen: false,
+            latest: 0,
+            pinned: false,
+            beside: true,
+            pin: false,
+        };
+        for r in 0..32usize {
+            let h = s.holdings[i * 32 + r];
+            let x = s.rows[r];
+            let d = x.deadline;
+            t = tally_with(t, me, mine, level, r, d, h);
+        }
+        let g = s.holdings[i * 32 + me];
+        let p = g.pin;
+        let pinned = model::is_pin(p);
+        let slot = s.slots[i];
+        out[i] = Summary {
+            slot,
+            best: b,
+            tally: t,
+            own: pinned,
+        };
+    }
+    out
+}
