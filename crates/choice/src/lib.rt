@@ -5,7 +5,7 @@ use model::Slot;
 use model::State;
 use seq::Found;
 ghost use mathlib.Core.Path.{_≡_};
-ghost use mathlib.Core.Bool.{_&&_, _||_, not};
+ghost use mathlib.Core.Bool.{cond, _&&_, _||_, not};
 ghost use Prim.Native.Nat.{_<_, _≤_};
 ghost use Rattle.seq.specs.Below.{considered};
 ghost use Rattle.model.specs.Words.{isFilled, pageIn, dirtyIn, lowestIn, hasPage, slotOf};
@@ -300,4 +300,214 @@ fn summaries(s: State, me: usize) -> [Summary; 64]
         };
     }
     out
+}
+
+fn is_filled(c: Content) -> bool
+    ensures { λ r. ⌜ r ≡ isFilled c ⌝ }
+{
+    match c {
+        Content::Empty => false,
+        Content::Filled {
+            page: _,
+            arrival: _,
+            dirty: _,
+            lowest: _,
+        } => true,
+    }
+}
+
+fn page_in(c: Content) -> u32
+    ensures { λ r. ⌜ r ≡ pageIn c ⌝ }
+{
+    match c {
+        Content::Empty => 0,
+        Content::Filled {
+            page,
+            arrival: _,
+            dirty: _,
+            lowest: _,
+        } => page,
+    }
+}
+
+fn lowest_in(c: Content) -> usize
+    ensures { λ r. ⌜ r ≡ lowestIn c ⌝ }
+{
+    match c {
+        Content::Empty => 0,
+        Content::Filled {
+            page: _,
+            arrival: _,
+            dirty: _,
+            lowest,
+        } => lowest,
+    }
+}
+
+fn dirty_in(c: Content) -> bool
+    ensures { λ r. ⌜ r ≡ dirtyIn c ⌝ }
+{
+    match c {
+        Content::Empty => false,
+        Content::Filled {
+            page: _,
+            arrival: _,
+            dirty,
+            lowest: _,
+        } => dirty,
+    }
+}
+
+// Clean before dirty.
+fn dirty_number(dirty: bool) -> u32
+    ensures { λ r. ⌜ r ≡ dirtyNumber dirty ⌝ }
+{
+    if dirty {
+        return 1;
+    }
+    0
+}
+
+// Two numbers compared, and where they are equal what comes next.
+fn ordered(equal: bool, less: bool, next: bool) -> bool
+    ensures { λ r. ⌜ r ≡ cond equal next less ⌝ }
+{
+    if equal {
+        return next;
+    }
+    less
+}
+
+fn is_empty(x: Summary) -> bool
+    ensures { λ r. ⌜ r ≡ emptyIn x ⌝ }
+{
+    let slot = x.slot;
+    let c = slot.content;
+    negated(is_filled(c))
+}
+
+fn is_dormant(x: Summary) -> bool
+    ensures { λ r. ⌜ r ≡ dormantIn x ⌝ }
+{
+    let slot = x.slot;
+    let c = slot.content;
+    let t = x.tally;
+    both(is_filled(c), negated(t.held))
+}
+
+// Held only above the requester's level.
+fn is_above(x: Summary) -> bool
+    ensures { λ r. ⌜ r ≡ aboveIn x ⌝ }
+{
+    let t = x.tally;
+    both(t.held, negated(t.seen))
+}
+
+// Seen holders all of the requester's level, none better than the requester.
+fn is_beside(x: Summary) -> bool
+    ensures { λ r. ⌜ r ≡ besideIn x ⌝ }
+{
+    let t = x.tally;
+    both(t.seen, t.beside)
+}
+
+// The slot is in the step.
+fn is_in(class: Class, top: usize, x: Summary) -> bool
+    ensures { λ r. ⌜ r ≡ inClass class top x ⌝ }
+{
+    let t = x.tally;
+    let b = x.best;
+    let level = level_in(b);
+    let above = both(is_above(x), level == top);
+    let beside = is_beside(x);
+    match class {
+        Class::C => both(above, negated(t.pinned)),
+        Class::D => both(above, t.pinned),
+        Class::E => both(beside, negated(t.pin)),
+        Class::F => both(both(beside, t.pin), negated(x.own)),
+    }
+}
+
+// Of two dormant slots the first comes before the second.
+fn is_dormant_before(x: Summary, y: Summary) -> bool
+    ensures { λ r. ⌜ r ≡ dormantBefore x y ⌝ }
+{
+    let s = x.slot;
+    let t = y.slot;
+    let c = s.content;
+    let d = t.content;
+    let low = lowest_in(c);
+    let high = lowest_in(d);
+    let clean = dirty_number(dirty_in(c));
+    let other = dirty_number(dirty_in(d));
+    let next = ordered(clean == other, clean < other, s.touch < t.touch);
+    ordered(low == high, low < high, next)
+}
+
+// The best holder of the first slot is of a higher level.
+fn is_higher(x: Summary, y: Summary) -> bool
+    ensures { λ r. ⌜ r ≡ higher x y ⌝ }
+{
+    let b = x.best;
+    let c = y.best;
+    level_in(c) < level_in(b)
+}
+
+// The first best holder has the worse priority; next where they are one row.
+fn is_worse(b: Best, c: Best, next: bool) -> bool
+    ensures { λ r. ⌜ r ≡ worseIn (b .row) (c .row) (b .deadline) (c .deadline) next ⌝ }
+{
+    let f = b.row;
+    let Found::At(row) = f else {
+        return next;
+    };
+    let g = c.row;
+    let Found::At(other) = g else {
+        return next;
+    };
+    if row == other {
+        return next;
+    }
+    model::is_better(other, c.deadline, row, b.deadline)
+}
+
+// Of two held slots the first is taken before the second.
+fn is_held_before(x: Summary, y: Summary) -> bool
+    ensures { λ r. ⌜ r ≡ heldBefore x y ⌝ }
+{
+    let s = x.slot;
+    let t = y.slot;
+    let c = s.content;
+    let d = t.content;
+    let k = x.tally;
+    let l = y.tally;
+    let b = x.best;
+    let e = y.best;
+    let first = k.latest;
+    let second = l.latest;
+    let next = ordered(first == second, first < second, page_in(c) < page_in(d));
+    is_worse(b, e, next)
+}
+
+// One slot more in a search.
+fn pick_with(passes: bool, first: bool, p: Pick, x: Summary, i: usize) -> Pick
+    ensures { λ r. ⌜ r ≡ pickWith passes first p x i ⌝ }
+{
+    if passes {
+        let f = p.found;
+        let Found::At(_) = f else {
+            return Pick {
+                found: Found::At(i),
+                best: x,
+            };
+        };
+        if first {
+            return Pick {
+                found: Found::At(i),
+                best: x,
+            };
+        }
+        return p;
+    }
+    p
 }

@@ -103,13 +103,13 @@ loop2-less c = omega arith
 -- src/lib.rt:285:9
 loop2-again : tie.Need-loop2-again Inv-loop2 μ-loop2 Inv-loop μ-loop
 loop2-again c = (
-      omega arith,
-      tally-turn (c .before .before .before .before .before .before .before .before .before .before .before .args .t1) (c .before .before .before .before .before .before .before .before .before .before .before .args .me) (c .before .before .before .before .before .before .before .before .loop .i) (c .before .before .before .before .loop2 .r) (c .before .before .before .before .before .level-in .result) (rowAt (c .before .before .before .before .before .before .before .before .before .before .before .args .t1) (c .before .before .before .before .before .before .before .before .before .before .before .args .me) .deadline) (c .before .before .before .before .loop2 .t) (c .tally-with .result)
+  omega arith,
+  tally-turn (c .before .before .before .before .before .before .before .before .before .before .before .args .t1) (c .before .before .before .before .before .before .before .before .before .before .before .args .me) (c .before .before .before .before .before .before .before .before .loop .i) (c .before .before .before .before .loop2 .r) (c .before .before .before .before .before .level-in .result) (rowAt (c .before .before .before .before .before .before .before .before .before .before .before .args .t1) (c .before .before .before .before .before .before .before .before .before .before .before .args .me) .deadline) (c .before .before .before .before .loop2 .t) (c .tally-with .result)
       (c .before .before .before .before .loop2 .inv .1)
       (c .before .before .before .before .before .level-in .ensures ∙ ap levelIn (best-at (c .before .before .before .before .before .before .before .before .before .before .before .args .t1) (c .before .before .before .before .before .before .before .before .before .before .best-holders .result) (c .before .before .before .before .before .before .before .before .loop .i) (c .before .before .before .before .before .before .before .before .before .before .best-holders .ensures) (omega arith)))
       refl
       (c .tally-with .ensures),
-    )
+)
 
 -- src/lib.rt:291:28
 mul-g : tie.Need-mul-g Inv-loop2 μ-loop2 Inv-loop μ-loop
@@ -157,13 +157,13 @@ loop-less c = omega arith
 
 -- src/lib.rt:274:5
 loop-again : tie.Need-loop-again Inv-loop2 μ-loop2 Inv-loop μ-loop
-loop-again c = 
+loop-again c =
     let e : c .before .before .before .before .loop2 .r ≡ 32 = omega arith in (
       omega arith,
       build-turn (λ slot. summaryOf (c .before .before .before .before .before .before .before .before .before .before .before .args .t1) (c .before .before .before .before .before .before .before .before .before .before .before .args .me) slot) 64 noSummary (c .before .before .before .before .before .before .before .before .loop .i) (c .before .before .before .before .before .before .before .before .loop .out) _ (omega arith) (c .before .before .before .before .before .before .before .before .loop .inv .1)
-      (summary-made (c .before .before .before .before .before .before .before .before .before .before .before .args .t1) (c .before .before .before .before .before .before .before .before .before .before .before .args .me) (c .before .before .before .before .before .before .before .before .loop .i) (c .before .before .before .before .loop2 .r) _ (c .before .before .before .before .loop2 .t) (c .before .is-pin .result) e
-      (best-at (c .before .before .before .before .before .before .before .before .before .before .before .args .t1) (c .before .before .before .before .before .before .before .before .before .before .best-holders .result) (c .before .before .before .before .before .before .before .before .loop .i) (c .before .before .before .before .before .before .before .before .before .before .best-holders .ensures) (omega arith))
-      (c .before .before .before .before .loop2 .inv .1) (c .before .is-pin .ensures)),
+          (summary-made (c .before .before .before .before .before .before .before .before .before .before .before .args .t1) (c .before .before .before .before .before .before .before .before .before .before .before .args .me) (c .before .before .before .before .before .before .before .before .loop .i) (c .before .before .before .before .loop2 .r) _ (c .before .before .before .before .loop2 .t) (c .before .is-pin .result) e
+          (best-at (c .before .before .before .before .before .before .before .before .before .before .before .args .t1) (c .before .before .before .before .before .before .before .before .before .before .best-holders .result) (c .before .before .before .before .before .before .before .before .loop .i) (c .before .before .before .before .before .before .before .before .before .before .best-holders .ensures) (omega arith))
+          (c .before .before .before .before .loop2 .inv .1) (c .before .is-pin .ensures)),
     )
 
 -- src/lib.rt:248:1
