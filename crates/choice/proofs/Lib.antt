@@ -1,1 +1,2 @@
 pub mod SummaryLaws
+pub mod ScanLaws

@@ -511,3 +511,126 @@ fn pick_with(passes: bool, first: bool, p: Pick, x: Summary, i: usize) -> Pick
     }
     p
 }
+
+// Step a.
+fn first_empty(m: [Summary; 64], n: usize) -> Found
+    requires { ⌜ n ≤ 64 ⌝ }
+    ensures { λ r. ⌜ r ≡ pickFrom m n emptyIn noOrder ⌝ }
+{
+    let start = m[0];
+    let mut p = Pick {
+        found: Found::Nowhere,
+        best: start,
+    };
+    for i in 0..n {
+        let x = m[i];
+        let passes = is_empty(x);
+        p = pick_with(passes, false, p, x, i);
+    }
+    p.found
+}
+
+// Step b.
+fn first_dormant(m: [Summary; 64], n: usize) -> Found
+    requires { ⌜ n ≤ 64 ⌝ }
+    ensures { λ r. ⌜ r ≡ pickFrom m n dormantIn dormantBefore ⌝ }
+{
+    let start = m[0];
+    let mut p = Pick {
+        found: Found::Nowhere,
+        best: start,
+    };
+    for i in 0..n {
+        let x = m[i];
+        let best = p.best;
+        let passes = is_dormant(x);
+        let first = is_dormant_before(x, best);
+        p = pick_with(passes, first, p, x, i);
+    }
+    p.found
+}
+
+// The highest level of a best holder among the slots held only above the requester's level.
+fn top_level(m: [Summary; 64], n: usize) -> usize
+    requires { ⌜ n ≤ 64 ⌝ }
+    ensures { λ r. ⌜ r ≡ topFrom m n ⌝ }
+{
+    let start = m[0];
+    let mut p = Pick {
+        found: Found::Nowhere,
+        best: start,
+    };
+    for i in 0..n {
+        let x = m[i];
+        let best = p.best;
+        let passes = is_above(x);
+        let first = is_higher(x, best);
+        p = pick_with(passes, first, p, x, i);
+    }
+    let f = p.found;
+    let Found::At(_) = f else {
+        return 0;
+    };
+    let top = p.best;
+    let b = top.best;
+    level_in(b)
+}
+
+// A step of c to f.
+fn first_held(m: [Summary; 64], n: usize, class: Class, top: usize) -> Found
+    requires { ⌜ n ≤ 64 ⌝ }
+    ensures { λ r. ⌜ r ≡ heldFrom m n class top ⌝ }
+{
+    let start = m[0];
+    let mut p = Pick {
+        found: Found::Nowhere,
+        best: start,
+    };
+    for i in 0..n {
+        let x = m[i];
+        let best = p.best;
+        let passes = is_in(class, top, x);
+        let first = is_held_before(x, best);
+        p = pick_with(passes, first, p, x, i);
+    }
+    p.found
+}
+
+// The first step that applies.
+fn choose_from(m: [Summary; 64], n: usize) -> Found
+    requires { ⌜ n ≤ 64 ⌝ }
+    ensures { λ r. ⌜ r ≡ chosenFrom m n ⌝ }
+{
+    let a = first_empty(m, n);
+    if let Found::At(i) = a {
+        return Found::At(i);
+    }
+    let b = first_dormant(m, n);
+    if let Found::At(i) = b {
+        return Found::At(i);
+    }
+    let top = top_level(m, n);
+    let c = first_held(m, n, Class::C, top);
+    if let Found::At(i) = c {
+        return Found::At(i);
+    }
+    let d = first_held(m, n, Class::D, top);
+    if let Found::At(i) = d {
+        return Found::At(i);
+    }
+    let e = first_held(m, n, Class::E, top);
+    if let Found::At(i) = e {
+        return Found::At(i);
+    }
+    first_held(m, n, Class::F, top)
+}
+
+// The slot that a requester takes for a page that is in no slot, or nowhere.
+pub fn choose(s: State, row: usize) -> Found
+    requires { ⌜ (s .size ≤ 64) × (row < 32) ⌝ }
+    ensures { λ r. ⌜ r ≡ chosen s row ⌝ }
+{
+    let n = s.size;
+    let m = summaries(s, row);
+    choose_from(m, n)
+}
