@@ -11,7 +11,7 @@ use Rattle.seq.specs.Below.{anyBelow}
 use Rattle.seq.proofs.Tests.{and-false-right}
 use Rattle.seq.proofs.BelowLaws.{any-same}
 use Rattle.seq.proofs.PickedLaws.{picked-same}
-use Rattle.seq.proofs.ValueLaws.{made-at}
+use Rattle.seq.proofs.BuildLaws.{build-at}
 use Rattle.model.specs.declared.Cause.the-variants.{Taken}
 use Rattle.model.specs.declared.Holding.{Holding}
 use Rattle.model.specs.declared.Mode.{Mode}
@@ -30,7 +30,7 @@ use Rattle.serve.specs.OneSlot.{holdingsOn, heldBy, seenIn, leastIn, see
 module _ (s : State) (slot : ℕ) where
   pub held-by : (row : ℕ) → row < 32 → heldBy (holdingsOn s slot) row ≡ holdingAt s slot row
   unfolding holdingsOn
-  held-by row h = made-at 32 emptyHolding (holdingAt s slot) row h
+  held-by row h = build-at (holdingAt s slot) 32 emptyHolding row emptyHolding h
 
   seen-test : (level row : ℕ) → row < 32 → seenTest level row (heldBy (holdingsOn s slot) row) ≡ seenHolder s level slot row
   unfolding seenTest seenHolder
@@ -65,11 +65,11 @@ module _ (s : State) (slot : ℕ) where
   conflict-marked : (row : ℕ) (mode : Mode) (other : ℕ) → other < 32 → marked (conflictMarks (holdingsOn s slot) row mode) other ≡ conflicts s row slot mode other
   unfolding conflictMarks conflictTest conflicts
   conflict-marked row mode other h =
-      made-at 32 false (λ r. conflictTest row mode r (heldBy (holdingsOn s slot) r)) other h ∙ rw (held-by other h)
+      build-at (λ r. conflictTest row mode r (heldBy (holdingsOn s slot) r)) 32 false other false h ∙ rw (held-by other h)
 
   pin-marked : (row : ℕ) → row < 32 → marked (pinMarks (holdingsOn s slot)) row ≡ pins s slot row
   unfolding pinMarks
-  pin-marked row h = made-at 32 false (λ r. isPin (heldBy (holdingsOn s slot) r .pin)) row h ∙ rw (held-by row h)
+  pin-marked row h = build-at (λ r. isPin (heldBy (holdingsOn s slot) r .pin)) 32 false row false h ∙ rw (held-by row h)
 
   -- the kills
   pub conflicts-killed : Sized s → (row : ℕ) (mode : Mode) → killed (marked (conflictMarks (holdingsOn s slot) row mode)) Taken s ≡ killed (conflicts s row slot mode) Taken s

@@ -11,13 +11,14 @@ use model::Pin;
 use model::Row;
 use model::Slot;
 use model::State;
+use seq::Found;
 ghost use mathlib.Core.Path.{_≡_};
 ghost use mathlib.Core.Bool.{_||_};
-ghost use Prim.Native.Nat.{_+_, _<_, _^_, min};
+ghost use Prim.Native.Nat.{_+_, _<_, _≤_, _^_, min};
 ghost use Rattle.seq.specs.declared.Found.the-variants.{At};
 ghost use Rattle.model.specs.Words.{isFilled, arrivalIn};
 ghost use Rattle.model.specs.Changes.{cleared};
-ghost use Rattle.rules.specs.Calls.{waiting, granted, step1, step2, step3, writeBack, filled, intoSlot};
+ghost use Rattle.rules.specs.Calls.{waiting, granted, step1, step2, step3, writeBack, filled, intoSlot, served};
 ghost use Rattle.serve.specs.Elements.{seenTest, lesser, conflictTest, barTest, heldNow, touchedSlot, grantedRow, grantedAnswer};
 ghost use Rattle.serve.specs.OneSlot.{holdingsOn, seenIn, leastIn, seesDormantIn, mustWaitIn, conflictMarks, pinMarks};
 
@@ -458,4 +459,27 @@ fn into_slot(s: State, row: usize, slot: usize, page: u32, mode: Mode) -> Outcom
     let back = write_back(x);
     let t = fill(n, slot, page, row / 8);
     grant(t, row, slot, mode, arrival, back)
+}
+
+// The request of a row for a page: the search for the page, and steps 1 to 4.
+pub fn serve(s: State, row: usize, page: u32, mode: Mode) -> Outcome
+    requires { ⌜ (s .size ≤ 64) × (row < 32) × (s .clock + s .delay < 2 ^ 32) ⌝ }
+    ensures { λ r. ⌜ r ≡ served s row page mode ⌝ }
+{
+    let Found::At(slot) = choice::find_page(s, page) else {
+        let Found::At(chosen) = choice::choose(s, row) else {
+            return wait(s, row, page, mode);
+        };
+        return into_slot(s, row, chosen, page, mode);
+    };
+    let held = holdings_on(s, slot);
+    let x = s.slots[slot];
+    let level = row / 8;
+    if see(held, level) {
+        return step_one(s, held, row, slot, page, mode);
+    }
+    if see_dormant(held, x, level) {
+        return step_two(s, row, slot, mode);
+    }
+    step_three(s, held, row, slot, mode)
 }

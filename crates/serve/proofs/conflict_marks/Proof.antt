@@ -1,4 +1,4 @@
-use mathlib.Core.Path.{_≡_, _∙_}
+use mathlib.Core.Path.{_≡_}
 use mathlib.Core.Bool.{false}
 use Prim.Native.Nat.{_≤_, _-_}
 use native.Mathlib.Omega.{arith}
@@ -6,7 +6,7 @@ use borrow.Author.Needs.{needs}
 use lib.ListN.{replicate}
 use Rattle.seq.specs.Each.{eachBelow}
 use Rattle.seq.proofs.EachLaws.{each-below-none}
-use Rattle.seq.proofs.ValueLaws.{made-turn, made-all}
+use Rattle.seq.proofs.BuildLaws.{build-turn, build-all}
 use Rattle.serve.specs.Elements.{conflictTest}
 use Rattle.serve.specs.OneSlot.{heldBy, conflictMarks}
 use Rattle.serve.proofs.conflict_marks.Statement.{statement}
@@ -45,11 +45,11 @@ loop-less c = omega arith
 loop-again : tie.Need-loop-again Inv-loop μ-loop
 loop-again c = let a = c .before .before .before .before .args in
     let w = c .before .before .before .loop in
-    (omega arith, made-turn 32 false (λ other. conflictTest (a .row) (a .mode) other (heldBy (a .t1) other)) (w .r) (w .marks) (c .is-rival .result) (omega arith) (w .inv .1) (c .is-rival .ensures))
+    (omega arith, build-turn (λ other. conflictTest (a .row) (a .mode) other (heldBy (a .t1) other)) 32 false (w .r) (w .marks) (c .is-rival .result) (omega arith) (w .inv .1) (c .is-rival .ensures))
 
 returns : tie.Need-returns Inv-loop μ-loop
 unfolding conflictMarks
-returns c = let a = c .before .before .args in c .before .loop .inv .1 ∙ made-all 32 false (λ other. conflictTest (a .row) (a .mode) other (heldBy (a .t1) other)) (c .before .loop .r) (omega arith)
+returns c = let a = c .before .before .args in build-all (λ other. conflictTest (a .row) (a .mode) other (heldBy (a .t1) other)) 32 false (c .before .loop .r) (c .before .loop .marks) (omega arith) (c .before .loop .inv .1)
 
 pub conflict-marks-spec : {M : Type 1} → statement M
 conflict-marks-spec =

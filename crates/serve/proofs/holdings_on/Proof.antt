@@ -1,10 +1,10 @@
-use mathlib.Core.Path.{_≡_, refl, _∙_}
+use mathlib.Core.Path.{_≡_, refl}
 use Prim.Native.Nat.{_≤_, _-_}
 use native.Mathlib.Omega.{arith}
 use lib.ListN.{replicate}
 use Rattle.seq.specs.Each.{eachBelow}
 use Rattle.seq.proofs.EachLaws.{each-below-none}
-use Rattle.seq.proofs.ValueLaws.{made-turn, made-all}
+use Rattle.seq.proofs.BuildLaws.{build-turn, build-all}
 use Rattle.model.specs.State.{emptyHolding, holdingAt}
 use Rattle.serve.specs.OneSlot.{holdingsOn}
 use Rattle.serve.proofs.holdings_on.Statement.{statement}
@@ -48,11 +48,11 @@ loop-less c = omega arith
 loop-again : tie.Need-loop-again Inv-loop μ-loop
 loop-again c = let a = c .before .before .before .args in
     let w = c .before .before .loop in
-    (omega arith, made-turn 32 emptyHolding (λ row. holdingAt (a .t1) (a .slot) row) (w .r) (w .held) (holdingAt (a .t1) (a .slot) (w .r)) (omega arith) (w .inv .1) refl)
+    (omega arith, build-turn (λ row. holdingAt (a .t1) (a .slot) row) 32 emptyHolding (w .r) (w .held) (holdingAt (a .t1) (a .slot) (w .r)) (omega arith) (w .inv .1) refl)
 
 returns : tie.Need-returns Inv-loop μ-loop
 unfolding holdingsOn
-returns c = let a = c .before .before .args in c .before .loop .inv .1 ∙ made-all 32 emptyHolding (λ row. holdingAt (a .t1) (a .slot) row) (c .before .loop .r) (omega arith)
+returns c = let a = c .before .before .args in build-all (λ row. holdingAt (a .t1) (a .slot) row) 32 emptyHolding (c .before .loop .r) (c .before .loop .held) (omega arith) (c .before .loop .inv .1)
 
 pub holdings-on-spec : {M : Type 1} → statement M
 holdings-on-spec =
