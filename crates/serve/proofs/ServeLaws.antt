@@ -17,7 +17,7 @@ use Rattle.model.specs.Words.{dormant, slotOf}
 use Rattle.rules.specs.Choice.{orElse, stepA, stepB, beforeDormant, inC, inD, inE, inF, beforeHeld, stepHeld, chosen}
 use Rattle.rules.specs.Calls.{waiting, step1, step2, step3, intoSlot, served}
 use Rattle.rules.proofs.PageLaws.{found-slot}
-use Rattle.serve.specs.OneSlot.{holdingsOn, seenIn, seesDormantIn}
+use Rattle.serve.specs.SlotHoldings.{holdingsOn, seenIn, seesDormantIn}
 use Rattle.serve.proofs.SlotLaws.{seen-in, dormant-in}
 
 or-else : (f g : Found) (n slot : ℕ) → (f ≡ At slot → slot < n) → (g ≡ At slot → slot < n) → orElse f g ≡ At slot → slot < n

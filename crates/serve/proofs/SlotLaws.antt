@@ -25,7 +25,7 @@ use Rattle.model.proofs.StateLaws.{Sized}
 use Rattle.model.proofs.SameRows.{killed-same}
 use Rattle.rules.specs.Calls.{conflicts, mustWait, pinnersKilled}
 use Rattle.serve.specs.Elements.{seenTest, conflictTest, barTest}
-use Rattle.serve.specs.OneSlot.{holdingsOn, heldBy, seenIn, leastIn, seesDormantIn, mustWaitIn, conflictMarks, pinMarks}
+use Rattle.serve.specs.SlotHoldings.{holdingsOn, heldBy, seenIn, leastIn, seesDormantIn, mustWaitIn, conflictMarks, pinMarks}
 
 module _ (s : State) (slot : ℕ) where
   pub held-by : (row : ℕ) → row < 32 → heldBy (holdingsOn s slot) row ≡ holdingAt s slot row

@@ -22,7 +22,7 @@ use Rattle.model.specs.Changes.{marked, released, killed, cleared}
 use Rattle.model.proofs.StateLaws.{Sized}
 use Rattle.rules.specs.Calls.{waiting, granted, step1, step2, step3, writeBack, filled, intoSlot}
 use Rattle.serve.specs.Elements.{heldNow, touchedSlot, grantedRow, grantedAnswer}
-use Rattle.serve.specs.OneSlot.{holdingsOn, leastIn, mustWaitIn, conflictMarks, pinMarks}
+use Rattle.serve.specs.SlotHoldings.{holdingsOn, leastIn, mustWaitIn, conflictMarks, pinMarks}
 use Rattle.serve.proofs.SlotLaws.{least-in, must-wait-in, conflicts-killed, pinners-killed}
 
 -- step 4

@@ -1,4 +1,4 @@
--- Document 01, "Request": what the steps ask of one row and its holding on the slot, and what they make of a row, a slot and a holding.
+-- Document 01, "The calls", request: what the steps ask of a row and its holding on the slot, and what they make of a row, a slot and a holding.
 use mathlib.Core.Bool.{Bool, cond, _&&_, not}
 use Prim.Native.Nat.{ℕ}
 use lib.Dec.{leb, ltb, eqb}

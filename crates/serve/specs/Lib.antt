@@ -1,2 +1,2 @@
-pub mod OneSlot
+pub mod SlotHoldings
 pub mod Elements

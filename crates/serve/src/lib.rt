@@ -20,7 +20,7 @@ ghost use Rattle.model.specs.Words.{isFilled, arrivalIn};
 ghost use Rattle.model.specs.Changes.{cleared};
 ghost use Rattle.rules.specs.Calls.{waiting, granted, step1, step2, step3, writeBack, filled, intoSlot, served};
 ghost use Rattle.serve.specs.Elements.{seenTest, lesser, conflictTest, barTest, heldNow, touchedSlot, grantedRow, grantedAnswer};
-ghost use Rattle.serve.specs.OneSlot.{holdingsOn, seenIn, leastIn, seesDormantIn, mustWaitIn, conflictMarks, pinMarks};
+ghost use Rattle.serve.specs.SlotHoldings.{holdingsOn, seenIn, leastIn, seesDormantIn, mustWaitIn, conflictMarks, pinMarks};
 
 fn either(a: bool, b: bool) -> bool
     ensures { λ r. ⌜ r ≡ a || b ⌝ }
@@ -440,10 +440,10 @@ fn step_three(s: State, held: [Holding; 32], row: usize, slot: usize, mode: Mode
     requires { ⌜ (slot < 64) × (row < 32) × (s .clock + s .delay < 2 ^ 32) × (held ≡ holdingsOn s slot) ⌝ }
     ensures { λ r. ⌜ r ≡ step3 s row slot mode ⌝ }
 {
-    let arrival = s.clock + s.delay;
+    let due = s.clock + s.delay;
     let marks = conflict_marks(held, row, mode);
     let n = model::kill(s, marks, Cause::Taken);
-    grant(n, row, slot, mode, arrival, Back::Nothing)
+    grant(n, row, slot, mode, due, Back::Nothing)
 }
 
 // Step 3, not seen, in a chosen slot: rows that pin it are killed, other holders lose it.
@@ -451,14 +451,15 @@ fn into_slot(s: State, row: usize, slot: usize, page: u32, mode: Mode) -> Outcom
     requires { ⌜ (slot < 64) × (row < 32) × (s .clock + s .delay < 2 ^ 32) ⌝ }
     ensures { λ r. ⌜ r ≡ intoSlot (At slot) s row page mode ⌝ }
 {
-    let arrival = s.clock + s.delay;
+    let due = s.clock + s.delay;
     let held = holdings_on(s, slot);
     let marks = pin_marks(held);
     let n = model::kill(s, marks, Cause::Taken);
-    let x = n.slots[slot];
+    let slots = n.slots;
+    let x = slots[slot];
     let back = write_back(x);
     let t = fill(n, slot, page, row / 8);
-    grant(t, row, slot, mode, arrival, back)
+    grant(t, row, slot, mode, due, back)
 }
 
 // The request of a row for a page: the search for the page, and steps 1 to 4.

@@ -8,7 +8,7 @@ use Rattle.seq.specs.Each.{eachBelow}
 use Rattle.seq.proofs.EachLaws.{each-below-none}
 use Rattle.seq.proofs.BuildLaws.{build-turn, build-all}
 use Rattle.serve.specs.Elements.{conflictTest}
-use Rattle.serve.specs.OneSlot.{heldBy, conflictMarks}
+use Rattle.serve.specs.SlotHoldings.{heldBy, conflictMarks}
 use Rattle.serve.proofs.conflict_marks.Statement.{statement}
 use Rattle.serve.proofs.conflict_marks.Tie as tie
 use Rattle.serve.proofs.conflict_marks.Reads as reads

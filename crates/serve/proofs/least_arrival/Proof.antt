@@ -8,7 +8,7 @@ use Rattle.seq.specs.Below.{anyBelow, pickBelow, atFound}
 use Rattle.seq.proofs.AllLaws.{any-test-turn}
 use Rattle.seq.proofs.ValueLaws.{value-turn}
 use Rattle.serve.specs.Elements.{seenTest, lesser}
-use Rattle.serve.specs.OneSlot.{heldBy, leastIn}
+use Rattle.serve.specs.SlotHoldings.{heldBy, leastIn}
 use Rattle.serve.proofs.least_arrival.Statement.{statement}
 use Rattle.serve.proofs.least_arrival.Tie as tie
 use Rattle.serve.proofs.least_arrival.Reads as reads

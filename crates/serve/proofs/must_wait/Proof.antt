@@ -7,7 +7,7 @@ use Rattle.seq.specs.Below.{anyBelow}
 use Rattle.seq.proofs.AllLaws.{any-test-turn}
 use Rattle.model.specs.State.{freeRow}
 use Rattle.serve.specs.Elements.{barTest}
-use Rattle.serve.specs.OneSlot.{heldBy, mustWaitIn}
+use Rattle.serve.specs.SlotHoldings.{heldBy, mustWaitIn}
 use Rattle.serve.proofs.must_wait.Statement.{statement}
 use Rattle.serve.proofs.must_wait.Tie as tie
 use Rattle.serve.proofs.must_wait.Reads as reads

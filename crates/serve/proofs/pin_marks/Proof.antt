@@ -8,7 +8,7 @@ use Rattle.seq.specs.Each.{eachBelow}
 use Rattle.seq.proofs.EachLaws.{each-below-none}
 use Rattle.seq.proofs.BuildLaws.{build-turn, build-all}
 use Rattle.model.specs.Words.{isPin}
-use Rattle.serve.specs.OneSlot.{heldBy, pinMarks}
+use Rattle.serve.specs.SlotHoldings.{heldBy, pinMarks}
 use Rattle.serve.proofs.pin_marks.Statement.{statement}
 use Rattle.serve.proofs.pin_marks.Tie as tie
 use Rattle.serve.proofs.pin_marks.Reads as reads

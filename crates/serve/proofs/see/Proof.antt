@@ -5,7 +5,7 @@ use borrow.Author.Needs.{needs}
 use Rattle.seq.specs.Below.{anyBelow}
 use Rattle.seq.proofs.AllLaws.{any-test-turn}
 use Rattle.serve.specs.Elements.{seenTest}
-use Rattle.serve.specs.OneSlot.{heldBy, seenIn}
+use Rattle.serve.specs.SlotHoldings.{heldBy, seenIn}
 use Rattle.serve.proofs.see.Statement.{statement}
 use Rattle.serve.proofs.see.Tie as tie
 use Rattle.serve.proofs.see.Reads as reads

@@ -1,6 +1,6 @@
 use borrow.Author.Needs.{needs}
 use Rattle.seq.proofs.Tests.{tests}
-use Rattle.serve.specs.OneSlot.{seesDormantIn}
+use Rattle.serve.specs.SlotHoldings.{seesDormantIn}
 use Rattle.serve.proofs.SlotLaws.{not-dormant, is-dormant}
 use Rattle.serve.proofs.see_dormant.Statement.{statement}
 use Rattle.serve.proofs.see_dormant.Tie as tie

@@ -9,8 +9,8 @@ use Rattle.model.proofs.kill.Reads as kill-reads
 use Rattle.serve.proofs.conflict_marks.Reads as conflict-marks-reads
 use Rattle.serve.proofs.grant.Reads as grant-reads
 
-add-arrival : tie.Need-add-arrival
-add-arrival c = search needs
+add-due : tie.Need-add-due
+add-due c = search needs
 
 conflict-marks-requires : tie.Need-conflict-marks-requires
 conflict-marks-requires c κs = search needs
@@ -26,4 +26,4 @@ returns c = step3-grant (c .before .before .before .before .args .s) (c .before 
 
 pub step-three-spec : {M : Type 1} → statement M
 step-three-spec =
-    tie.close (tie.spec add-arrival conflict-marks-requires kill-requires grant-requires returns)
+    tie.close (tie.spec add-due conflict-marks-requires kill-requires grant-requires returns)
