@@ -1,15 +1,14 @@
 -- What stands at a row, a slot and a holding of a state with one of them replaced.
 use mathlib.Core.Path.{_≡_, refl, sym, _∙_, ap}
-use mathlib.Core.Bool.{Bool, true, false, cond, _&&_}
+use mathlib.Core.Bool.{Bool, cond, _&&_}
 use mathlib.Core.List.{List}
-use Prim.Native.Nat.{ℕ, _+_, _*_, _/_, _%_, _<_, _≤_}
+use Prim.Native.Nat.{ℕ, _+_, _*_, _/_, _%_, _<_}
 use native.Mathlib.Omega.{arith}
 use native.Mathlib.Decide.{ℕ-discrete}
 use borrow.Author.Tests.{eq-eqb, ne-eqb}
 use lib.Dec.{eqb}
 use lib.ListN.{length, getD, set, length-set, length-replicate, getD-replicate}
 use lib.Seq.{getD-set-same, getD-set-other}
-use Rattle.seq.proofs.Tests.{and-false-right}
 use Rattle.model.specs.State.{freeRow, emptySlot, emptyHolding, emptyHoldings, fresh, rowAt, slotAt, holdingAt, withClock, putRow, putSlot, putHolding}
 use Rattle.model.specs.declared.Row.{Row}
 use Rattle.model.specs.declared.Slot.{Slot}

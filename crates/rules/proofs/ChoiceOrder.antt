@@ -9,8 +9,7 @@ use lib.Dec.{ltb}
 use Rattle.seq.specs.Below.{anyBelow}
 use Rattle.seq.specs.Order.{lexLess}
 use Rattle.seq.specs.declared.Found.the-variants.{At}
-use Rattle.seq.proofs.Tests.{true-false}
-use Rattle.seq.proofs.BoolLaws.{not-false-true}
+use Rattle.seq.proofs.Tests.{true-false, not-false-true}
 use Rattle.seq.proofs.BelowLaws.{any-hit}
 use Rattle.seq.proofs.OrderLaws.{lex-strict, lex-trans, lex-total, ltb-strict, ltb-trans, ltb-total}
 use Rattle.seq.proofs.PairLaws.{Ordered}

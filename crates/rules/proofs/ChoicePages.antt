@@ -8,8 +8,7 @@ use borrow.Author.Tests.{leb-true, eqb-true}
 use lib.Dec.{leb, eqb}
 use Rattle.seq.specs.Below.{anyBelow, allBelow}
 use Rattle.seq.specs.declared.Found.the-variants.{At}
-use Rattle.seq.proofs.Tests.{and-true}
-use Rattle.seq.proofs.BoolLaws.{and-when}
+use Rattle.seq.proofs.Tests.{and-true, and-when}
 use Rattle.seq.proofs.BelowLaws.{hit-any, any-same, all-same}
 use Rattle.seq.proofs.PairLaws.{most-same}
 use Rattle.model.specs.declared.Holding.{Holding}

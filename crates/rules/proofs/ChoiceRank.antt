@@ -5,8 +5,7 @@ use Prim.Native.Nat.{ℕ, _<_, _≤_}
 use native.Mathlib.Omega.{arith}
 use native.Mathlib.Decide.{ℕ-discrete, decLt}
 use Rattle.seq.specs.declared.Found.the-variants.{At}
-use Rattle.seq.proofs.Tests.{true-false}
-use Rattle.seq.proofs.BoolLaws.{not-false-true}
+use Rattle.seq.proofs.Tests.{true-false, not-false-true}
 use Rattle.seq.proofs.PickLaws.{pick-is, pick-some, pick-first, first-pick}
 use Rattle.model.specs.declared.Row.{Row}
 use Rattle.model.specs.declared.State.{State}

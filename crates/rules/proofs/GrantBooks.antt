@@ -22,8 +22,8 @@ use Rattle.model.specs.State.{slotAt, holdingAt, putSlot}
 use Rattle.model.specs.Words.{hasPage, dirtyIn, isHeld, isWrite, pinOf, stronger, holds}
 use Rattle.model.specs.Changes.{written, dirtied}
 use Rattle.model.proofs.StateLaws.{Sized, slot-put, holding-put, sized-put-slot}
-use Rattle.model.proofs.DirtyLaws.{dirtied-page}
-use Rattle.model.proofs.BookLaws.{Booked, dirtied-stays, dirtied-is}
+use Rattle.model.proofs.BookLaws.{Booked}
+use Rattle.model.proofs.ContentLaws.{dirtied-page, dirtied-stays, dirtied-is}
 use Rattle.rules.specs.Calls.{heldWith, withLowest, unpinnedAt, granted}
 use Rattle.rules.proofs.GrantLaws.{grantedSlot, grantedHolding, granted-slot, granted-holding}
 

@@ -20,7 +20,7 @@ use Rattle.model.specs.Words.{hasPage, slotOf}
 use Rattle.model.specs.Changes.{written, dirtied, released, killed, killedRow}
 use Rattle.model.proofs.StateLaws.{Sized, row-put, slot-put, holding-put}
 use Rattle.model.proofs.ChangeLaws.{killed-row, killed-holding, killed-clock, killed-delay, killed-size, released-holding}
-use Rattle.model.proofs.DirtyLaws.{dirtied-page}
+use Rattle.model.proofs.ContentLaws.{dirtied-page}
 use Rattle.rules.specs.Calls.{granted, unpinnedAt}
 use Rattle.rules.proofs.Alike.{Alike}
 use Rattle.rules.proofs.AlikeLaws.{alike-still}

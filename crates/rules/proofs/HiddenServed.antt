@@ -24,7 +24,7 @@ use Rattle.model.specs.Words.{hasPage, arrivalIn, isHeld, isPin, pinOf, conflic
 use Rattle.model.specs.Changes.{killed}
 use Rattle.model.proofs.StateLaws.{Sized}
 use Rattle.model.proofs.ChangeLaws.{wroteSlot, killed-size, killed-slot, killed-holding, sized-killed}
-use Rattle.model.proofs.DirtyLaws.{dirtied-page}
+use Rattle.model.proofs.ContentLaws.{dirtied-page}
 use Rattle.rules.specs.Choice.{chosen}
 use Rattle.rules.specs.Calls.{waiting, granted, conflicts, mustWait, step1, step2, step3, pinnersKilled, writeBack, filled, intoSlot, servedAt, served}
 use Rattle.rules.proofs.SoundFacts.{Sound}

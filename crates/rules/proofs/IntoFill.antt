@@ -8,8 +8,7 @@ use borrow.Author.Tests.{eq-eqb, ne-eqb}
 use lib.Dec.{eqb}
 use Rattle.seq.specs.declared.Found.{Found}
 use Rattle.seq.specs.declared.Found.the-variants.{At, Nowhere}
-use Rattle.seq.proofs.Tests.{true-false, not-true-false, or-true-right}
-use Rattle.seq.proofs.BoolLaws.{cond-same}
+use Rattle.seq.proofs.Tests.{true-false, not-true-false, or-true-right, cond-same}
 use Rattle.seq.proofs.PickLaws.{pick-is, pick-some, none-pick}
 use Rattle.model.specs.declared.Mode.{Mode}
 use Rattle.model.specs.declared.Cause.the-variants.{Taken}

@@ -7,9 +7,9 @@ use borrow.Author.Tests.{leb-true}
 use lib.Dec.{leb, ltb}
 use Rattle.seq.specs.declared.Found.{Found}
 use Rattle.seq.specs.declared.Found.the-variants.{At, Nowhere}
-use Rattle.seq.proofs.Tests.{true-false, and-left}
+use Rattle.seq.proofs.Tests.{true-false, and-left, and-when}
 use Rattle.seq.proofs.BelowLaws.{any-same}
-use Rattle.seq.proofs.PickedLaws.{and-same, picked-same}
+use Rattle.seq.proofs.PickLaws.{picked-same}
 use Rattle.model.specs.declared.Mode.{Mode}
 use Rattle.model.specs.declared.Pin.the-variants.{Absent}
 use Rattle.model.specs.declared.State.{State}
@@ -48,7 +48,7 @@ module _ (L : ℕ) (s t : State) (alike : Alike L s t) where
     module _ (level : ℕ) (up : level ≤ L) where
       same-holder : (r : ℕ) → r < 32 → seenHolder s level i r ≡ seenHolder t level j r
       unfolding seenHolder
-      same-holder r h = and-same (leb (levelOf r) level) (holds s i r) (holds t j r)
+      same-holder r h = and-when (leb (levelOf r) level) (holds s i r) (holds t j r)
           (λ e. rw (same-holding r h (omega (arith, leb-true (levelOf r) level e))))
 
       pub same-seen : seen s level i ≡ seen t level j
