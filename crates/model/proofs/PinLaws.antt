@@ -28,6 +28,18 @@ pub mode-pin : (mode : Mode) → isPin (pinOf mode) ≡ true
 mode-pin Mode.Read = refl
 mode-pin Mode.Write = refl
 
+pub write-held : (p : Pin) → isWrite p ≡ true → isHeld p ≡ true
+write-held Absent e = e
+write-held Unpinned e = refl
+write-held Read e = refl
+write-held Write e = refl
+
+pub not-written : (p : Pin) → isPin p ≡ false → isWrite p ≡ false
+not-written Absent e = refl
+not-written Unpinned e = refl
+not-written Read e = refl
+not-written Write e = e
+
 -- the stronger of two pins is one of them
 pub stronger-is : (P : Pin → Type 0) (p q : Pin) → P p → P q → P (stronger p q)
 unfolding stronger

@@ -20,17 +20,15 @@ use Rattle.rules.specs.Choice.{holderLevel, heldAbove, pinnedAt, heldAtO
 use Rattle.rules.proofs.Alike.{Alike}
 use Rattle.rules.proofs.IntoSeen.{SamePage, seen-by}
 use Rattle.model.proofs.PriorityLaws.{outranks-level}
-use Rattle.rules.proofs.ChoiceRank.{Best, rank-same, best-is, is-best, best-some, best-level, holder-level}
+use Rattle.rules.proofs.ChoiceRank.{Best, best-is, is-best, best-some, best-level, holder-level}
 use Rattle.rules.proofs.ChoiceOrder.{touchOf, nextBefore, before-held}
+use Rattle.rules.proofs.SamePages.{same-rank}
 
 -- a slot that a level sees is held
 pub seen-held : (s : State) (L i : ℕ) → seen s L i ≡ true → anyBelow 32 (holds s i) ≡ true
 seen-held s L i e = let x = seen-by s L i e in hit-any (holds s i) 32 (x .0) (x .1) (x .3)
 
 module _ (L : ℕ) (s t : State) (a : Alike L s t) where
-  alike-rank : (r q : ℕ) → r < 32 → q < 32 → levelOf r ≤ L → levelOf q ≤ L → outranks s r q ≡ outranks t r q
-  alike-rank r q b c l m = rank-same s t r q (a .row r b l) (a .row q c m)
-
   module _ (i j : ℕ) (w : SamePage L s t i j) where
     pub page-holds : (r : ℕ) → r < 32 → levelOf r ≤ L → holds s i r ≡ holds t j r
     page-holds r b l = ap (λ (x : Holding). isHeld (x .pin)) (w .holding r b l)
@@ -70,7 +68,7 @@ module _ (L : ℕ) (s t : State) (a : Alike L s t) where
         let e : allBelow 32 p ≡ allBelow 32 q = all-same p q 32 (λ o c.
         ap (λ (x : Bool). not x || (eqb (levelOf o) (levelOf me) && not (outranks s o me))) (page-holder (levelOf me) l o c)
         ∙ ap (λ (x : Bool). not (seenHolder t (levelOf me) j o) || x)
-        (and-when (eqb (levelOf o) (levelOf me)) (not (outranks s o me)) (not (outranks t o me)) (λ v. ap not (alike-rank o me c b (let u = eqb-true (levelOf o) (levelOf me) v in omega arith) l)))) in
+        (and-when (eqb (levelOf o) (levelOf me)) (not (outranks s o me)) (not (outranks t o me)) (λ v. ap not (same-rank L s t a o me c b (let u = eqb-true (levelOf o) (levelOf me) v in omega arith) l)))) in
         ap (λ (x : Bool). x && allBelow 32 p) (page-seen (levelOf me) l) ∙ ap (λ (x : Bool). seen t (levelOf me) j && x) e
 
     -- the best holder is of a level up to L
@@ -91,7 +89,7 @@ module _ (L : ℕ) (s t : State) (a : Alike L s t) where
               | yes u ↦ outranks-level t b r (omega arith)
               | no u ↦
                   let lr : levelOf r ≤ L = omega arith in
-                  sym (alike-rank b r (m .below) c l lr) ∙ m .first r c (page-holds r c lr ∙ h) ne
+                  sym (same-rank L s t a b r (m .below) c l lr) ∙ m .first r c (page-holds r c lr ∙ h) ne
             ];
           }
 
@@ -119,5 +117,5 @@ module _ (L : ℕ) (s t : State) (a : Alike L s t) where
       let n : nextBefore s i k ≡ nextBefore t j l = rw (p, q, w .page, x .page) in
       before-held s i k (b .0) (c .0) (b .1) (c .1)
       ∙ ap (λ (y : Bool). worse s (At (b .0)) (At (c .0)) y) n
-      ∙ ap (λ (y : Bool). cond (eqb (b .0) (c .0)) (nextBefore t j l) y) (alike-rank (c .0) (b .0) (c .3) (b .3) (c .4) (b .4))
+      ∙ ap (λ (y : Bool). cond (eqb (b .0) (c .0)) (nextBefore t j l) y) (same-rank L s t a (c .0) (b .0) (c .3) (b .3) (c .4) (b .4))
       ∙ sym (before-held t j l (b .0) (c .0) (b .2) (c .2))

@@ -8,8 +8,6 @@ use borrow.Author.Tests.{eqb-true, eq-eqb, ne-eqb}
 use lib.Dec.{leb, eqb}
 use Rattle.seq.proofs.Tests.{true-false, and-true}
 use Rattle.model.specs.declared.Back.{Back}
-use Rattle.model.specs.declared.Content.{Content}
-use Rattle.model.specs.declared.Content.the-variants.{Empty, Filled}
 use Rattle.model.specs.declared.Holding.{Holding}
 use Rattle.model.specs.declared.Mode.{Mode}
 use Rattle.model.specs.declared.Mode.the-variants as Mode
@@ -24,8 +22,9 @@ use Rattle.model.specs.Changes.{written, dirtied}
 use Rattle.model.proofs.StateLaws.{Sized, slot-put, holding-put, sized-put-slot}
 use Rattle.model.proofs.BookLaws.{Booked}
 use Rattle.model.proofs.ContentLaws.{dirtied-page, dirtied-stays, dirtied-is}
-use Rattle.rules.specs.Calls.{heldWith, withLowest, unpinnedAt, granted}
-use Rattle.rules.proofs.GrantLaws.{grantedSlot, grantedHolding, granted-slot, granted-holding}
+use Rattle.model.proofs.PinLaws.{write-held}
+use Rattle.rules.specs.Calls.{heldWith, unpinnedAt, granted}
+use Rattle.rules.proofs.GrantLaws.{grantedSlot, grantedHolding, granted-slot, granted-holding, lowest-page, lowest-dirty}
 
 -- ---- the holding that a grant puts
 
@@ -53,12 +52,6 @@ stronger-write Read mode e = true-false (sym e)
 stronger-write Write Mode.Read e = refl
 stronger-write Write Mode.Write e = refl
 
-pub write-held : (p : Pin) → isWrite p ≡ true → isHeld p ≡ true
-write-held Absent e = e
-write-held Unpinned e = refl
-write-held Read e = refl
-write-held Write e = refl
-
 put-written : (k : ℕ) (own : Holding) (mode : Mode) (arrival clock : ℕ) → written k own ≡ true → written k (heldWith (isHeld (own .pin)) own (pinOf mode) arrival clock) ≡ true
 unfolding written
 put-written k own mode arrival clock e =
@@ -71,15 +64,6 @@ put-or-old P i slot x y h f = elim (ℕ-discrete i slot) [
   | yes m ↦ rw (eq-eqb i slot m) (f m)
   | no m ↦ rw (ne-eqb i slot m) h
 ]
-
--- the lowest level changes neither the page nor the dirty mark
-lowest-page : (level page : ℕ) (c : Content) → hasPage page (withLowest level c) ≡ hasPage page c
-lowest-page level page Empty = refl
-lowest-page level page (Filled p arrival dirty lowest) = refl
-
-lowest-dirty : (level : ℕ) (c : Content) → dirtyIn (withLowest level c) ≡ dirtyIn c
-lowest-dirty level Empty = refl
-lowest-dirty level (Filled p arrival dirty lowest) = refl
 
 module _ (u : State) (z : Sized u) (row slot : ℕ) (r : row < 32) (b : slot < 64) (mode : Mode) (arrival : ℕ) (back : Back) where
   pub granted-holds : (i q : ℕ) → q < 32 → holds u i q ≡ true → holds (granted u row slot mode arrival back .state) i q ≡ true

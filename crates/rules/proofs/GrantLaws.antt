@@ -1,7 +1,7 @@
 -- What a grant leaves at each row, slot and holding, and on each page.
 use mathlib.Core.Path.{_≡_, refl, sym, _∙_, ap}
-use mathlib.Core.Bool.{Bool, true, false, cond, _&&_, _||_, not}
-use Prim.Native.Nat.{ℕ, _+_, _*_, _<_, _≤_}
+use mathlib.Core.Bool.{Bool, true, false, cond, _&&_}
+use Prim.Native.Nat.{ℕ, _<_}
 use native.Mathlib.Omega.{arith}
 use native.Mathlib.Decide.{ℕ-discrete}
 use borrow.Author.Tests.{eqb-true, eq-eqb, ne-eqb}
@@ -9,7 +9,6 @@ use lib.Dec.{leb, eqb}
 use Rattle.seq.specs.Below.{atFound}
 use Rattle.seq.specs.declared.Found.{Found}
 use Rattle.seq.specs.declared.Found.the-variants.{At, Nowhere}
-use Rattle.seq.proofs.Tests.{true-false}
 use Rattle.model.specs.declared.Back.{Back}
 use Rattle.model.specs.declared.Mode.{Mode}
 use Rattle.model.specs.declared.Condition.the-variants.{Idle, Fetching}
@@ -20,13 +19,12 @@ use Rattle.model.specs.declared.Slot.{Slot}
 use Rattle.model.specs.declared.Holding.{Holding}
 use Rattle.model.specs.declared.State.{State}
 use Rattle.model.specs.Parties.{levelOf}
-use Rattle.model.specs.State.{emptyHolding, rowAt, slotAt, holdingAt, putRow, putSlot, putHolding}
-use Rattle.model.specs.Words.{isFilled, pageIn, hasPage, isHeld, pinOf, slotOf}
+use Rattle.model.specs.State.{emptyHolding, rowAt, slotAt, holdingAt}
+use Rattle.model.specs.Words.{pageIn, hasPage, dirtyIn, isHeld, pinOf, slotOf}
 use Rattle.model.proofs.StateLaws.{Sized, row-put, slot-put, holding-put, sized-put-row, sized-put-slot, sized-put-holding}
-use Rattle.rules.specs.Calls.{heldWith, withLowest, touched, granted}
-use Rattle.rules.proofs.SoundFacts.{Sound}
+use Rattle.rules.specs.Calls.{heldWith, withLowest, granted}
 use Rattle.rules.proofs.Alike.{holdingOn}
-use Rattle.rules.proofs.PageLaws.{found-slot, finds, same-slot}
+use Rattle.rules.proofs.PageLaws.{found-slot, same-slot}
 
 -- the holding, the slot and the row that a grant puts
 abbrev pub grantedHolding : State → ℕ → ℕ → Mode → ℕ → Holding
@@ -38,9 +36,14 @@ grantedSlot s row slot = record { content = withLowest (levelOf row) (slotAt s s
 abbrev pub grantedRow : State → ℕ → ℕ → Row
 grantedRow s row arrival = record { condition = cond (leb arrival (s .clock)) Idle (Fetching arrival); deadline = rowAt s row .deadline }
 
-lowest-page : (level page : ℕ) (c : Content) → hasPage page (withLowest level c) ≡ hasPage page c
+-- the lowest level changes neither the page nor the dirty mark
+pub lowest-page : (level page : ℕ) (c : Content) → hasPage page (withLowest level c) ≡ hasPage page c
 lowest-page level page Empty = refl
 lowest-page level page (Filled p arrival dirty lowest) = refl
+
+pub lowest-dirty : (level : ℕ) (c : Content) → dirtyIn (withLowest level c) ≡ dirtyIn c
+lowest-dirty level Empty = refl
+lowest-dirty level (Filled p arrival dirty lowest) = refl
 
 module _ (s : State) (z : Sized s) (row slot : ℕ) (r : row < 32) (b : slot < 64) (mode : Mode) (arrival : ℕ) (back : Back) where
   pub granted-row : (other : ℕ) → rowAt (granted s row slot mode arrival back .state) other ≡ cond (eqb other row) (grantedRow s row arrival) (rowAt s other)

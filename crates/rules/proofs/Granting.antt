@@ -27,10 +27,10 @@ use Rattle.model.specs.Words.{hasPage, isHeld, pinOf, strength, stronger, pins,
 use Rattle.model.specs.Changes.{killed, cleared}
 use Rattle.model.proofs.StateLaws.{Sized, slot-put}
 use Rattle.model.proofs.ChangeLaws.{wroteSlot, killed-clock, killed-size, killed-slot, sized-killed}
-use Rattle.model.proofs.ContentLaws.{dirtied-page}
+use Rattle.model.proofs.ContentLaws.{dirtied-page, has-page}
 use Rattle.rules.specs.Calls.{heldWith, waiting, granted, pinnersKilled, writeBack, filled}
 use Rattle.rules.proofs.SoundFacts.{Sound}
-use Rattle.rules.proofs.PageLaws.{has-page, found-slot}
+use Rattle.rules.proofs.PageLaws.{found-slot}
 use Rattle.rules.proofs.HiddenFill.{sized-filled}
 use Rattle.rules.proofs.GrantLaws.{grantedRow, grantedHolding, granted-row, granted-holding}
 use Rattle.rules.proofs.GrantBooks.{granted-booked}

@@ -19,9 +19,10 @@ use Rattle.model.specs.Words.{hasPage, slotOf}
 use Rattle.model.specs.Changes.{cleared}
 use Rattle.model.proofs.StateLaws.{Sized, slot-put, sized-put-slot}
 use Rattle.model.proofs.ChangeLaws.{cleared-holding, sized-cleared}
+use Rattle.model.proofs.ContentLaws.{has-page}
 use Rattle.rules.specs.Calls.{filled}
 use Rattle.rules.proofs.Alike.{holdingOn, Alike}
-use Rattle.rules.proofs.PageLaws.{has-page, found-slot, not-found}
+use Rattle.rules.proofs.PageLaws.{found-slot, not-found, on-slot, on-nowhere}
 
 -- no page in two slots
 abbrev pub OneSlot : State → Type 0
@@ -38,14 +39,6 @@ on-at s one page i r b h = go (slotOf s page) refl
     go : (f : Found) → slotOf s page ≡ f → atFound (slotOf s page) (λ k. holdingAt s k r) emptyHolding ≡ holdingAt s i r
     go Nowhere e = true-false (sym h ∙ not-found s page i e b)
     go (At j) e = let k = found-has s page j e in rw e (ap (λ (x : ℕ). holdingAt s x r) (one page j i (k .0) b (k .1) h))
-
-on-nowhere : (s : State) (page r : ℕ) → slotOf s page ≡ Nowhere → holdingOn s page r ≡ emptyHolding
-unfolding holdingOn
-on-nowhere s page r e = ap (λ (f : Found). atFound f (λ k. holdingAt s k r) emptyHolding) e
-
-on-found : (s : State) (page i r : ℕ) → slotOf s page ≡ At i → holdingOn s page r ≡ holdingAt s i r
-unfolding holdingOn
-on-found s page i r e = ap (λ (f : Found). atFound f (λ k. holdingAt s k r) emptyHolding) e
 
 module _ (s : State) (z : Sized s) (most : s .size ≤ 64) (slot page level : ℕ) (there : slot < s .size) where
   pub sized-filled : Sized (filled s slot page level)
@@ -81,7 +74,7 @@ module _ (s : State) (z : Sized s) (most : s .size ≤ 64) (slot page level : �
         none e (At j) q =
             let k = found-has s other j q in
             elim (ℕ-discrete j slot) [
-              | yes m ↦ on-found s other j r q ∙ ap (λ (x : ℕ). holdingAt s x r) m ∙ h
+              | yes m ↦ on-slot s other j r q ∙ ap (λ (x : ℕ). holdingAt s x r) m ∙ h
               | no m ↦
                   let w = sym (filled-page other j) ∙ not-found (filled s slot page level) other j e (rw filled-size (k .0)) in
                   true-false (sym (k .1) ∙ (rw (ne-eqb j slot m) at w))
@@ -96,10 +89,10 @@ module _ (s : State) (z : Sized s) (most : s .size ≤ 64) (slot page level : �
               | yes m ↦
                   let p : page ≡ other = eqb-true page other (rw (eq-eqb i slot m) at w) in
                   ap (λ (x : ℕ). holdingOn s x r) (sym p) ∙ on-nowhere s page r nowhere
-                  ∙ sym (on-found (filled s slot page level) other i r e ∙ filled-holding i r b ∙ rw (eq-eqb i slot m))
+                  ∙ sym (on-slot (filled s slot page level) other i r e ∙ filled-holding i r b ∙ rw (eq-eqb i slot m))
               | no m ↦
                   on-at s one other i r (rw filled-size at (k .0)) (rw (ne-eqb i slot m) at w)
-                  ∙ sym (on-found (filled s slot page level) other i r e ∙ filled-holding i r b ∙ rw (ne-eqb i slot m))
+                  ∙ sym (on-slot (filled s slot page level) other i r e ∙ filled-holding i r b ∙ rw (ne-eqb i slot m))
             ]
 
     pub filled-hidden : (L : ℕ) → ((r : ℕ) → r < 32 → levelOf r ≤ L → holdingAt s slot r ≡ emptyHolding) → Alike L s (filled s slot page level)

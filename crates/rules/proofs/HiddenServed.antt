@@ -14,37 +14,25 @@ use Rattle.model.specs.declared.Back.the-variants.{Nothing}
 use Rattle.model.specs.declared.Cause.the-variants.{Taken}
 use Rattle.model.specs.declared.Condition.the-variants.{Waiting}
 use Rattle.model.specs.declared.Mode.{Mode}
-use Rattle.model.specs.declared.Pin.{Pin}
-use Rattle.model.specs.declared.Pin.the-variants.{Absent, Unpinned, Read, Write}
 use Rattle.model.specs.declared.Slot.{Slot}
 use Rattle.model.specs.declared.State.{State}
 use Rattle.model.specs.Parties.{levelOf, better}
 use Rattle.model.specs.State.{rowAt, slotAt, holdingAt}
-use Rattle.model.specs.Words.{hasPage, arrivalIn, isHeld, isPin, pinOf, conflict, pins, seen, seesDormant, outranks, leastArrival, slotOf}
+use Rattle.model.specs.Words.{hasPage, arrivalIn, pinOf, conflict, pins, seen, seesDormant, outranks, leastArrival, slotOf}
 use Rattle.model.specs.Changes.{killed}
 use Rattle.model.proofs.StateLaws.{Sized}
 use Rattle.model.proofs.ChangeLaws.{wroteSlot, killed-size, killed-slot, killed-holding, sized-killed}
-use Rattle.model.proofs.ContentLaws.{dirtied-page}
+use Rattle.model.proofs.ContentLaws.{dirtied-page, page-has}
+use Rattle.model.proofs.PinLaws.{not-pinned, no-pin}
 use Rattle.rules.specs.Choice.{chosen}
 use Rattle.rules.specs.Calls.{waiting, granted, conflicts, mustWait, step1, step2, step3, pinnersKilled, writeBack, filled, intoSlot, servedAt, served}
 use Rattle.rules.proofs.SoundFacts.{Sound}
 use Rattle.rules.proofs.Alike.{Alike}
 use Rattle.rules.proofs.AlikeLaws.{alike-trans}
-use Rattle.rules.proofs.PageLaws.{found-slot, page-has, killed-slot-of}
+use Rattle.rules.proofs.PageLaws.{found-slot, killed-slot-of}
 use Rattle.rules.proofs.HiddenChanges.{killed-hidden, row-hidden, granted-hidden}
 use Rattle.rules.proofs.HiddenFill.{OneSlot, sized-filled, filled-hidden}
 use Rattle.rules.proofs.HiddenChoice.{Unheld, unseen-unheld, chosen-unheld}
-
--- no holding, no pin and no conflict
-unheld-unpinned : (p : Pin) → isHeld p ≡ false → isPin p ≡ false
-unheld-unpinned Absent e = refl
-unheld-unpinned Unpinned e = refl
-unheld-unpinned Read e = e
-unheld-unpinned Write e = e
-
-unpinned-free : (p q : Pin) → isPin q ≡ false → conflict p q ≡ false
-unfolding conflict
-unpinned-free p q e = rw (e, and-false-right (isPin p) false refl)
 
 one-slot : (s : State) → Sound s → OneSlot s
 one-slot s z page i j a b p q =
@@ -79,7 +67,7 @@ module _ (L : ℕ) (s : State) (z : Sound s) (me : ℕ) (mine : me < 32) (higher
   no-conflict : (slot : ℕ) (mode : Mode) → Unheld L s slot → (r : ℕ) → r < 32 → levelOf r ≤ L → conflicts s me slot mode r ≡ false
   unfolding conflicts
   no-conflict slot mode h r b l =
-      and-false-right (not (eqb r me)) (conflict (pinOf mode) (holdingAt s slot r .pin)) (unpinned-free (pinOf mode) (holdingAt s slot r .pin) (unheld-unpinned (holdingAt s slot r .pin) (h r b l)))
+      and-false-right (not (eqb r me)) (conflict (pinOf mode) (holdingAt s slot r .pin)) (no-pin (pinOf mode) (holdingAt s slot r .pin) (not-pinned (holdingAt s slot r .pin) (h r b l)))
 
   -- a grant after a kill of rows above the level
   kill-and-grant : (some : ℕ → Bool) → ((r : ℕ) → r < 32 → levelOf r ≤ L → some r ≡ false) → (slot : ℕ) → slot < 64 → (mode : Mode) (arrival : ℕ) (back : Back)
@@ -120,10 +108,10 @@ module _ (L : ℕ) (s : State) (z : Sound s) (me : ℕ) (mine : me < 32) (higher
       let kt : slot < k .size = rw (killed-size (pins s slot) Taken s) (c .0) in
       let b : slot < 64 = omega (arith, c .0, z .size-most) in
       let fz = sized-filled k kz km slot page (levelOf me) kt in
-      alike-trans (killed-hidden L s (z .sized) (z .size-most) (pins s slot) (λ r h l. unheld-unpinned (holdingAt s slot r .pin) (c .1 r h l)) Taken)
+      alike-trans (killed-hidden L s (z .sized) (z .size-most) (pins s slot) (λ r h l. not-pinned (holdingAt s slot r .pin) (c .1 r h l)) Taken)
       (alike-trans
       (filled-hidden k kz km slot page (levelOf me) kt (killed-one-slot (pins s slot) s z) (killed-slot-of (pins s slot) s (z .sized) (z .size-most) Taken page ∙ n) L
-      (λ r h l. killed-holding (pins s slot) s (z .sized) Taken slot r h ∙ rw (unheld-unpinned (holdingAt s slot r .pin) (c .1 r h l)) (z .unheld slot r b h (c .1 r h l))))
+      (λ r h l. killed-holding (pins s slot) s (z .sized) Taken slot r h ∙ rw (not-pinned (holdingAt s slot r .pin) (c .1 r h l)) (z .unheld slot r b h (c .1 r h l))))
       (granted-hidden L (filled k slot page (levelOf me)) fz me mine higher slot b mode (s .clock + s .delay) (writeBack (slotAt k slot))))
 
   served-at-hidden : (f : Found) → (page : ℕ) (mode : Mode) → slotOf s page ≡ f → Alike L s (servedAt f s me page mode .state)

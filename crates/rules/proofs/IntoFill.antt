@@ -12,8 +12,7 @@ use Rattle.seq.proofs.Tests.{true-false, not-true-false, or-true-right, cond-sa
 use Rattle.seq.proofs.PickLaws.{pick-is, pick-some, none-pick}
 use Rattle.model.specs.declared.Mode.{Mode}
 use Rattle.model.specs.declared.Cause.the-variants.{Taken}
-use Rattle.model.specs.declared.Content.{Content}
-use Rattle.model.specs.declared.Content.the-variants.{Empty, Filled}
+use Rattle.model.specs.declared.Content.the-variants.{Filled}
 use Rattle.model.specs.declared.Row.{Row}
 use Rattle.model.specs.declared.Slot.{Slot}
 use Rattle.model.specs.declared.Holding.{Holding}
@@ -21,16 +20,16 @@ use Rattle.model.specs.declared.State.{State}
 use Rattle.model.specs.Parties.{levelOf}
 use Rattle.model.specs.State.{emptyHolding, rowAt, slotAt, holdingAt}
 use Rattle.model.specs.Words.{hasPage, isHeld, pins, slotOf}
-use Rattle.model.specs.Changes.{dirtied, dirtiedContent, released, killed, killedRow, cleared}
+use Rattle.model.specs.Changes.{released, killed, killedRow, cleared}
 use Rattle.model.proofs.StateLaws.{Sized, slot-put, sized-put-slot}
 use Rattle.model.proofs.ChangeLaws.{wroteSlot, killed-row, killed-slot, killed-holding, sized-killed, cleared-holding, sized-cleared}
+use Rattle.model.proofs.ContentLaws.{has-page, page-has, dirtied-page}
 use Rattle.rules.specs.Calls.{pinnersKilled, writeBack, filled, intoSlot}
 use Rattle.rules.proofs.SoundFacts.{Sound}
 use Rattle.rules.proofs.Alike.{holdingOn}
-use Rattle.rules.proofs.PageLaws.{has-page, page-has, found-slot, not-found}
+use Rattle.rules.proofs.PageLaws.{found-slot, not-found, on-slot, on-nowhere}
 use Rattle.rules.proofs.IntoGain.{dueTick, Gains, gains-as}
 use Rattle.rules.proofs.IntoGrant.{granted-gains}
-use Rattle.rules.proofs.IntoSeen.{on-slot, on-nowhere}
 
 -- the search for a page that just one slot has, or none
 pub finds-only : (s : State) (page i : ℕ) → i < s .size → hasPage page (slotAt s i .content) ≡ true
@@ -51,16 +50,6 @@ one-has s z page i j a b h k =
     let x = page-has page (slotAt s i .content) h in
     let y = page-has page (slotAt s j .content) k in
     z .one-slot i j (omega (arith, z .size-most)) (omega (arith, z .size-most)) (x .0) (y .0) (x .1 ∙ sym (y .1))
-
--- a dirty mark changes no page
-marked-page : (page : ℕ) (b : Bool) (x : Slot) → hasPage page (cond b (dirtied x) x .content) ≡ hasPage page (x .content)
-unfolding dirtied
-marked-page page false x = refl
-marked-page page true x = go (x .content)
-  where
-    go : (c : Content) → hasPage page (dirtiedContent c) ≡ hasPage page c
-    go Empty = refl
-    go (Filled p arrival dirty lowest) = refl
 
 -- what is left of a row, and of its holding on a page, when a slot is taken
 abbrev pub leftRow : State → ℕ → ℕ → Row
@@ -108,7 +97,7 @@ module _ (s : State) (z : Sound s) (slot page level : ℕ) (b : slot < s .size) 
 
   kept-page : (other j : ℕ) → j < 64 → hasPage other (slotAt (cleared slot (pinnersKilled s slot)) j .content) ≡ hasPage other (slotAt s j .content)
   unfolding cleared pinnersKilled
-  kept-page other j h = ap (λ (x : Slot). hasPage other (x .content)) (killed-slot (pins s slot) s (z .sized) Taken j h) ∙ marked-page other (wroteSlot (pins s slot) s j) (slotAt s j)
+  kept-page other j h = ap (λ (x : Slot). hasPage other (x .content)) (killed-slot (pins s slot) s (z .sized) Taken j h) ∙ dirtied-page other (wroteSlot (pins s slot) s j) (slotAt s j)
 
   refilled-page : (other j : ℕ) → j < 64 → hasPage other (slotAt refilled j .content) ≡ cond (eqb j slot) (eqb page other) (hasPage other (slotAt s j .content))
   unfolding refilled filled newSlot

@@ -6,19 +6,19 @@ use native.Mathlib.Omega.{arith}
 use borrow.Author.Tests.{leb-true, le-leb, not-true}
 use lib.Dec.{leb}
 use Rattle.seq.specs.Below.{anyBelow, countBelow}
-use Rattle.seq.specs.declared.Found.{Found}
-use Rattle.seq.specs.declared.Found.the-variants.{At, Nowhere}
+use Rattle.seq.specs.declared.Found.the-variants.{At}
 use Rattle.seq.proofs.Tests.{true-false, and-true, both-true, not-true-false}
 use Rattle.seq.proofs.BelowLaws.{any-hit, hit-any}
 use Rattle.seq.proofs.CountLaws.{count-not, count-into, any-count}
 use Rattle.model.specs.declared.Holding.{Holding}
 use Rattle.model.specs.declared.State.{State}
 use Rattle.model.specs.Parties.{levelOf}
-use Rattle.model.specs.State.{emptyHolding, slotAt, holdingAt}
+use Rattle.model.specs.State.{slotAt, holdingAt}
 use Rattle.model.specs.Words.{isFilled, pageIn, isHeld, holds, seenHolder, seen, isOpen, slotOf}
 use Rattle.rules.proofs.SoundFacts.{Sound, Held}
-use Rattle.rules.proofs.Alike.{holdingOn, Alike}
-use Rattle.rules.proofs.PageLaws.{found-slot, finds}
+use Rattle.rules.proofs.Alike.{Alike}
+use Rattle.rules.proofs.PageLaws.{found-slot, finds, on-slot, on-held}
+use Rattle.rules.proofs.AlikeLaws.{alike-sym}
 
 -- a slot is seen through a row that holds it
 pub seen-by : (s : State) (L i : ℕ) → seen s L i ≡ true → (r : ℕ) × (r < 32) × (levelOf r ≤ L) × (holds s i r ≡ true)
@@ -43,23 +43,6 @@ pub open-seen : (s : State) (L i : ℕ) → isOpen s L i ≡ true → seen s L i
 unfolding isOpen
 open-seen s L i e = not-true (seen s L i) e
 
--- the holding on a slot's page is the holding on the slot
-pub on-slot : (s : State) (page i r : ℕ) → slotOf s page ≡ At i → holdingOn s page r ≡ holdingAt s i r
-unfolding holdingOn
-on-slot s page i r e = rw e
-
-pub on-nowhere : (s : State) (page r : ℕ) → slotOf s page ≡ Nowhere → holdingOn s page r ≡ emptyHolding
-unfolding holdingOn
-on-nowhere s page r e = rw e
-
--- a row that has a page has the slot that has it
-pub on-held : (s : State) (page r : ℕ) → isHeld (holdingOn s page r .pin) ≡ true → (i : ℕ) × (slotOf s page ≡ At i) × (holds s i r ≡ true)
-on-held s page r h = go (slotOf s page) refl
-  where
-    go : (f : Found) → slotOf s page ≡ f → (i : ℕ) × (slotOf s page ≡ At i) × (holds s i r ≡ true)
-    go Nowhere e = true-false (sym (sym (ap (λ (x : Holding). isHeld (x .pin)) (on-nowhere s page r e)) ∙ h))
-    go (At i) e = (i, e, sym (ap (λ (x : Holding). isHeld (x .pin)) (on-slot s page i r e)) ∙ h)
-
 -- slots of two states that have one page, and on it the same holdings of the rows up to L
 pub record SamePage (L : ℕ) (s t : State) (i j : ℕ) : Type 0 where
   pub left : i < s .size
@@ -77,15 +60,6 @@ same-page-back L s t i j w = record {
   right-filled = w .left-filled;
   page = sym (w .page);
   holding = λ r b l. sym (w .holding r b l);
-}
-
-pub alike-back : (L : ℕ) (s t : State) → Alike L s t → Alike L t s
-alike-back L s t a = record {
-  size = sym (a .size);
-  delay = sym (a .delay);
-  clock = sym (a .clock);
-  row = λ r b l. sym (a .row r b l);
-  holding = λ page r b l. sym (a .holding page r b l);
 }
 
 module _ (L : ℕ) (s t : State) (z : Sound s) (y : Sound t) (a : Alike L s t) where
@@ -127,7 +101,7 @@ module _ (L : ℕ) (s t : State) (z : Sound s) (y : Sound t) (a : Alike L s t) w
   pub count-same : (M : ℕ) → M ≤ L → countBelow (s .size) (isOpen s M) ≡ countBelow (t .size) (isOpen t M)
   count-same M m =
       let p = seen-most L s t z y a M m in
-      let q = seen-most L t s y z (alike-back L s t a) M m in
+      let q = seen-most L t s y z (alike-sym a) M m in
       omega (arith, open-count s M, open-count t M, a .size)
 
   -- where a slot is open to a level up to L in the one state, a slot is in the other

@@ -3,7 +3,7 @@ use mathlib.Core.Path.{_≡_, refl, sym, _∙_}
 use mathlib.Core.Bool.{Bool, true, false, cond}
 use Prim.Native.Nat.{ℕ, _+_, _<_, _≤_}
 use native.Mathlib.Omega.{arith}
-use borrow.Author.Tests.{le-leb, eq-eqb}
+use borrow.Author.Tests.{le-leb}
 use lib.Dec.{eqb}
 use Rattle.seq.specs.declared.Found.{Found}
 use Rattle.seq.specs.declared.Found.the-variants.{At, Nowhere}
@@ -11,8 +11,6 @@ use Rattle.seq.proofs.Tests.{true-false, and-true, both-true}
 use Rattle.seq.proofs.PickLaws.{pick-is, pick-none}
 use Rattle.model.specs.declared.Back.the-variants.{Nothing}
 use Rattle.model.specs.declared.Cause.the-variants.{Taken}
-use Rattle.model.specs.declared.Content.{Content}
-use Rattle.model.specs.declared.Content.the-variants.{Empty, Filled}
 use Rattle.model.specs.declared.Mode.{Mode}
 use Rattle.model.specs.declared.State.{State}
 use Rattle.model.specs.Parties.{levelOf, mayAccess}
@@ -22,10 +20,10 @@ use Rattle.model.specs.Changes.{released, killed, cleared}
 use Rattle.model.proofs.ChangeLaws.{wroteSlot, killed-slot, killed-holding}
 use Rattle.model.proofs.ArrivalLaws.{least-is, least-first}
 use Rattle.model.proofs.PinLaws.{no-pin, not-pinned}
+use Rattle.model.proofs.ContentLaws.{page-has, has-page}
 use Rattle.rules.specs.Calls.{waiting, granted, conflicts, mustWait, step1, step2, step3, pinnersKilled, writeBack, filled, intoSlot, servedAt, served}
 use Rattle.rules.specs.Choice.{chosen}
 use Rattle.rules.proofs.SoundFacts.{Sound}
-use Rattle.rules.proofs.SoundBack.{page-there}
 use Rattle.rules.proofs.KeptBase.{slot-marked}
 use Rattle.rules.proofs.KeptDrop.{killed-sound}
 use Rattle.rules.proofs.KeptOwn.{waiting-sound}
@@ -34,10 +32,6 @@ use Rattle.rules.proofs.KeptGrant.{granted-sound}
 use Rattle.rules.proofs.KeptFill.{filled-slot, filled-holding, asking-filled, filled-sound}
 use Rattle.rules.proofs.KeptChoice.{own-unheld, dormant-unheld, chosen-free}
 use Rattle.rules.proofs.KeptTaken.{asking-killed, killed-granted}
-
-has-page : (page : ℕ) (c : Content) → isFilled c ≡ true → pageIn c ≡ page → hasPage page c ≡ true
-has-page page Empty f e = f
-has-page page (Filled p a d l) f e = eq-eqb p page e
 
 module _ (s : State) (row page : ℕ) (mode : Mode) (h : Sound s) (a : Asking s row) (p : page ≤ 4095) (m : mayAccess (levelOf row) page mode ≡ true) where
   wait-sound : Sound (waiting s row page mode .state)
@@ -144,5 +138,5 @@ module _ (s : State) (row page : ℕ) (mode : Mode) (h : Sound s) (a : Asking s 
       go Nowhere e = into e (chosen s row) refl
       go (At slot) e =
           let x = pick-is (λ i. hasPage page (slotAt s i .content)) (λ i o. false) (s .size) slot e in
-          let y = page-there page (slotAt s slot .content) (x .1) in
+          let y = page-has page (slotAt s slot .content) (x .1) in
           here-sound slot (omega (arith, x .0, h .size-most)) (y .0) (y .1)

@@ -6,10 +6,10 @@ use Prim.Native.Nat.{ℕ, _<_, _≤_}
 use Rattle.model.specs.declared.State.{State}
 use Rattle.model.specs.State.{fresh, slotAt}
 use Rattle.model.specs.Words.{hasPage}
+use Rattle.model.proofs.ContentLaws.{page-has}
 use Rattle.rules.specs.Sound.{sound}
 use Rattle.rules.specs.Run.{Call, after}
 use Rattle.rules.proofs.SoundFacts.{facts}
-use Rattle.rules.proofs.PageLaws.{page-has}
 use Rattle.rules.proofs.KeptFresh.{fresh-sound}
 use Rattle.rules.proofs.Kept.{run-sound}
 

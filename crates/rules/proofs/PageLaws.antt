@@ -1,38 +1,25 @@
 -- The slot that has a page, and the holdings on it, in a sound state and after each change.
 use mathlib.Core.Path.{_≡_, refl, sym, _∙_, ap}
-use mathlib.Core.Bool.{Bool, true, false, cond, _&&_, _||_, not}
-use Prim.Native.Nat.{ℕ, _+_, _*_, _<_, _≤_}
+use mathlib.Core.Bool.{Bool, true, false, cond}
+use Prim.Native.Nat.{ℕ, _<_, _≤_}
 use native.Mathlib.Omega.{arith}
-use native.Mathlib.Decide.{ℕ-discrete}
-use borrow.Author.Tests.{eqb-true, eq-eqb, ne-eqb}
-use lib.Dec.{leb, eqb}
 use Rattle.seq.specs.Below.{pickBelow, atFound}
 use Rattle.seq.specs.declared.Found.{Found}
 use Rattle.seq.specs.declared.Found.the-variants.{At, Nowhere}
-use Rattle.seq.proofs.Tests.{true-false, not-true-false}
-use Rattle.seq.proofs.PickLaws.{pick-is, pick-none, pick-some, none-pick, pick-same, at-nowhere, at-same}
+use Rattle.seq.proofs.Tests.{true-false}
+use Rattle.seq.proofs.PickLaws.{pick-is, pick-none, pick-same}
 use Rattle.model.specs.declared.Cause.{Cause}
-use Rattle.model.specs.declared.Content.{Content}
-use Rattle.model.specs.declared.Content.the-variants.{Empty, Filled}
 use Rattle.model.specs.declared.Holding.{Holding}
 use Rattle.model.specs.declared.Slot.{Slot}
 use Rattle.model.specs.declared.State.{State}
-use Rattle.model.specs.State.{emptySlot, emptyHolding, rowAt, slotAt, holdingAt, putRow, putSlot, putHolding}
-use Rattle.model.specs.Words.{isFilled, pageIn, hasPage, holds, slotOf}
-use Rattle.model.specs.Changes.{dirtied, dirtiedContent, released, killed, cleared}
-use Rattle.model.proofs.StateLaws.{Sized, holding-put, slot-put}
-use Rattle.model.proofs.ChangeLaws.{wroteSlot, released-holding, released-slot, killed-holding, killed-slot, cleared-holding}
-use Rattle.rules.proofs.SoundFacts.{Sound, SlotSound}
+use Rattle.model.specs.State.{emptyHolding, slotAt, holdingAt}
+use Rattle.model.specs.Words.{isFilled, pageIn, hasPage, isHeld, holds, slotOf}
+use Rattle.model.specs.Changes.{released, killed}
+use Rattle.model.proofs.StateLaws.{Sized}
+use Rattle.model.proofs.ChangeLaws.{wroteSlot, released-holding, released-slot, killed-holding, killed-slot}
+use Rattle.model.proofs.ContentLaws.{has-page, page-has, dirtied-page}
+use Rattle.rules.proofs.SoundFacts.{Sound}
 use Rattle.rules.proofs.Alike.{holdingOn}
-
--- a slot has a page if it is filled with it
-pub has-page : (page : ℕ) (c : Content) → isFilled c ≡ true → pageIn c ≡ page → hasPage page c ≡ true
-has-page page Empty f e = true-false (sym f)
-has-page page (Filled p arrival dirty lowest) f e = eq-eqb p page e
-
-pub page-has : (page : ℕ) (c : Content) → hasPage page c ≡ true → (isFilled c ≡ true) × (pageIn c ≡ page)
-page-has page Empty e = true-false (sym e)
-page-has page (Filled p arrival dirty lowest) e = (refl, eqb-true p page e)
 
 -- what the search found
 pub found-slot : (s : State) (page i : ℕ) → slotOf s page ≡ At i → (i < s .size) × (isFilled (slotAt s i .content) ≡ true) × (pageIn (slotAt s i .content) ≡ page)
@@ -56,6 +43,23 @@ finds s z page i b f e = go (slotOf s page) refl
         let k = found-slot s page j q in
         q ∙ ap At (z .one-slot j i (omega (arith, k .0, z .size-most)) b (k .1) f (k .2 ∙ sym e))
 
+-- the holding on a slot's page is the holding on the slot
+pub on-slot : (s : State) (page i r : ℕ) → slotOf s page ≡ At i → holdingOn s page r ≡ holdingAt s i r
+unfolding holdingOn
+on-slot s page i r e = rw e
+
+pub on-nowhere : (s : State) (page r : ℕ) → slotOf s page ≡ Nowhere → holdingOn s page r ≡ emptyHolding
+unfolding holdingOn
+on-nowhere s page r e = rw e
+
+-- a row that has a page has the slot that has it
+pub on-held : (s : State) (page r : ℕ) → isHeld (holdingOn s page r .pin) ≡ true → (i : ℕ) × (slotOf s page ≡ At i) × (holds s i r ≡ true)
+on-held s page r h = go (slotOf s page) refl
+  where
+    go : (f : Found) → slotOf s page ≡ f → (i : ℕ) × (slotOf s page ≡ At i) × (holds s i r ≡ true)
+    go Nowhere e = true-false (sym (sym (ap (λ (x : Holding). isHeld (x .pin)) (on-nowhere s page r e)) ∙ h))
+    go (At i) e = (i, e, sym (ap (λ (x : Holding). isHeld (x .pin)) (on-slot s page i r e)) ∙ h)
+
 -- two states with the same pages in their slots
 pub same-slot : (s t : State) (page : ℕ) → s .size ≡ t .size
     → ((i : ℕ) → i < s .size → hasPage page (slotAt s i .content) ≡ hasPage page (slotAt t i .content)) → slotOf s page ≡ slotOf t page
@@ -63,15 +67,6 @@ unfolding slotOf
 same-slot s t page n f =
     pick-same (λ slot. hasPage page (slotAt s slot .content)) (λ slot. hasPage page (slotAt t slot .content)) (λ x y. false) (λ x y. false) (s .size) f (λ i j h k p q. refl)
     ∙ ap (λ (m : ℕ). pickBelow m (λ slot. hasPage page (slotAt t slot .content)) (λ x y. false)) n
-
-dirtied-page : (page : ℕ) (b : Bool) (x : Slot) → hasPage page (cond b (dirtied x) x .content) ≡ hasPage page (x .content)
-unfolding dirtied
-dirtied-page page false x = refl
-dirtied-page page true x = go (x .content)
-  where
-    go : (c : Content) → hasPage page (dirtiedContent c) ≡ hasPage page c
-    go Empty = refl
-    go (Filled p arrival dirty lowest) = refl
 
 module _ (some : ℕ → Bool) (s : State) (z : Sized s) (most : s .size ≤ 64) where
   pub killed-slot-of : (cause : Cause) (page : ℕ) → slotOf (killed some cause s) page ≡ slotOf s page

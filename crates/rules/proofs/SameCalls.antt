@@ -1,5 +1,5 @@
 -- Begin, end, tick, look, view and count on two states alike for L, by a level up to L: the same answer, and alike states.
-use mathlib.Core.Path.{_≡_, refl, sym, _∙_, ap}
+use mathlib.Core.Path.{_≡_, refl, _∙_, ap}
 use mathlib.Core.Bool.{Bool, true, false, _&&_}
 use Prim.Native.Nat.{ℕ, _+_, _<_, _≤_}
 use native.Mathlib.Omega.{arith}
@@ -25,19 +25,11 @@ use Rattle.rules.specs.Answers.{told}
 use Rattle.rules.specs.Calls.{begun, ended, deliveredRow, deliveredRows, isLate, lateKilled, advanced, ticked, looked, lookedAt, viewedIn, viewed, counted}
 use Rattle.rules.specs.Refusals.{beginRefusal, endRefusal, tickRefusal, lookRefusal, viewRefusal, countRefusal}
 use Rattle.rules.proofs.SoundFacts.{Sound}
-use Rattle.rules.proofs.Alike.{holdingOn, Alike}
+use Rattle.rules.proofs.Alike.{holdingOn, Alike, Same}
 use Rattle.rules.proofs.SamePages.{same-seen, same-strongest, same-least}
-use Rattle.rules.proofs.SameChanges.{Same, same-unless, same-put-row, same-killed, same-released}
+use Rattle.rules.proofs.SameChanges.{same-unless, same-put-row, same-killed, same-released}
 use Rattle.rules.proofs.SameRefusals.{same-tick-refusal, own-row, same-begin-refusal, same-end-refusal, begin-passed, end-passed, look-passed}
-
-pub alike-sym : (L : ℕ) (s t : State) → Alike L s t → Alike L t s
-alike-sym L s t a = record {
-  size = sym (a .size);
-  delay = sym (a .delay);
-  clock = sym (a .clock);
-  row = λ r h l. sym (a .row r h l);
-  holding = λ page r h l. sym (a .holding page r h l);
-}
+use Rattle.rules.proofs.AlikeLaws.{alike-sym}
 
 -- levels up to 2 see no dormant page
 pub no-dormant : (s : State) (level slot : ℕ) → level ≤ 2 → seesDormant s level slot ≡ false
@@ -151,7 +143,7 @@ module _ (L : ℕ) (s t : State) (y : Sound s) (z : Sound t) (alike : Alike L s 
         go : (f g : Found) → slotOf s page ≡ f → slotOf t page ≡ g → viewedIn (slotOf s page) s level ≡ viewedIn (slotOf t page) t level
         go Nowhere Nowhere p q = rw (p, q)
         go (At i) Nowhere p q = rw (p, q, unseen L s t alike page i p q level low, no-dormant s level i (omega arith))
-        go Nowhere (At j) p q = rw (p, q, unseen L t s (alike-sym L s t alike) page j q p level low, no-dormant t level j (omega arith))
+        go Nowhere (At j) p q = rw (p, q, unseen L t s (alike-sym alike) page j q p level low, no-dormant t level j (omega arith))
         go (At i) (At j) p q = rw (p, q) (both i j p q)
 
     pub same-viewed : (page : ℕ) → Same L (viewed s level page) (viewed t level page)

@@ -5,9 +5,8 @@ use Prim.Native.Nat.{ℕ, _<_, _≤_}
 use native.Mathlib.Omega.{arith}
 use borrow.Author.Tests.{leb-true}
 use lib.Dec.{leb, ltb}
-use Rattle.seq.specs.declared.Found.{Found}
-use Rattle.seq.specs.declared.Found.the-variants.{At, Nowhere}
-use Rattle.seq.proofs.Tests.{true-false, and-left, and-when}
+use Rattle.seq.specs.declared.Found.the-variants.{At}
+use Rattle.seq.proofs.Tests.{and-left, and-when}
 use Rattle.seq.proofs.BelowLaws.{any-same}
 use Rattle.seq.proofs.PickLaws.{picked-same}
 use Rattle.model.specs.declared.Mode.{Mode}
@@ -15,22 +14,10 @@ use Rattle.model.specs.declared.Pin.the-variants.{Absent}
 use Rattle.model.specs.declared.State.{State}
 use Rattle.model.specs.Parties.{levelOf}
 use Rattle.model.specs.State.{holdingAt}
-use Rattle.model.specs.Words.{isHeld, holds, strength, seenHolder, seen, outranks, strongestPin, leastArrival, slotOf}
+use Rattle.model.specs.Words.{holds, strength, seenHolder, seen, outranks, strongestPin, leastArrival, slotOf}
 use Rattle.rules.specs.Calls.{conflicts, mustWait}
-use Rattle.rules.proofs.Alike.{holdingOn, Alike}
-
--- a page that a row holds is in a slot
-pub held-found : (s : State) (page r : ℕ) → isHeld (holdingOn s page r .pin) ≡ true → (i : ℕ) × (slotOf s page ≡ At i)
-unfolding holdingOn
-held-found s page r h = go (slotOf s page) refl
-  where
-    go : (f : Found) → slotOf s page ≡ f → (i : ℕ) × (slotOf s page ≡ At i)
-    go Nowhere e = true-false (sym (rw e at h))
-    go (At i) e = (i, e)
-
-pub on-slot : (s : State) (page i r : ℕ) → slotOf s page ≡ At i → holdingOn s page r ≡ holdingAt s i r
-unfolding holdingOn
-on-slot s page i r e = rw e
+use Rattle.rules.proofs.Alike.{Alike}
+use Rattle.rules.proofs.PageLaws.{on-slot}
 
 module _ (L : ℕ) (s t : State) (alike : Alike L s t) where
   pub same-rank : (r q : ℕ) → r < 32 → q < 32 → levelOf r ≤ L → levelOf q ≤ L → outranks s r q ≡ outranks t r q

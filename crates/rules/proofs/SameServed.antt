@@ -14,10 +14,10 @@ use Rattle.model.specs.Changes.{killed}
 use Rattle.model.proofs.ChangeLaws.{sized-killed}
 use Rattle.rules.specs.Calls.{conflicts, mustWait, waiting, granted, step1, step3, servedAt, served}
 use Rattle.rules.proofs.SoundFacts.{Sound}
-use Rattle.rules.proofs.Alike.{holdingOn, Alike}
-use Rattle.rules.proofs.PageLaws.{found-slot, killed-slot-of}
-use Rattle.rules.proofs.SamePages.{held-found, same-conflicts, same-seen, same-least, same-must-wait}
-use Rattle.rules.proofs.SameChanges.{Same, same-waiting, same-granted, same-killed}
+use Rattle.rules.proofs.Alike.{holdingOn, Alike, Same}
+use Rattle.rules.proofs.PageLaws.{found-slot, killed-slot-of, on-held}
+use Rattle.rules.proofs.SamePages.{same-conflicts, same-seen, same-least, same-must-wait}
+use Rattle.rules.proofs.SameChanges.{same-waiting, same-granted, same-killed}
 use Rattle.rules.proofs.SameCalls.{no-dormant}
 
 module _ (L : ℕ) (s t : State) (y : Sound s) (z : Sound t) (alike : Alike L s t) (me page : ℕ) (mode : Mode) (h : me < 32) (l : levelOf me ≤ L) where
@@ -61,6 +61,6 @@ module _ (L : ℕ) (s t : State) (y : Sound s) (z : Sound t) (alike : Alike L s 
   pub same-served : L ≤ 2 → (r : ℕ) → r < 32 → levelOf r ≤ L → isHeld (holdingOn s page r .pin) ≡ true → Same L (served s me page mode) (served t me page mode)
   unfolding served
   same-served two r k m e =
-      let fs = held-found s page r e in
-      let ft = held-found t page r (rw (alike .holding page r k m) at e) in
+      let fs = on-held s page r e in
+      let ft = on-held t page r (rw (alike .holding page r k m) at e) in
       rw (fs .1, ft .1) (same-served-at (fs .0) (ft .0) (fs .1) (ft .1) two)

@@ -5,7 +5,7 @@ use Prim.Native.Nat.{ℕ, _<_, _≤_}
 use native.Mathlib.Omega.{arith}
 use borrow.Author.Tests.{leb-true, le-leb}
 use lib.Dec.{leb}
-use Rattle.seq.specs.Below.{anyBelow, countBelow}
+use Rattle.seq.specs.Below.{anyBelow}
 use Rattle.seq.proofs.Tests.{true-false, and-true, not-true-false, both-true}
 use Rattle.seq.proofs.BelowLaws.{any-none, any-hit}
 use Rattle.model.specs.declared.Condition.{Condition}
@@ -14,16 +14,15 @@ use Rattle.model.specs.declared.Mode.{Mode}
 use Rattle.model.specs.declared.State.{State}
 use Rattle.model.specs.Parties.{rowOf, levelOf, modeOf}
 use Rattle.model.specs.State.{rowAt}
-use Rattle.model.specs.Words.{isLive, isHeld, isOpen}
-use Rattle.rules.specs.Answers.{told}
+use Rattle.model.specs.Words.{isLive, isHeld}
 use Rattle.rules.specs.Calls.{served, requested, servedAgain, retried}
 use Rattle.rules.specs.Refusals.{isWaiting, requestRefusal, retryRefusal}
 use Rattle.rules.specs.Run.{Call, start, begin, request, retry, unpin, end, tick, look, view, count, outcome}
 use Rattle.rules.specs.Secrecy.{isKept}
 use Rattle.rules.specs.Sound.{sound}
 use Rattle.rules.proofs.SoundFacts.{Sound, RowSound, facts}
-use Rattle.rules.proofs.Alike.{holdingOn, Alike}
-use Rattle.rules.proofs.SameChanges.{Same, same-unless}
+use Rattle.rules.proofs.Alike.{holdingOn, Alike, Same}
+use Rattle.rules.proofs.SameChanges.{same-unless}
 use Rattle.rules.proofs.SameRefusals.{own-condition, same-request-refusal, same-retry-refusal, request-passed, retry-passed}
 use Rattle.rules.proofs.SameCalls.{same-begun, same-ended, same-ticked, same-looked, same-viewed, same-counted}
 use Rattle.rules.proofs.SameUnpin.{same-unpinned}
@@ -78,7 +77,7 @@ module _ (L : ℕ) (s t : State) (two : L ≤ 2) (y : Sound s) (z : Sound t) (al
       rw (← own-condition L s t alike two level number low (p .0)) (again (rowAt s (rowOf level number) .condition) (p .0) refl (p .1)))
 
 pub same-step : (L : ℕ) (s t : State) (c : Call) → L ≤ 2 → sound s ≡ true → sound t ≡ true → Alike L s t → isKept L c ≡ true
-    → (told (outcome s c .answer) ≡ told (outcome t c .answer)) × Alike L (outcome s c .state) (outcome t c .state)
+    → Same L (outcome s c) (outcome t c)
 unfolding outcome isKept
 same-step L s t (start slots delay) two y z a k = true-false (sym k)
 same-step L s t (begin level number deadline) two y z a k = same-begun L s t (facts s y) (facts t z) a two level (leb-true level L k) number deadline

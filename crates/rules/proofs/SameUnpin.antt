@@ -1,6 +1,6 @@
 -- Unpin on two states alike for L, by a level up to L.
 use mathlib.Core.Path.{_≡_, refl, sym, _∙_, ap}
-use mathlib.Core.Bool.{Bool, true, false, cond, _&&_}
+use mathlib.Core.Bool.{Bool, true, cond, _&&_}
 use Prim.Native.Nat.{ℕ, _<_, _≤_}
 use native.Mathlib.Omega.{arith}
 use native.Mathlib.Decide.{ℕ-discrete}
@@ -11,25 +11,24 @@ use Rattle.seq.specs.declared.Found.{Found}
 use Rattle.seq.specs.declared.Found.the-variants.{At, Nowhere}
 use Rattle.seq.proofs.PickLaws.{at-nowhere, at-same}
 use Rattle.model.specs.declared.Answer.the-variants.{Unpinned}
-use Rattle.model.specs.declared.Content.{Content}
-use Rattle.model.specs.declared.Content.the-variants.{Empty, Filled}
 use Rattle.model.specs.declared.Holding.{Holding}
 use Rattle.model.specs.declared.Pin.{Pin}
 use Rattle.model.specs.declared.Pin.the-variants as Pin
-use Rattle.model.specs.declared.Slot.{Slot}
 use Rattle.model.specs.declared.State.{State}
 use Rattle.model.specs.Parties.{rowOf, levelOf}
 use Rattle.model.specs.State.{emptyHolding, slotAt, holdingAt}
-use Rattle.model.specs.Words.{pageIn, hasPage, isHeld, isPin, slotOf}
-use Rattle.model.specs.Changes.{written, dirtied, dirtiedContent}
+use Rattle.model.specs.Words.{pageIn, hasPage, isHeld, slotOf}
+use Rattle.model.specs.Changes.{written, dirtied}
 use Rattle.model.proofs.StateLaws.{Sized, slot-put, holding-put}
+use Rattle.model.proofs.ContentLaws.{dirtied-page}
+use Rattle.model.proofs.PinLaws.{pin-held}
 use Rattle.rules.specs.Calls.{unpinnedAt, unpinned}
 use Rattle.rules.specs.Refusals.{pinsPage, unpinRefusal}
 use Rattle.rules.proofs.SoundFacts.{Sound}
-use Rattle.rules.proofs.Alike.{holdingOn, Alike}
-use Rattle.rules.proofs.PageLaws.{found-slot, same-slot}
-use Rattle.rules.proofs.SamePages.{held-found, same-holding}
-use Rattle.rules.proofs.SameChanges.{Same, same-unless}
+use Rattle.rules.proofs.Alike.{holdingOn, Alike, Same}
+use Rattle.rules.proofs.PageLaws.{found-slot, same-slot, on-held}
+use Rattle.rules.proofs.SamePages.{same-holding}
+use Rattle.rules.proofs.SameChanges.{same-unless}
 use Rattle.rules.proofs.SameRefusals.{pins-on, same-unpin-refusal, unpin-passed}
 
 -- one holding replaced in the slot of a page, and no page moved: the holdings on each page
@@ -48,15 +47,6 @@ put-on s u row slot page x found still f other q h = rw (still other) (go (slotO
           | yes m ↦ eq-eqb i slot (at-same (sym e ∙ ap (slotOf s) m ∙ found)) ∙ sym (eq-eqb other page m)
           | no m ↦ ne-eqb i slot (λ w. m (sym (found-slot s other i e .2) ∙ ap (λ (k : ℕ). pageIn (slotAt s k .content)) w ∙ found-slot s page slot found .2)) ∙ sym (ne-eqb other page m)
         ]
-
-dirtied-page : (page : ℕ) (b : Bool) (x : Slot) → hasPage page (cond b (dirtied x) x .content) ≡ hasPage page (x .content)
-unfolding dirtied
-dirtied-page page false x = refl
-dirtied-page page true x = go (x .content)
-  where
-    go : (c : Content) → hasPage page (dirtiedContent c) ≡ hasPage page c
-    go Empty = refl
-    go (Filled p arrival dirty lowest) = refl
 
 abbrev unpinnedHolding : Holding → Holding
 unpinnedHolding h = record { pin = Pin.Unpinned; arrival = h .arrival; touch = h .touch }
@@ -99,12 +89,6 @@ same-unpinned-at L s t y z alike row page i j r l at-s at-t =
           );
     }
 
-pin-held : (p : Pin) → isPin p ≡ true → isHeld p ≡ true
-pin-held Pin.Absent e = e
-pin-held Pin.Unpinned e = refl
-pin-held Pin.Read e = refl
-pin-held Pin.Write e = refl
-
 pub same-unpinned : (L : ℕ) (s t : State) → L ≤ 2 → Sound s → Sound t → Alike L s t → (level number page : ℕ) → level ≤ L → Same L (unpinned s level number page) (unpinned t level number page)
 unfolding unpinned
 same-unpinned L s t two y z alike level number page low =
@@ -122,6 +106,6 @@ same-unpinned L s t two y z alike level number page low =
         let l : levelOf (rowOf level number) ≤ L = omega arith in
         let p : isHeld (holdingOn s page (rowOf level number) .pin) ≡ true = pin-held (holdingOn s page (rowOf level number) .pin) (sym (pins-on s (rowOf level number) page) ∙ h .1) in
         let q : isHeld (holdingOn t page (rowOf level number) .pin) ≡ true = rw (alike .holding page (rowOf level number) r l) at p in
-        let fs = held-found s page (rowOf level number) p in
-        let ft = held-found t page (rowOf level number) q in
+        let fs = on-held s page (rowOf level number) p in
+        let ft = on-held t page (rowOf level number) q in
         rw (fs .1, ft .1) (same-unpinned-at L s t y z alike (rowOf level number) page (fs .0) (ft .0) r l (fs .1) (ft .1))

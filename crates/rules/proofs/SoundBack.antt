@@ -3,11 +3,11 @@ use mathlib.Core.Path.{_≡_, refl, sym}
 use mathlib.Core.Bool.{Bool, true, false, _&&_, _||_, not}
 use Prim.Native.Nat.{ℕ, _+_, _<_, _≤_}
 use native.Mathlib.Omega.{arith}
-use borrow.Author.Tests.{eqb-true, lt-ltb, le-leb, eq-eqb, lt-leb}
+use borrow.Author.Tests.{lt-ltb, le-leb, eq-eqb, lt-leb}
 use lib.Dec.{leb, ltb}
 use lib.ListN.{length}
 use Rattle.seq.specs.Below.{allBelow, countBelow}
-use Rattle.seq.proofs.Tests.{true-false, and-true, both-true, not-true-false, or-true-right}
+use Rattle.seq.proofs.Tests.{and-true, both-true, not-true-false, or-true-right}
 use Rattle.seq.proofs.BelowLaws.{each-all, one-count}
 use Rattle.model.specs.declared.Condition.{Condition}
 use Rattle.model.specs.declared.Condition.the-variants.{Free, Idle, Fetching, Waiting, Killed}
@@ -17,16 +17,12 @@ use Rattle.model.specs.declared.State.{State}
 use Rattle.model.specs.Parties.{levelOf, lastClock, isPast}
 use Rattle.model.specs.State.{rowAt, slotAt, holdingAt}
 use Rattle.model.specs.Words.{isFilled, pageIn, arrivalIn, lowestIn, hasPage, holds, conflict}
+use Rattle.model.proofs.ContentLaws.{page-has}
 use Rattle.rules.specs.Sound.{soundNumbers, arrived, awaits, soundContent, soundSlot, samePage, soundPages, soundCondition, soundRow, soundHolding, soundPins, sound}
 use Rattle.rules.proofs.SoundFacts.{SlotSound, Settled, RowSound, Sound}
 
 false-not : (b : Bool) → b ≡ false → not b ≡ true
 false-not b e = rw e
-
--- a content with the page is filled, and the page is its page
-pub page-there : (page : ℕ) (c : Content) → hasPage page c ≡ true → (isFilled c ≡ true) × (pageIn c ≡ page)
-page-there page Empty e = true-false (sym e)
-page-there page (Filled p a x l) e = (refl, eqb-true p page e)
 
 slot-back : (s : State) (i : ℕ) → SlotSound s i → soundSlot s i ≡ true
 unfolding soundSlot
@@ -53,7 +49,7 @@ pages-back s h =
     (λ j b. false-not (isFilled (slotAt s i .content) && hasPage (pageIn (slotAt s i .content)) (slotAt s j .content))
     (not-true-false (isFilled (slotAt s i .content) && hasPage (pageIn (slotAt s i .content)) (slotAt s j .content)) (λ e.
     let f = and-true (isFilled (slotAt s i .content)) (hasPage (pageIn (slotAt s i .content)) (slotAt s j .content)) e in
-    let g = page-there (pageIn (slotAt s i .content)) (slotAt s j .content) (f .1) in
+    let g = page-has (pageIn (slotAt s i .content)) (slotAt s j .content) (f .1) in
     omega (arith, h .one-slot i j a (omega arith) (f .0) (g .0) (sym (g .1)))))))
 
 arrived-back : (s : State) (i r : ℕ) → (holds s i r ≡ true → holdingAt s i r .arrival ≤ s .clock) → arrived s i r ≡ true

@@ -1,15 +1,15 @@
 -- What sound says of a state, as facts; and that these facts are all that it says.
-use mathlib.Core.Path.{_≡_, refl, sym, _∙_, ap, subst}
-use mathlib.Core.Bool.{Bool, true, false, cond, _&&_, _||_, not}
-use Prim.Native.Nat.{ℕ, zero, suc, _+_, _<_, _≤_}
+use mathlib.Core.Path.{_≡_, refl, sym, _∙_}
+use mathlib.Core.Bool.{Bool, true, false, _&&_, _||_, not}
+use Prim.Native.Nat.{ℕ, _+_, _<_, _≤_}
 use native.Mathlib.Omega.{arith}
 use native.Mathlib.Decide.{ℕ-discrete, decLt}
-use borrow.Author.Tests.{ltb-true, leb-true, eqb-true, ltb-false, leb-false, lt-ltb, le-leb, eq-eqb, lt-leb, le-ltb, not-true, not-false}
-use lib.Dec.{leb, ltb, eqb}
+use borrow.Author.Tests.{ltb-true, leb-true, eqb-true, leb-false, not-true}
+use lib.Dec.{ltb, eqb}
 use lib.ListN.{length}
 use Rattle.seq.specs.Below.{allBelow, countBelow}
-use Rattle.seq.proofs.Tests.{true-false, parts, and-true, both-true, not-true-false, or-true-right}
-use Rattle.seq.proofs.BelowLaws.{all-each, each-all, One, count-one, one-count}
+use Rattle.seq.proofs.Tests.{true-false, parts, and-true, both-true}
+use Rattle.seq.proofs.BelowLaws.{all-each, One, count-one}
 use Rattle.model.specs.declared.Condition.{Condition}
 use Rattle.model.specs.declared.Condition.the-variants.{Free, Idle, Fetching, Waiting, Killed}
 use Rattle.model.specs.declared.Content.{Content}
@@ -19,9 +19,11 @@ use Rattle.model.specs.declared.Pin.the-variants.{Absent, Unpinned, Read, Write
 use Rattle.model.specs.declared.Holding.{Holding}
 use Rattle.model.specs.declared.State.{State}
 use Rattle.model.specs.Parties.{levelOf, mayAccess, lastClock, isPast}
-use Rattle.model.specs.State.{emptySlot, emptyHolding, rowAt, slotAt, holdingAt}
-use Rattle.model.specs.Words.{isLive, isFilled, pageIn, arrivalIn, lowestIn, hasPage, isHeld, holds, pins, conflict}
+use Rattle.model.specs.State.{emptyHolding, rowAt, slotAt, holdingAt}
+use Rattle.model.specs.Words.{isLive, isFilled, pageIn, arrivalIn, lowestIn, hasPage, isHeld, holds, conflict}
 use Rattle.model.proofs.StateLaws.{Sized}
+use Rattle.model.proofs.ContentLaws.{has-page}
+use Rattle.model.proofs.PinLaws.{conflict-comm}
 use Rattle.rules.specs.Sound.{soundNumbers, pinAllowed, arrived, awaits, soundContent, soundSlot, samePage, soundPages, soundCondition, soundRow, soundHolding, soundPins, sound}
 
 -- a slot
@@ -77,25 +79,6 @@ pub record Sound (s : State) : Type 0 where
   pub no-conflict : (i r q : ℕ) → i < 64 → r < 32 → q < 32 → (r ≡ q → ⊥) → conflict (holdingAt s i r .pin) (holdingAt s i q .pin) ≡ false
 
 -- ---- from the test to the facts
-
-conflict-sym : (p q : Pin) → conflict p q ≡ conflict q p
-unfolding conflict
-conflict-sym Absent Absent = refl
-conflict-sym Absent Unpinned = refl
-conflict-sym Absent Read = refl
-conflict-sym Absent Write = refl
-conflict-sym Unpinned Absent = refl
-conflict-sym Unpinned Unpinned = refl
-conflict-sym Unpinned Read = refl
-conflict-sym Unpinned Write = refl
-conflict-sym Read Absent = refl
-conflict-sym Read Unpinned = refl
-conflict-sym Read Read = refl
-conflict-sym Read Write = refl
-conflict-sym Write Absent = refl
-conflict-sym Write Unpinned = refl
-conflict-sym Write Read = refl
-conflict-sym Write Write = refl
 
 slot-facts : (s : State) (i : ℕ) → soundSlot s i ≡ true → SlotSound s i
 unfolding soundSlot
@@ -196,14 +179,6 @@ pairs P sy n f i j a b m = elim (decLt j i) [
   | no h ↦ sy j i (f j i b (let k = m in elim (ℕ-discrete i j) [ yes e ↦ absurd (k e) | no e ↦ omega arith ]))
 ]
 
-has-page : (c d : Content) → isFilled d ≡ true → pageIn c ≡ pageIn d → hasPage (pageIn c) d ≡ true
-has-page c Empty f e = true-false (sym f)
-has-page c (Filled p a x l) f e = eq-eqb p (pageIn c) (sym e)
-
-has-page-back : (n : ℕ) (d : Content) → hasPage n d ≡ true → (isFilled d ≡ true) × (pageIn d ≡ n)
-has-page-back n Empty e = true-false (sym e)
-has-page-back n (Filled p a x l) e = (refl, eqb-true p n e)
-
 pages-facts : (s : State) → soundPages s ≡ true → (i j : ℕ) → i < 64 → j < 64 → isFilled (slotAt s i .content) ≡ true → isFilled (slotAt s j .content) ≡ true
     → pageIn (slotAt s i .content) ≡ pageIn (slotAt s j .content) → i ≡ j
 unfolding soundPages samePage
@@ -214,7 +189,7 @@ pages-facts s e i j a b f g q = elim (ℕ-discrete i j) [
       (λ x y c d u v w.
       let k = all-each (λ other. not (isFilled (slotAt s x .content) && hasPage (pageIn (slotAt s x .content)) (slotAt s other .content))) x y
       (all-each (λ slot. allBelow slot (λ other. not (isFilled (slotAt s slot .content) && hasPage (pageIn (slotAt s slot .content)) (slotAt s other .content)))) 64 x e c) d in
-      true-false (sym (both-true u (has-page (slotAt s x .content) (slotAt s y .content) v w)) ∙ not-true (isFilled (slotAt s x .content) && hasPage (pageIn (slotAt s x .content)) (slotAt s y .content)) k))
+      true-false (sym (both-true u (has-page (pageIn (slotAt s x .content)) (slotAt s y .content) v (sym w))) ∙ not-true (isFilled (slotAt s x .content) && hasPage (pageIn (slotAt s x .content)) (slotAt s y .content)) k))
       i j a b m f g q)
 ]
 
@@ -222,7 +197,7 @@ pins-facts : (s : State) (i : ℕ) → soundPins s i ≡ true → (r q : ℕ) �
 unfolding soundPins
 pins-facts s i e r q a b m =
     pairs (λ x y. conflict (holdingAt s i x .pin) (holdingAt s i y .pin) ≡ false)
-    (λ x y h. conflict-sym (holdingAt s i y .pin) (holdingAt s i x .pin) ∙ h) 32
+    (λ x y h. conflict-comm (holdingAt s i y .pin) (holdingAt s i x .pin) ∙ h) 32
     (λ x y c d. not-true (conflict (holdingAt s i x .pin) (holdingAt s i y .pin)) (all-each (λ other. not (conflict (holdingAt s i x .pin) (holdingAt s i other .pin))) x y
     (all-each (λ row. allBelow row (λ other. not (conflict (holdingAt s i row .pin) (holdingAt s i other .pin)))) 32 x e c) d))
     r q a b m

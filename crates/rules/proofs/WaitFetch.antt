@@ -21,12 +21,13 @@ use Rattle.model.specs.declared.State.{State}
 use Rattle.model.specs.Parties.{levelOf}
 use Rattle.model.specs.State.{rowAt, slotAt, holdingAt}
 use Rattle.model.specs.Words.{isFilled, hasPage, pinOf, conflict, holds, seenHolder, seen, dormant, outranks, slotOf}
+use Rattle.model.proofs.ContentLaws.{has-page, page-has}
 use Rattle.rules.specs.Sound.{sound}
 use Rattle.rules.specs.Choice.{orElse, stepA, stepB, beforeDormant, heldAbove, holderLevel, highestLevel, pinnedAt, inC, inD, beforeHeld, stepHeld, chosen}
 use Rattle.rules.specs.Calls.{granted, conflicts, mustWait, served}
 use Rattle.rules.specs.Run.{Call, outcome}
 use Rattle.rules.proofs.SoundFacts.{Sound, facts}
-use Rattle.rules.proofs.PageLaws.{has-page, page-has, found-slot, not-found}
+use Rattle.rules.proofs.PageLaws.{found-slot, not-found}
 use Rattle.rules.proofs.CallCases.{Asks, isServed, Effect, stays, starts, begins, unpins, ends, ticks, serves, effect}
 use Rattle.rules.proofs.ServeCases.{Serving, waits, waits-g, joins, fills, serving}
 use Rattle.rules.proofs.Granting.{Grant, grant, granted-answer, grant-fetch}
