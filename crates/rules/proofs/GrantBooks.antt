@@ -16,15 +16,16 @@ use Rattle.model.specs.declared.Pin.the-variants.{Absent, Unpinned, Read, Write
 use Rattle.model.specs.declared.Slot.{Slot}
 use Rattle.model.specs.declared.State.{State}
 use Rattle.model.specs.Parties.{levelOf}
-use Rattle.model.specs.State.{slotAt, holdingAt, putSlot}
+use Rattle.model.specs.State.{slotAt, holdingAt}
 use Rattle.model.specs.Words.{hasPage, dirtyIn, isHeld, isWrite, pinOf, stronger, holds}
-use Rattle.model.specs.Changes.{written, dirtied}
-use Rattle.model.proofs.StateLaws.{Sized, slot-put, holding-put, sized-put-slot}
+use Rattle.model.specs.Changes.{written}
+use Rattle.model.proofs.StateLaws.{Sized}
 use Rattle.model.proofs.BookLaws.{Booked}
 use Rattle.model.proofs.ContentLaws.{dirtied-page, dirtied-stays, dirtied-is}
 use Rattle.model.proofs.PinLaws.{write-held}
 use Rattle.rules.specs.Calls.{heldWith, unpinnedAt, granted}
 use Rattle.rules.proofs.GrantLaws.{grantedSlot, grantedHolding, granted-slot, granted-holding, lowest-page, lowest-dirty}
+use Rattle.rules.proofs.UnpinLaws.{unpinnedHolding, unpinnedSlot, unpinned-holding, unpinned-slot}
 
 -- ---- the holding that a grant puts
 
@@ -91,37 +92,23 @@ module _ (u : State) (z : Sized u) (row slot : ℕ) (r : row < 32) (b : slot < 6
 -- ---- unpin
 
 module _ (s : State) (z : Sized s) (row slot : ℕ) (r : row < 32) (b : slot < 64) where
-  abbrev marked : Slot
-  marked = cond (written (s .clock) (holdingAt s slot row)) (dirtied (slotAt s slot)) (slotAt s slot)
-
-  abbrev loose : Holding
-  loose = record { pin = Unpinned; arrival = holdingAt s slot row .arrival; touch = holdingAt s slot row .touch }
-
-  unpinned-holding : (i q : ℕ) → q < 32 → holdingAt (unpinnedAt s row slot) i q ≡ cond (eqb i slot && eqb q row) loose (holdingAt s i q)
-  unfolding unpinnedAt
-  unpinned-holding i q h = holding-put (putSlot s slot marked) (sized-put-slot s z slot marked) slot row loose i q b r h
-
-  unpinned-slot : (i : ℕ) → slotAt (unpinnedAt s row slot) i ≡ cond (eqb i slot) marked (slotAt s i)
-  unfolding unpinnedAt
-  unpinned-slot i = slot-put s z slot marked i b
-
   pub unpinned-holds : (i q : ℕ) → q < 32 → holds s i q ≡ true → holds (unpinnedAt s row slot) i q ≡ true
-  unpinned-holds i q h e = ap (λ (x : Holding). isHeld (x .pin)) (unpinned-holding i q h) ∙ go (eqb i slot && eqb q row)
+  unpinned-holds i q h e = ap (λ (x : Holding). isHeld (x .pin)) (unpinned-holding s z row slot r b i q h) ∙ go (eqb i slot && eqb q row)
     where
-      go : (own : Bool) → isHeld (cond own loose (holdingAt s i q) .pin) ≡ true
+      go : (own : Bool) → isHeld (cond own (unpinnedHolding (holdingAt s slot row)) (holdingAt s i q) .pin) ≡ true
       go true = refl
       go false = e
 
   pub unpinned-booked : (page i : ℕ) → Booked (s .clock) page s (unpinnedAt s row slot) i
   unpinned-booked page i = record {
-    has-it = λ h. rw (unpinned-slot i) (put-or-old (λ x. hasPage page (x .content) ≡ true) i slot marked (slotAt s i) h (λ m. dirtied-page page (written (s .clock) (holdingAt s slot row)) (slotAt s slot) ∙ (rw m at h)));
-    dirty = λ h. rw (unpinned-slot i) (put-or-old (λ x. dirtyIn (x .content) ≡ true) i slot marked (slotAt s i) h (λ m. dirtied-stays (written (s .clock) (holdingAt s slot row)) (slotAt s slot) (rw m at h)));
+    has-it = λ h. rw (unpinned-slot s z row slot r b i) (put-or-old (λ x. hasPage page (x .content) ≡ true) i slot (unpinnedSlot s row slot) (slotAt s i) h (λ m. dirtied-page page (written (s .clock) (holdingAt s slot row)) (slotAt s slot) ∙ (rw m at h)));
+    dirty = λ h. rw (unpinned-slot s z row slot r b i) (put-or-old (λ x. dirtyIn (x .content) ≡ true) i slot (unpinnedSlot s row slot) (slotAt s i) h (λ m. dirtied-stays (written (s .clock) (holdingAt s slot row)) (slotAt s slot) (rw m at h)));
     wrote = λ h q m w. go h q m w (eqb i slot) (eqb q row) refl refl;
   }
     where
       go : hasPage page (slotAt s i .content) ≡ true → (q : ℕ) → q < 32 → written (s .clock) (holdingAt s i q) ≡ true → (a c : Bool) → eqb i slot ≡ a → eqb q row ≡ c
           → (written (s .clock) (holdingAt (unpinnedAt s row slot) i q) ≡ true) ⊎ (dirtyIn (slotAt (unpinnedAt s row slot) i .content) ≡ true)
       go h q m w true true x y =
-          inr (rw (unpinned-slot i, x) (rw (rw (eqb-true i slot x, eqb-true q row y) at w) (dirtied-is page (slotAt s slot) (rw (eqb-true i slot x) at h))))
-      go h q m w true false x y = inl (rw (unpinned-holding i q m, x, y) w)
-      go h q m w false c x y = inl (rw (unpinned-holding i q m, x) w)
+          inr (rw (unpinned-slot s z row slot r b i, x) (rw (rw (eqb-true i slot x, eqb-true q row y) at w) (dirtied-is page (slotAt s slot) (rw (eqb-true i slot x) at h))))
+      go h q m w true false x y = inl (rw (unpinned-holding s z row slot r b i q m, x, y) w)
+      go h q m w false c x y = inl (rw (unpinned-holding s z row slot r b i q m, x) w)

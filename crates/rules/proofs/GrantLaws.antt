@@ -2,13 +2,9 @@
 use mathlib.Core.Path.{_≡_, refl, sym, _∙_, ap}
 use mathlib.Core.Bool.{Bool, true, false, cond, _&&_}
 use Prim.Native.Nat.{ℕ, _<_}
-use native.Mathlib.Omega.{arith}
-use native.Mathlib.Decide.{ℕ-discrete}
-use borrow.Author.Tests.{eqb-true, eq-eqb, ne-eqb}
+use borrow.Author.Tests.{eqb-true}
 use lib.Dec.{leb, eqb}
-use Rattle.seq.specs.Below.{atFound}
-use Rattle.seq.specs.declared.Found.{Found}
-use Rattle.seq.specs.declared.Found.the-variants.{At, Nowhere}
+use Rattle.seq.specs.declared.Found.the-variants.{At}
 use Rattle.model.specs.declared.Back.{Back}
 use Rattle.model.specs.declared.Mode.{Mode}
 use Rattle.model.specs.declared.Condition.the-variants.{Idle, Fetching}
@@ -19,12 +15,12 @@ use Rattle.model.specs.declared.Slot.{Slot}
 use Rattle.model.specs.declared.Holding.{Holding}
 use Rattle.model.specs.declared.State.{State}
 use Rattle.model.specs.Parties.{levelOf}
-use Rattle.model.specs.State.{emptyHolding, rowAt, slotAt, holdingAt}
-use Rattle.model.specs.Words.{pageIn, hasPage, dirtyIn, isHeld, pinOf, slotOf}
+use Rattle.model.specs.State.{rowAt, slotAt, holdingAt}
+use Rattle.model.specs.Words.{hasPage, dirtyIn, isHeld, pinOf, slotOf}
 use Rattle.model.proofs.StateLaws.{Sized, row-put, slot-put, holding-put, sized-put-row, sized-put-slot, sized-put-holding}
 use Rattle.rules.specs.Calls.{heldWith, withLowest, granted}
 use Rattle.rules.proofs.Alike.{holdingOn}
-use Rattle.rules.proofs.PageLaws.{found-slot, same-slot}
+use Rattle.rules.proofs.PageLaws.{same-slot, put-on}
 
 -- the holding, the slot and the row that a grant puts
 abbrev pub grantedHolding : State → ℕ → ℕ → Mode → ℕ → Holding
@@ -93,23 +89,6 @@ module _ (s : State) (z : Sized s) (row slot : ℕ) (r : row < 32) (b : slot < 6
 -- the requester has the page; every other holding on a page stays
 pub granted-on : (s : State) (z : Sized s) (row slot page : ℕ) → row < 32 → slot < 64 → slotOf s page ≡ At slot → (mode : Mode) (arrival : ℕ) (back : Back) (other q : ℕ) → q < 32
     → holdingOn (granted s row slot mode arrival back .state) other q ≡ cond (eqb other page && eqb q row) (grantedHolding s row slot mode arrival) (holdingOn s other q)
-unfolding holdingOn
-granted-on s z row slot page r b found mode arrival back other q h =
-    ap (λ (f : Found). atFound f (λ i. holdingAt (granted s row slot mode arrival back .state) i q) emptyHolding) (granted-slot-of s z row slot r b mode arrival back other)
-    ∙ go (slotOf s other) refl
-  where
-    go : (f : Found) → slotOf s other ≡ f
-        → atFound f (λ i. holdingAt (granted s row slot mode arrival back .state) i q) emptyHolding ≡ cond (eqb other page && eqb q row) (grantedHolding s row slot mode arrival) (atFound f (λ i. holdingAt s i q) emptyHolding)
-    go Nowhere e = elim (ℕ-discrete other page) [
-      | yes m ↦ absurd (let k : At slot ≡ Nowhere = sym found ∙ ap (slotOf s) (sym m) ∙ e in let w : _≡_ {A = ℕ} 0 1 = cc in omega arith)
-      | no m ↦ rw (ne-eqb other page m)
-    ]
-    go (At i) e =
-        granted-holding s z row slot r b mode arrival back i q h
-        ∙ ap (λ (x : Bool). cond (x && eqb q row) (grantedHolding s row slot mode arrival) (holdingAt s i q)) (same i e)
-      where
-        same : (i : ℕ) → slotOf s other ≡ At i → eqb i slot ≡ eqb other page
-        same i e = elim (ℕ-discrete other page) [
-          | yes m ↦ eq-eqb i slot (let k : At i ≡ At slot = sym e ∙ ap (slotOf s) m ∙ found in cc) ∙ sym (eq-eqb other page m)
-          | no m ↦ ne-eqb i slot (λ w. m (sym (found-slot s other i e .2) ∙ ap (λ (k : ℕ). pageIn (slotAt s k .content)) w ∙ found-slot s page slot found .2)) ∙ sym (ne-eqb other page m)
-        ]
+granted-on s z row slot page r b found mode arrival back =
+    put-on s (granted s row slot mode arrival back .state) row slot page (grantedHolding s row slot mode arrival) found
+    (granted-slot-of s z row slot r b mode arrival back) (granted-holding s z row slot r b mode arrival back)

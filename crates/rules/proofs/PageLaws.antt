@@ -1,13 +1,16 @@
 -- The slot that has a page, and the holdings on it, in a sound state and after each change.
 use mathlib.Core.Path.{_≡_, refl, sym, _∙_, ap}
-use mathlib.Core.Bool.{Bool, true, false, cond}
+use mathlib.Core.Bool.{Bool, true, false, cond, _&&_}
 use Prim.Native.Nat.{ℕ, _<_, _≤_}
 use native.Mathlib.Omega.{arith}
+use native.Mathlib.Decide.{ℕ-discrete}
+use borrow.Author.Tests.{eq-eqb, ne-eqb}
+use lib.Dec.{eqb}
 use Rattle.seq.specs.Below.{pickBelow, atFound}
 use Rattle.seq.specs.declared.Found.{Found}
 use Rattle.seq.specs.declared.Found.the-variants.{At, Nowhere}
-use Rattle.seq.proofs.Tests.{true-false}
-use Rattle.seq.proofs.PickLaws.{pick-is, pick-none, pick-same}
+use Rattle.seq.proofs.Tests.{true-false, cond-same}
+use Rattle.seq.proofs.PickLaws.{pick-is, pick-none, pick-same, at-nowhere, at-same}
 use Rattle.model.specs.declared.Cause.{Cause}
 use Rattle.model.specs.declared.Holding.{Holding}
 use Rattle.model.specs.declared.Slot.{Slot}
@@ -16,7 +19,7 @@ use Rattle.model.specs.State.{emptyHolding, slotAt, holdingAt}
 use Rattle.model.specs.Words.{isFilled, pageIn, hasPage, isHeld, holds, slotOf}
 use Rattle.model.specs.Changes.{released, killed}
 use Rattle.model.proofs.StateLaws.{Sized}
-use Rattle.model.proofs.ChangeLaws.{wroteSlot, released-holding, released-slot, killed-holding, killed-slot}
+use Rattle.model.proofs.ChangeLaws.{wroteSlot, released-holding, released-slot}
 use Rattle.model.proofs.ContentLaws.{has-page, page-has, dirtied-page}
 use Rattle.rules.proofs.SoundFacts.{Sound}
 use Rattle.rules.proofs.Alike.{holdingOn}
@@ -69,39 +72,43 @@ same-slot s t page n f =
     ∙ ap (λ (m : ℕ). pickBelow m (λ slot. hasPage page (slotAt t slot .content)) (λ x y. false)) n
 
 module _ (some : ℕ → Bool) (s : State) (z : Sized s) (most : s .size ≤ 64) where
-  pub killed-slot-of : (cause : Cause) (page : ℕ) → slotOf (killed some cause s) page ≡ slotOf s page
-  unfolding killed released
-  killed-slot-of cause page =
-      same-slot (killed some cause s) s page refl
-      (λ i h. ap (λ (x : Slot). hasPage page (x .content)) (killed-slot some s z cause i (omega arith)) ∙ dirtied-page page (wroteSlot some s i) (slotAt s i))
-
-  -- a kill takes the holdings of the killed rows and no others
-  pub killed-on : (cause : Cause) (page row : ℕ) → row < 32 → holdingOn (killed some cause s) page row ≡ cond (some row) emptyHolding (holdingOn s page row)
-  unfolding holdingOn
-  killed-on cause page row h = ap (λ (f : Found). atFound f (λ slot. holdingAt (killed some cause s) slot row) emptyHolding) (killed-slot-of cause page) ∙ go (slotOf s page)
-    where
-      go : (f : Found) → atFound f (λ slot. holdingAt (killed some cause s) slot row) emptyHolding ≡ cond (some row) emptyHolding (atFound f (λ slot. holdingAt s slot row) emptyHolding)
-      go Nowhere = last (some row)
-        where
-          last : (b : Bool) → emptyHolding ≡ cond b emptyHolding emptyHolding
-          last true = refl
-          last false = refl
-      go (At i) = killed-holding some s z cause i row h
-
   pub released-slot-of : (page : ℕ) → slotOf (released some s) page ≡ slotOf s page
   unfolding released
   released-slot-of page =
       same-slot (released some s) s page refl
       (λ i h. ap (λ (x : Slot). hasPage page (x .content)) (released-slot some s z i (omega arith)) ∙ dirtied-page page (wroteSlot some s i) (slotAt s i))
 
+  -- the holdings of the released rows go and no others
   pub released-on : (page row : ℕ) → row < 32 → holdingOn (released some s) page row ≡ cond (some row) emptyHolding (holdingOn s page row)
   unfolding holdingOn
   released-on page row h = ap (λ (f : Found). atFound f (λ slot. holdingAt (released some s) slot row) emptyHolding) (released-slot-of page) ∙ go (slotOf s page)
     where
       go : (f : Found) → atFound f (λ slot. holdingAt (released some s) slot row) emptyHolding ≡ cond (some row) emptyHolding (atFound f (λ slot. holdingAt s slot row) emptyHolding)
-      go Nowhere = last (some row)
-        where
-          last : (b : Bool) → emptyHolding ≡ cond b emptyHolding emptyHolding
-          last true = refl
-          last false = refl
+      go Nowhere = sym (cond-same (some row) emptyHolding)
       go (At i) = released-holding some s z i row h
+
+  -- a kill releases, and marks rows
+  pub killed-slot-of : (cause : Cause) (page : ℕ) → slotOf (killed some cause s) page ≡ slotOf s page
+  unfolding killed slotOf
+  killed-slot-of cause page = released-slot-of page
+
+  pub killed-on : (cause : Cause) (page row : ℕ) → row < 32 → holdingOn (killed some cause s) page row ≡ cond (some row) emptyHolding (holdingOn s page row)
+  unfolding killed holdingOn slotOf
+  killed-on cause page row h = released-on page row h
+
+-- one holding replaced in the slot of a page, and no page moved: the holdings on each page
+pub put-on : (s u : State) (row slot page : ℕ) (x : Holding) → slotOf s page ≡ At slot → ((other : ℕ) → slotOf u other ≡ slotOf s other)
+    → ((i q : ℕ) → q < 32 → holdingAt u i q ≡ cond (eqb i slot && eqb q row) x (holdingAt s i q))
+    → (other q : ℕ) → q < 32 → holdingOn u other q ≡ cond (eqb other page && eqb q row) x (holdingOn s other q)
+unfolding holdingOn
+put-on s u row slot page x found still f other q h = rw (still other) (go (slotOf s other) refl)
+  where
+    go : (z : Found) → slotOf s other ≡ z → atFound z (λ i. holdingAt u i q) emptyHolding ≡ cond (eqb other page && eqb q row) x (atFound z (λ i. holdingAt s i q) emptyHolding)
+    go Nowhere e = rw (ne-eqb other page (λ m. at-nowhere (sym found ∙ ap (slotOf s) (sym m) ∙ e)))
+    go (At i) e = f i q h ∙ ap (λ (b : Bool). cond (b && eqb q row) x (holdingAt s i q)) (same i e)
+      where
+        same : (i : ℕ) → slotOf s other ≡ At i → eqb i slot ≡ eqb other page
+        same i e = elim (ℕ-discrete other page) [
+          | yes m ↦ eq-eqb i slot (at-same (sym e ∙ ap (slotOf s) m ∙ found)) ∙ sym (eq-eqb other page m)
+          | no m ↦ ne-eqb i slot (λ w. m (sym (found-slot s other i e .2) ∙ ap (λ (k : ℕ). pageIn (slotAt s k .content)) w ∙ found-slot s page slot found .2)) ∙ sym (ne-eqb other page m)
+        ]

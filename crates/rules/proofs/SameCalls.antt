@@ -1,5 +1,5 @@
 -- Begin, end, tick, look, view and count on two states alike for L, by a level up to L: the same answer, and alike states.
-use mathlib.Core.Path.{_≡_, refl, _∙_, ap}
+use mathlib.Core.Path.{_≡_, refl, ap}
 use mathlib.Core.Bool.{Bool, true, false, _&&_}
 use Prim.Native.Nat.{ℕ, _+_, _<_, _≤_}
 use native.Mathlib.Omega.{arith}
@@ -9,7 +9,6 @@ use Rattle.seq.specs.Below.{countBelow}
 use Rattle.seq.specs.declared.Found.{Found}
 use Rattle.seq.specs.declared.Found.the-variants.{At, Nowhere}
 use Rattle.seq.proofs.BelowLaws.{none-any}
-use Rattle.seq.proofs.EachLaws.{each-at, each-length}
 use Rattle.model.specs.declared.Answer.the-variants.{Begun, Ended, Clock, Open}
 use Rattle.model.specs.declared.Cause.the-variants.{Late}
 use Rattle.model.specs.declared.Condition.the-variants.{Idle}
@@ -22,7 +21,7 @@ use Rattle.model.specs.Changes.{released}
 use Rattle.model.proofs.StateLaws.{Sized}
 use Rattle.model.proofs.ChangeLaws.{sized-released}
 use Rattle.rules.specs.Answers.{told}
-use Rattle.rules.specs.Calls.{begun, ended, deliveredRow, deliveredRows, isLate, lateKilled, advanced, ticked, looked, lookedAt, viewedIn, viewed, counted}
+use Rattle.rules.specs.Calls.{begun, ended, deliveredRows, isLate, lateKilled, advanced, ticked, looked, lookedAt, viewedIn, viewed, counted}
 use Rattle.rules.specs.Refusals.{beginRefusal, endRefusal, tickRefusal, lookRefusal, viewRefusal, countRefusal}
 use Rattle.rules.proofs.SoundFacts.{Sound}
 use Rattle.rules.proofs.Alike.{holdingOn, Alike, Same}
@@ -30,6 +29,7 @@ use Rattle.rules.proofs.SamePages.{same-seen, same-strongest, same-leas
 use Rattle.rules.proofs.SameChanges.{same-unless, same-put-row, same-killed, same-released}
 use Rattle.rules.proofs.SameRefusals.{same-tick-refusal, own-row, same-begin-refusal, same-end-refusal, begin-passed, end-passed, look-passed}
 use Rattle.rules.proofs.AlikeLaws.{alike-sym}
+use Rattle.rules.proofs.TickLaws.{later, sized-later, later-row}
 
 -- levels up to 2 see no dormant page
 pub no-dormant : (s : State) (level slot : ℕ) → level ≤ 2 → seesDormant s level slot ≡ false
@@ -49,21 +49,13 @@ unseen L s t alike page i at-s at-t level up = none-any (seenHolder s level i) 3
 
 -- ---- tick
 
-delivered-at : (s : State) → Sized s → (r : ℕ) → r < 32 → rowAt (deliveredRows (advanced s)) r ≡ deliveredRow (s .clock + 1) (rowAt s r)
-unfolding deliveredRows advanced
-delivered-at s z r h = each-at (λ row x. deliveredRow (s .clock + 1) x) (s .rows) r freeRow (rw (z .rows) h)
-
-sized-delivered : (s : State) → Sized s → Sized (deliveredRows (advanced s))
-unfolding deliveredRows advanced
-sized-delivered s z = record { rows = each-length _ (s .rows) ∙ z .rows; slots = z .slots; holdings = z .holdings }
-
-same-delivered : (L : ℕ) (s t : State) → Sized s → Sized t → Alike L s t → Alike L (deliveredRows (advanced s)) (deliveredRows (advanced t))
+same-delivered : (L : ℕ) (s t : State) → Sized s → Sized t → Alike L s t → Alike L (later s) (later t)
 unfolding deliveredRows advanced holdingOn slotOf
 same-delivered L s t y z a = record {
   size = a .size;
   delay = a .delay;
   clock = ap (λ (n : ℕ). n + 1) (a .clock);
-  row = λ r h l. rw (delivered-at s y r h, delivered-at t z r h, a .row r h l, a .clock);
+  row = λ r h l. rw (later-row s y r h, later-row t z r h, a .row r h l, a .clock);
   holding = a .holding;
 }
 
@@ -71,7 +63,7 @@ same-late : (L : ℕ) (s t : State) → Alike L s t → (r : ℕ) → r < 32 →
 unfolding isLate
 same-late L s t a r h l = rw (a .row r h l, a .clock)
 
-delivered-most : (s : State) → s .size ≤ 64 → deliveredRows (advanced s) .size ≤ 64
+delivered-most : (s : State) → s .size ≤ 64 → later s .size ≤ 64
 unfolding deliveredRows advanced
 delivered-most s h = h
 
@@ -80,16 +72,16 @@ module _ (L : ℕ) (s t : State) (y : Sound s) (z : Sound t) (alike : Alike L s 
   unfolding ticked lateKilled
   same-ticked =
       same-unless L s t (tickRefusal s) (tickRefusal t)
-      (record { state = lateKilled (deliveredRows (advanced s)); answer = Clock (s .clock + 1) })
-      (record { state = lateKilled (deliveredRows (advanced t)); answer = Clock (t .clock + 1) })
+      (record { state = lateKilled (later s); answer = Clock (s .clock + 1) })
+      (record { state = lateKilled (later t); answer = Clock (t .clock + 1) })
       alike (same-tick-refusal L s t alike)
       (λ e.
       let d = same-delivered L s t (y .sized) (z .sized) alike in (
         rw (alike .clock),
-        same-killed L (deliveredRows (advanced s)) (deliveredRows (advanced t)) (sized-delivered s (y .sized)) (sized-delivered t (z .sized)) d
+        same-killed L (later s) (later t) (sized-later s (y .sized)) (sized-later t (z .sized)) d
             (delivered-most s (y .size-most)) (delivered-most t (z .size-most))
-            (isLate (deliveredRows (advanced s))) (isLate (deliveredRows (advanced t)))
-            (same-late L (deliveredRows (advanced s)) (deliveredRows (advanced t)) d) Late,
+            (isLate (later s)) (isLate (later t))
+            (same-late L (later s) (later t) d) Late,
       ))
 
   module _ (two : L ≤ 2) (level : ℕ) (low : level ≤ L) where
