@@ -4,6 +4,7 @@ pub mod ChangeLaws
 pub mod ContentLaws
 pub mod PinLaws
 pub mod PriorityLaws
+pub mod SeenLaws
 pub mod ArrivalLaws
 pub mod BookLaws
 pub mod Ranges

@@ -17,19 +17,15 @@ use Rattle.model.specs.declared.State.{State}
 use Rattle.model.specs.Parties.{levelOf}
 use Rattle.model.specs.State.{slotAt}
 use Rattle.model.specs.Words.{isFilled, holds, seen, dormant}
+use Rattle.model.proofs.SeenLaws.{not-seen, none-seen, seen-lower}
 use Rattle.rules.specs.Choice.{orElse, stepA, stepB, beforeDormant, holderLevel, heldAbove, highestLevel, pinnedAt, inC, inD, inE, inF, beforeHeld, stepHeld, chosen}
 use Rattle.rules.proofs.SoundFacts.{Sound}
-use Rattle.rules.proofs.IntoSeen.{not-seen, none-seen}
 use Rattle.rules.proofs.ChoiceRank.{best-is, best-some, best-level, holder-level}
 
 -- what one search or else another found has a property, if what the first found has, and the second where the first found nothing
 or-found : (P : ℕ → Type 0) (f g : Found) → ((i : ℕ) → f ≡ At i → P i) → (f ≡ Nowhere → (i : ℕ) × (g ≡ At i) × P i) → (i : ℕ) × (orElse f g ≡ At i) × P i
 or-found P Nowhere g a b = b refl
 or-found P (At i) g a b = (i, refl, a i refl)
-
--- what a level does not see, no lower one sees
-pub seen-lower : (s : State) (L M i : ℕ) → M ≤ L → seen s L i ≡ false → seen s M i ≡ false
-seen-lower s L M i m e = none-seen s M i (λ r b l. not-seen s L i r e b (omega arith))
 
 -- what the steps' tests say of a slot
 pub step-a : (s : State) (i : ℕ) → stepA s ≡ At i → (i < s .size) × (isFilled (slotAt s i .content) ≡ false)

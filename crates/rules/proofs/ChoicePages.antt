@@ -6,10 +6,10 @@ use native.Mathlib.Omega.{arith}
 use native.Mathlib.Decide.{decLt}
 use borrow.Author.Tests.{leb-true, eqb-true}
 use lib.Dec.{leb, eqb}
-use Rattle.seq.specs.Below.{anyBelow, allBelow}
+use Rattle.seq.specs.Below.{allBelow}
 use Rattle.seq.specs.declared.Found.the-variants.{At}
 use Rattle.seq.proofs.Tests.{and-true, and-when}
-use Rattle.seq.proofs.BelowLaws.{hit-any, any-same, all-same}
+use Rattle.seq.proofs.BelowLaws.{any-same, all-same}
 use Rattle.seq.proofs.PairLaws.{most-same}
 use Rattle.model.specs.declared.Holding.{Holding}
 use Rattle.model.specs.declared.State.{State}
@@ -18,15 +18,12 @@ use Rattle.model.specs.State.{holdingAt}
 use Rattle.model.specs.Words.{isHeld, isPin, holds, pins, seenHolder, seen, outranks, bestHolder, latestTouch}
 use Rattle.rules.specs.Choice.{holderLevel, heldAbove, pinnedAt, heldAtOwnLevel, seenPin, worse, beforeHeld}
 use Rattle.rules.proofs.Alike.{Alike}
-use Rattle.rules.proofs.IntoSeen.{SamePage, seen-by}
+use Rattle.rules.proofs.IntoSeen.{SamePage}
 use Rattle.model.proofs.PriorityLaws.{outranks-level}
+use Rattle.model.proofs.SeenLaws.{seen-by, seen-held}
 use Rattle.rules.proofs.ChoiceRank.{Best, best-is, is-best, best-some, best-level, holder-level}
 use Rattle.rules.proofs.ChoiceOrder.{touchOf, nextBefore, before-held}
 use Rattle.rules.proofs.SamePages.{same-rank}
-
--- a slot that a level sees is held
-pub seen-held : (s : State) (L i : ℕ) → seen s L i ≡ true → anyBelow 32 (holds s i) ≡ true
-seen-held s L i e = let x = seen-by s L i e in hit-any (holds s i) 32 (x .0) (x .1) (x .3)
 
 module _ (L : ℕ) (s t : State) (a : Alike L s t) where
   module _ (i j : ℕ) (w : SamePage L s t i j) where

@@ -15,6 +15,7 @@ use Rattle.model.specs.declared.State.{State}
 use Rattle.model.specs.Parties.{levelOf}
 use Rattle.model.specs.State.{slotAt}
 use Rattle.model.specs.Words.{isFilled, holds, seenHolder, seen, dormant, outranks}
+use Rattle.model.proofs.SeenLaws.{not-seen}
 use Rattle.rules.specs.Choice.{orElse, stepA, stepB, beforeDormant, heldAbove, inC, inD, heldAtOwnLevel, inE, inF, beforeHeld, stepHeld, chosen}
 use Rattle.rules.proofs.SoundFacts.{Sound}
 
@@ -28,10 +29,7 @@ abbrev pub Unheld : ℕ → State → ℕ → Type 0
 Unheld L s slot = (r : ℕ) → r < 32 → levelOf r ≤ L → holds s slot r ≡ false
 
 pub unseen-unheld : (L M : ℕ) (s : State) (slot : ℕ) → L ≤ M → seen s M slot ≡ false → Unheld L s slot
-unfolding seen seenHolder
-unseen-unheld L M s slot h e r b l =
-    let k = any-none (λ row. leb (levelOf row) M && holds s slot row) 32 r e b in
-    rw (le-leb (levelOf r) M (omega arith)) at k
+unseen-unheld L M s slot h e r b l = not-seen s M slot r e b (omega arith)
 
 module _ (L : ℕ) (s : State) (z : Sound s) (me : ℕ) (higher : L < levelOf me) where
   unfilled : (slot : ℕ) → slot < s .size → isFilled (slotAt s slot .content) ≡ false → Unheld L s slot

@@ -22,6 +22,7 @@ use Rattle.model.specs.Changes.{killed, killedRow}
 use Rattle.model.proofs.StateLaws.{Sized}
 use Rattle.model.proofs.ChangeLaws.{killed-row, killed-holding, sized-killed, killed-clock, killed-delay, killed-size}
 use Rattle.model.proofs.PinLaws.{not-pinned, no-pin}
+use Rattle.model.proofs.SeenLaws.{not-seen}
 use Rattle.rules.specs.Answers.{told, word, value}
 use Rattle.rules.specs.Calls.{heldWith, granted, conflicts, step3}
 use Rattle.rules.proofs.SoundFacts.{Sound}
@@ -29,7 +30,6 @@ use Rattle.rules.proofs.Alike.{holdingOn}
 use Rattle.rules.proofs.PageLaws.{found-slot, killed-slot-of, killed-on}
 use Rattle.rules.proofs.GrantLaws.{grantedHolding, granted-row, granted-on, granted-size, granted-delay, granted-clock}
 use Rattle.rules.proofs.IntoGain.{dueTick, newHolding, Gains, gains-as}
-use Rattle.rules.proofs.IntoSeen.{not-seen}
 
 -- the slot and the page to write back are not told
 pub fetch-told : (due slot : ℕ) (back : Back) → told (Fetch due slot back) ≡ told (Fetch due 0 Nothing)

@@ -15,6 +15,7 @@ use Rattle.model.specs.State.{emptyHolding, rowAt, slotAt, holdingAt}
 use Rattle.model.specs.Words.{hasPage, isHeld, pins, seen, seesDormant, slotOf}
 use Rattle.model.proofs.ContentLaws.{page-has}
 use Rattle.model.proofs.PinLaws.{not-pinned}
+use Rattle.model.proofs.SeenLaws.{none-seen, not-seen, seen-lower}
 use Rattle.rules.specs.Choice.{chosen}
 use Rattle.rules.specs.Calls.{step3, intoSlot, servedAt, served}
 use Rattle.rules.proofs.SoundFacts.{Sound}
@@ -23,8 +24,7 @@ use Rattle.rules.proofs.PageLaws.{finds, on-slot}
 use Rattle.rules.proofs.IntoGain.{Gains, gains-as}
 use Rattle.rules.proofs.IntoGrant.{hidden-gains}
 use Rattle.rules.proofs.IntoFill.{leftRow, leftHolding, into-gains}
-use Rattle.rules.proofs.IntoSeen.{none-seen, not-seen}
-use Rattle.rules.proofs.ChoiceOpen.{seen-lower, chosen-open}
+use Rattle.rules.proofs.ChoiceOpen.{chosen-open}
 
 -- no row up to L holds the page
 abbrev pub Nobody : ℕ → State → ℕ → Type 0

@@ -20,12 +20,13 @@ use Rattle.model.specs.State.{emptyHolding, rowAt, slotAt}
 use Rattle.model.specs.Words.{isLive, hasPage, isHeld, pins, seen, isOpen, slotOf}
 use Rattle.model.specs.Changes.{killedRow}
 use Rattle.model.proofs.ContentLaws.{has-same}
+use Rattle.model.proofs.SeenLaws.{open-seen}
 use Rattle.rules.specs.Choice.{chosen}
 use Rattle.rules.specs.Calls.{intoSlot, served}
 use Rattle.rules.proofs.SoundFacts.{Sound}
 use Rattle.rules.proofs.Alike.{holdingOn, Alike, Same}
 use Rattle.rules.proofs.PageLaws.{found-slot}
-use Rattle.rules.proofs.IntoSeen.{SamePage, open-seen, open-alike}
+use Rattle.rules.proofs.IntoSeen.{SamePage, open-alike}
 use Rattle.rules.proofs.IntoGain.{gains-same}
 use Rattle.rules.proofs.IntoFill.{leftRow, leftHolding, into-gains}
 use Rattle.rules.proofs.IntoOpen.{Nobody, nobody-seen, served-absent, open-gains}

@@ -1,47 +1,21 @@
 -- What a level sees of a slot; the slot with the same page in an alike state; the count of open slots agrees.
 use mathlib.Core.Path.{_≡_, refl, sym, _∙_, ap}
-use mathlib.Core.Bool.{true, false}
+use mathlib.Core.Bool.{true}
 use Prim.Native.Nat.{ℕ, _+_, _<_, _≤_}
 use native.Mathlib.Omega.{arith}
-use borrow.Author.Tests.{leb-true, le-leb, not-true}
-use lib.Dec.{leb}
 use Rattle.seq.specs.Below.{anyBelow, countBelow}
 use Rattle.seq.specs.declared.Found.the-variants.{At}
-use Rattle.seq.proofs.Tests.{true-false, and-true, both-true, not-true-false}
-use Rattle.seq.proofs.BelowLaws.{any-hit, hit-any}
 use Rattle.seq.proofs.CountLaws.{count-not, count-into, any-count}
 use Rattle.model.specs.declared.Holding.{Holding}
 use Rattle.model.specs.declared.State.{State}
 use Rattle.model.specs.Parties.{levelOf}
 use Rattle.model.specs.State.{slotAt, holdingAt}
-use Rattle.model.specs.Words.{isFilled, pageIn, isHeld, holds, seenHolder, seen, isOpen, slotOf}
+use Rattle.model.specs.Words.{isFilled, pageIn, isHeld, holds, seen, isOpen, slotOf}
+use Rattle.model.proofs.SeenLaws.{seen-by, by-seen}
 use Rattle.rules.proofs.SoundFacts.{Sound, Held}
 use Rattle.rules.proofs.Alike.{Alike}
 use Rattle.rules.proofs.PageLaws.{found-slot, finds, on-slot, on-held}
 use Rattle.rules.proofs.AlikeLaws.{alike-sym}
-
--- a slot is seen through a row that holds it
-pub seen-by : (s : State) (L i : ℕ) → seen s L i ≡ true → (r : ℕ) × (r < 32) × (levelOf r ≤ L) × (holds s i r ≡ true)
-unfolding seen seenHolder
-seen-by s L i e =
-    let x = any-hit (seenHolder s L i) 32 e in
-    let y = and-true (leb (levelOf (x .0)) L) (holds s i (x .0)) (x .2) in
-    (x .0, x .1, leb-true (levelOf (x .0)) L (y .0), y .1)
-
-pub by-seen : (s : State) (L i r : ℕ) → r < 32 → levelOf r ≤ L → holds s i r ≡ true → seen s L i ≡ true
-unfolding seen seenHolder
-by-seen s L i r b l h = hit-any (seenHolder s L i) 32 r b (both-true (le-leb (levelOf r) L l) h)
-
-pub not-seen : (s : State) (L i r : ℕ) → seen s L i ≡ false → r < 32 → levelOf r ≤ L → holds s i r ≡ false
-not-seen s L i r e b l = not-true-false (holds s i r) (λ h. true-false (sym (by-seen s L i r b l h) ∙ e))
-
-pub none-seen : (s : State) (L i : ℕ) → ((r : ℕ) → r < 32 → levelOf r ≤ L → holds s i r ≡ false) → seen s L i ≡ false
-none-seen s L i f = not-true-false (seen s L i) (λ e. let x = seen-by s L i e in true-false (sym (x .3) ∙ f (x .0) (x .1) (x .2)))
-
--- an open slot is not seen
-pub open-seen : (s : State) (L i : ℕ) → isOpen s L i ≡ true → seen s L i ≡ false
-unfolding isOpen
-open-seen s L i e = not-true (seen s L i) e
 
 -- slots of two states that have one page, and on it the same holdings of the rows up to L
 pub record SamePage (L : ℕ) (s t : State) (i j : ℕ) : Type 0 where

@@ -14,24 +14,15 @@ use Rattle.seq.proofs.PickLaws.{pick-is}
 use Rattle.model.specs.declared.State.{State}
 use Rattle.model.specs.Parties.{levelOf}
 use Rattle.model.specs.State.{slotAt, holdingAt}
-use Rattle.model.specs.Words.{isFilled, holds, pins, seenHolder, seen, dormant}
+use Rattle.model.specs.Words.{isFilled, holds, pins, seen, dormant}
 use Rattle.model.proofs.PinLaws.{not-pinned}
+use Rattle.model.proofs.SeenLaws.{not-seen, dormant-unheld}
 use Rattle.rules.specs.Choice.{orElse, stepA, beforeDormant, stepB, heldAbove, inC, inD, seenPin, inE, inF, beforeHeld, stepHeld, chosen}
 use Rattle.rules.proofs.SoundFacts.{Sound}
 
 or-else : {A : Type 0} (f g : Found) (slot : ℕ) → (f ≡ At slot → A) → (g ≡ At slot → A) → orElse f g ≡ At slot → A
 or-else Nowhere g slot a b e = b e
 or-else (At i) g slot a b e = a e
-
--- a level that does not see a slot has no holder of its own there
-pub own-unheld : (s : State) (row slot : ℕ) → row < 32 → seen s (levelOf row) slot ≡ false → holds s slot row ≡ false
-unfolding seen seenHolder
-own-unheld s row slot b e = rw (le-leb (levelOf row) (levelOf row) (omega arith)) at (any-none (seenHolder s (levelOf row) slot) 32 row e b)
-
--- a dormant slot has no holder
-pub dormant-unheld : (s : State) (slot : ℕ) → dormant s slot ≡ true → (r : ℕ) → r < 32 → holds s slot r ≡ false
-unfolding dormant
-dormant-unheld s slot e r b = any-none (holds s slot) 32 r (not-true (anyBelow 32 (holds s slot)) (search parts depth 20)) b
 
 module _ (s : State) (row : ℕ) (b : row < 32) (h : Sound s) where
   abbrev Free : ℕ → Type 0
@@ -60,7 +51,7 @@ module _ (s : State) (row : ℕ) (b : row < 32) (h : Sound s) where
 
   above : (slot : ℕ) → heldAbove s row slot ≡ true → pins s slot row ≡ false
   unfolding heldAbove
-  above slot e = not-pinned (holdingAt s slot row .pin) (own-unheld s row slot b (not-true (seen s (levelOf row) slot) (search parts depth 20)))
+  above slot e = not-pinned (holdingAt s slot row .pin) (not-seen s (levelOf row) slot row (not-true (seen s (levelOf row) slot) (search parts depth 20)) b (omega arith))
 
   in-c : (slot : ℕ) → inC s row slot ≡ true → pins s slot row ≡ false
   unfolding inC

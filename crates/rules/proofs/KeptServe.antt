@@ -21,6 +21,7 @@ use Rattle.model.proofs.ChangeLaws.{wroteSlot, killed-slot, killed-holding}
 use Rattle.model.proofs.ArrivalLaws.{least-is, least-first}
 use Rattle.model.proofs.PinLaws.{no-pin, not-pinned}
 use Rattle.model.proofs.ContentLaws.{page-has, has-page}
+use Rattle.model.proofs.SeenLaws.{dormant-unheld, not-seen}
 use Rattle.rules.specs.Calls.{waiting, granted, conflicts, mustWait, step1, step2, step3, pinnersKilled, writeBack, filled, intoSlot, servedAt, served}
 use Rattle.rules.specs.Choice.{chosen}
 use Rattle.rules.proofs.SoundFacts.{Sound}
@@ -30,7 +31,7 @@ use Rattle.rules.proofs.KeptOwn.{waiting-sound}
 use Rattle.rules.proofs.KeptNew.{Asking}
 use Rattle.rules.proofs.KeptGrant.{granted-sound}
 use Rattle.rules.proofs.KeptFill.{filled-slot, filled-holding, asking-filled, filled-sound}
-use Rattle.rules.proofs.KeptChoice.{own-unheld, dormant-unheld, chosen-free}
+use Rattle.rules.proofs.KeptChoice.{chosen-free}
 use Rattle.rules.proofs.KeptTaken.{asking-killed, killed-granted}
 
 module _ (s : State) (row page : ℕ) (mode : Mode) (h : Sound s) (a : Asking s row) (p : page ≤ 4095) (m : mayAccess (levelOf row) page mode ≡ true) where
@@ -72,7 +73,7 @@ module _ (s : State) (row page : ℕ) (mode : Mode) (h : Sound s) (a : Asking s 
     unfolding step3
     step3-sound v =
         killed-granted s row mode h a slot (s .clock + s .delay) b f (rw e m) (h .slot slot b .arrival f) (omega arith)
-        (λ w. true-false (sym w ∙ own-unheld s row slot (a .row-is) v))
+        (λ w. true-false (sym w ∙ not-seen s (levelOf row) slot row v (a .row-is) (omega arith)))
 
     here-sound : Sound (servedAt (At slot) s row page mode .state)
     here-sound = go (seen s (levelOf row) slot) refl

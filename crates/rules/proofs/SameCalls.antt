@@ -1,25 +1,25 @@
 -- Begin, end, tick, look, view and count on two states alike for L, by a level up to L: the same answer, and alike states.
-use mathlib.Core.Path.{_≡_, refl, ap}
-use mathlib.Core.Bool.{Bool, true, false, _&&_}
+use mathlib.Core.Path.{_≡_, refl, sym, _∙_, ap}
+use mathlib.Core.Bool.{Bool, false}
 use Prim.Native.Nat.{ℕ, _+_, _<_, _≤_}
 use native.Mathlib.Omega.{arith}
-use borrow.Author.Tests.{leb-true, ne-eqb}
-use lib.Dec.{leb, eqb}
+use lib.Dec.{eqb}
 use Rattle.seq.specs.Below.{countBelow}
 use Rattle.seq.specs.declared.Found.{Found}
 use Rattle.seq.specs.declared.Found.the-variants.{At, Nowhere}
-use Rattle.seq.proofs.BelowLaws.{none-any}
 use Rattle.model.specs.declared.Answer.the-variants.{Begun, Ended, Clock, Open}
 use Rattle.model.specs.declared.Cause.the-variants.{Late}
 use Rattle.model.specs.declared.Condition.the-variants.{Idle}
+use Rattle.model.specs.declared.Holding.{Holding}
 use Rattle.model.specs.declared.Row.{Row}
 use Rattle.model.specs.declared.State.{State}
 use Rattle.model.specs.Parties.{rowOf, levelOf}
-use Rattle.model.specs.State.{freeRow, emptyHolding, rowAt, holdingAt, putRow}
-use Rattle.model.specs.Words.{holds, seenHolder, seen, isOpen, seesDormant, slotOf}
+use Rattle.model.specs.State.{freeRow, rowAt, putRow}
+use Rattle.model.specs.Words.{isHeld, seen, isOpen, slotOf}
 use Rattle.model.specs.Changes.{released}
 use Rattle.model.proofs.StateLaws.{Sized}
 use Rattle.model.proofs.ChangeLaws.{sized-released}
+use Rattle.model.proofs.SeenLaws.{no-dormant, none-seen}
 use Rattle.rules.specs.Answers.{told}
 use Rattle.rules.specs.Calls.{begun, ended, deliveredRows, isLate, lateKilled, advanced, ticked, looked, lookedAt, viewedIn, viewed, counted}
 use Rattle.rules.specs.Refusals.{beginRefusal, endRefusal, tickRefusal, lookRefusal, viewRefusal, countRefusal}
@@ -30,22 +30,12 @@ use Rattle.rules.proofs.SameChanges.{same-unless, same-put-row, same-ki
 use Rattle.rules.proofs.SameRefusals.{same-tick-refusal, own-row, same-begin-refusal, same-end-refusal, begin-passed, end-passed, look-passed}
 use Rattle.rules.proofs.AlikeLaws.{alike-sym}
 use Rattle.rules.proofs.TickLaws.{later, sized-later, later-row}
-
--- levels up to 2 see no dormant page
-pub no-dormant : (s : State) (level slot : ℕ) → level ≤ 2 → seesDormant s level slot ≡ false
-unfolding seesDormant
-no-dormant s level slot h = rw (ne-eqb level 3 (λ e. omega arith))
+use Rattle.rules.proofs.PageLaws.{on-slot, on-nowhere}
 
 -- a page that the other state has in no slot is held by no row up to L
 unseen : (L : ℕ) (s t : State) → Alike L s t → (page i : ℕ) → slotOf s page ≡ At i → slotOf t page ≡ Nowhere → (level : ℕ) → level ≤ L → seen s level i ≡ false
-unfolding seen seenHolder holdingOn
-unseen L s t alike page i at-s at-t level up = none-any (seenHolder s level i) 32 (λ r h. go r h (leb (levelOf r) level) refl)
-  where
-    go : (r : ℕ) → r < 32 → (b : Bool) → leb (levelOf r) level ≡ b → leb (levelOf r) level && holds s i r ≡ false
-    go r h false e = rw e
-    go r h true e =
-        let q : holdingAt s i r ≡ emptyHolding = rw (at-s, at-t) at (alike .holding page r h (omega (arith, leb-true (levelOf r) level e))) in
-        rw (e, q)
+unseen L s t alike page i at-s at-t level up = none-seen s level i (λ r h l.
+    ap (λ (x : Holding). isHeld (x .pin)) (sym (on-slot s page i r at-s) ∙ alike .holding page r h (omega arith) ∙ on-nowhere t page r at-t))
 
 -- ---- tick
 

@@ -12,13 +12,13 @@ use Rattle.model.specs.Parties.{levelOf}
 use Rattle.model.specs.Words.{isHeld, seen, leastArrival, slotOf}
 use Rattle.model.specs.Changes.{killed}
 use Rattle.model.proofs.ChangeLaws.{sized-killed}
+use Rattle.model.proofs.SeenLaws.{no-dormant}
 use Rattle.rules.specs.Calls.{conflicts, mustWait, waiting, granted, step1, step3, servedAt, served}
 use Rattle.rules.proofs.SoundFacts.{Sound}
 use Rattle.rules.proofs.Alike.{holdingOn, Alike, Same}
 use Rattle.rules.proofs.PageLaws.{found-slot, killed-slot-of, on-held}
 use Rattle.rules.proofs.SamePages.{same-conflicts, same-seen, same-least, same-must-wait}
 use Rattle.rules.proofs.SameChanges.{same-waiting, same-granted, same-killed}
-use Rattle.rules.proofs.SameCalls.{no-dormant}
 
 module _ (L : ℕ) (s t : State) (y : Sound s) (z : Sound t) (alike : Alike L s t) (me page : ℕ) (mode : Mode) (h : me < 32) (l : levelOf me ≤ L) where
   module _ (i j : ℕ) (at-s : slotOf s page ≡ At i) (at-t : slotOf t page ≡ At j) where

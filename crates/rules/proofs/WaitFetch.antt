@@ -20,8 +20,9 @@ use Rattle.model.specs.declared.Outcome.{Outcome}
 use Rattle.model.specs.declared.State.{State}
 use Rattle.model.specs.Parties.{levelOf}
 use Rattle.model.specs.State.{rowAt, slotAt, holdingAt}
-use Rattle.model.specs.Words.{isFilled, hasPage, pinOf, conflict, holds, seenHolder, seen, dormant, outranks, slotOf}
+use Rattle.model.specs.Words.{isFilled, hasPage, pinOf, conflict, holds, seen, dormant, outranks, slotOf}
 use Rattle.model.proofs.ContentLaws.{has-page, page-has}
+use Rattle.model.proofs.SeenLaws.{seen-by}
 use Rattle.rules.specs.Sound.{sound}
 use Rattle.rules.specs.Choice.{orElse, stepA, stepB, beforeDormant, heldAbove, holderLevel, highestLevel, pinnedAt, inC, inD, beforeHeld, stepHeld, chosen}
 use Rattle.rules.specs.Calls.{granted, conflicts, mustWait, served}
@@ -61,11 +62,9 @@ none-above s row slot b h c d =
     go i e k u false p = true-false (sym (both-true (both-true u (rw e (eq-eqb (holderLevel s i) (holderLevel s i) refl))) (rw p)) ∙ pick-none (inC s row) (beforeHeld s) (s .size) i c k)
 
 held-up-to : (s : State) (level slot : ℕ) → isFilled (slotAt s slot .content) ≡ true → seen s level slot ≡ true → HeldUpTo s level slot
-unfolding seen seenHolder
 held-up-to s level slot f e =
-    let x = any-hit (λ row. leb (levelOf row) level && holds s slot row) 32 e in
-    let k = x .2 in
-    record { filled = f; holder = x .0; holder-row = x .1; holder-level = leb-true (levelOf (x .0)) level (search parts depth 20); holds-it = search parts depth 20 }
+    let x = seen-by s level slot e in
+    record { filled = f; holder = x .0; holder-row = x .1; holder-level = x .2; holds-it = x .3 }
 
 -- g. none: every slot is held by a row of the requester's level or a lower one
 pub none-chosen : (s : State) (row : ℕ) → chosen s row ≡ Nowhere → (slot : ℕ) → slot < s .size → HeldUpTo s (levelOf row) slot
