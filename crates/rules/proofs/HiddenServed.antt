@@ -1,5 +1,5 @@
 -- A request or retry of a row above a level leaves the state alike for the level.
-use mathlib.Core.Path.{_≡_, refl, sym, _∙_, ap}
+use mathlib.Core.Path.{_≡_, refl, sym, _∙_}
 use mathlib.Core.Bool.{Bool, true, false, cond, _&&_, not}
 use Prim.Native.Nat.{ℕ, _+_, _<_, _≤_}
 use native.Mathlib.Omega.{arith}
@@ -14,42 +14,24 @@ use Rattle.model.specs.declared.Back.the-variants.{Nothing}
 use Rattle.model.specs.declared.Cause.the-variants.{Taken}
 use Rattle.model.specs.declared.Condition.the-variants.{Waiting}
 use Rattle.model.specs.declared.Mode.{Mode}
-use Rattle.model.specs.declared.Slot.{Slot}
 use Rattle.model.specs.declared.State.{State}
 use Rattle.model.specs.Parties.{levelOf, better}
 use Rattle.model.specs.State.{rowAt, slotAt, holdingAt}
-use Rattle.model.specs.Words.{hasPage, arrivalIn, pinOf, conflict, pins, seen, seesDormant, outranks, leastArrival, slotOf}
+use Rattle.model.specs.Words.{arrivalIn, pinOf, conflict, pins, seen, seesDormant, outranks, leastArrival, slotOf}
 use Rattle.model.specs.Changes.{killed}
 use Rattle.model.proofs.StateLaws.{Sized}
-use Rattle.model.proofs.ChangeLaws.{wroteSlot, killed-size, killed-slot, killed-holding, sized-killed}
-use Rattle.model.proofs.ContentLaws.{dirtied-page, page-has}
+use Rattle.model.proofs.ChangeLaws.{killed-size, killed-holding, sized-killed}
 use Rattle.model.proofs.PinLaws.{not-pinned, no-pin}
 use Rattle.rules.specs.Choice.{chosen}
 use Rattle.rules.specs.Calls.{waiting, granted, conflicts, mustWait, step1, step2, step3, pinnersKilled, writeBack, filled, intoSlot, servedAt, served}
 use Rattle.rules.proofs.SoundFacts.{Sound}
 use Rattle.rules.proofs.Alike.{Alike}
 use Rattle.rules.proofs.AlikeLaws.{alike-trans}
-use Rattle.rules.proofs.PageLaws.{found-slot, killed-slot-of}
+use Rattle.rules.proofs.PageLaws.{found-slot, killed-slot-of, one-has, killed-one}
 use Rattle.rules.proofs.HiddenChanges.{killed-hidden, row-hidden, granted-hidden}
-use Rattle.rules.proofs.HiddenFill.{OneSlot, sized-filled, filled-hidden}
+use Rattle.rules.proofs.HiddenFill.{filled-hidden}
 use Rattle.rules.proofs.HiddenChoice.{Unheld, unseen-unheld, chosen-unheld}
-
-one-slot : (s : State) → Sound s → OneSlot s
-one-slot s z page i j a b p q =
-    let x = page-has page (slotAt s i .content) p in
-    let y = page-has page (slotAt s j .content) q in
-    z .one-slot i j (omega (arith, z .size-most)) (omega (arith, z .size-most)) (x .0) (y .0) (x .1 ∙ sym (y .1))
-
--- a kill leaves every slot's page
-killed-page : (some : ℕ → Bool) (s : State) → Sound s → (page i : ℕ) → i < s .size → hasPage page (slotAt (killed some Taken s) i .content) ≡ hasPage page (slotAt s i .content)
-killed-page some s z page i b =
-    ap (λ (x : Slot). hasPage page (x .content)) (killed-slot some s (z .sized) Taken i (omega (arith, z .size-most))) ∙ dirtied-page page (wroteSlot some s i) (slotAt s i)
-
-killed-one-slot : (some : ℕ → Bool) (s : State) → Sound s → OneSlot (killed some Taken s)
-killed-one-slot some s z page i j a b p q =
-    let a1 : i < s .size = rw (killed-size some Taken s) at a in
-    let b1 : j < s .size = rw (killed-size some Taken s) at b in
-    one-slot s z page i j a1 b1 (sym (killed-page some s z page i a1) ∙ p) (sym (killed-page some s z page j b1) ∙ q)
+use Rattle.rules.proofs.FillLaws.{sized-filled}
 
 module _ (L : ℕ) (s : State) (z : Sound s) (me : ℕ) (mine : me < 32) (higher : L < levelOf me) where
   -- a row of a lower level has the better priority
@@ -110,7 +92,7 @@ module _ (L : ℕ) (s : State) (z : Sound s) (me : ℕ) (mine : me < 32) (higher
       let fz = sized-filled k kz km slot page (levelOf me) kt in
       alike-trans (killed-hidden L s (z .sized) (z .size-most) (pins s slot) (λ r h l. not-pinned (holdingAt s slot r .pin) (c .1 r h l)) Taken)
       (alike-trans
-      (filled-hidden k kz km slot page (levelOf me) kt (killed-one-slot (pins s slot) s z) (killed-slot-of (pins s slot) s (z .sized) (z .size-most) Taken page ∙ n) L
+      (filled-hidden k kz km slot page (levelOf me) kt (killed-one (pins s slot) s (z .sized) (z .size-most) Taken (one-has s z)) (killed-slot-of (pins s slot) s (z .sized) (z .size-most) Taken page ∙ n) L
       (λ r h l. killed-holding (pins s slot) s (z .sized) Taken slot r h ∙ rw (not-pinned (holdingAt s slot r .pin) (c .1 r h l)) (z .unheld slot r b h (c .1 r h l))))
       (granted-hidden L (filled k slot page (levelOf me)) fz me mine higher slot b mode (s .clock + s .delay) (writeBack (slotAt k slot))))
 

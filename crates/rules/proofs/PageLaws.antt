@@ -10,7 +10,7 @@ use Rattle.seq.specs.Below.{pickBelow, atFound}
 use Rattle.seq.specs.declared.Found.{Found}
 use Rattle.seq.specs.declared.Found.the-variants.{At, Nowhere}
 use Rattle.seq.proofs.Tests.{true-false, cond-same}
-use Rattle.seq.proofs.PickLaws.{pick-is, pick-none, pick-same, at-nowhere, at-same}
+use Rattle.seq.proofs.PickLaws.{pick-is, pick-none, pick-same, at-nowhere, at-same, pick-some}
 use Rattle.model.specs.declared.Cause.{Cause}
 use Rattle.model.specs.declared.Holding.{Holding}
 use Rattle.model.specs.declared.Slot.{Slot}
@@ -36,15 +36,36 @@ pub not-found : (s : State) (page i : ℕ) → slotOf s page ≡ Nowhere → i <
 unfolding slotOf
 not-found s page i e h = pick-none (λ slot. hasPage page (slotAt s slot .content)) (λ x y. false) (s .size) i e h
 
--- in a sound state the search finds the slot that has the page
+pub found-has : (s : State) (page i : ℕ) → slotOf s page ≡ At i → (i < s .size) × (hasPage page (slotAt s i .content) ≡ true)
+found-has s page i e = let k = found-slot s page i e in (k .0, has-page page (slotAt s i .content) (k .1) (k .2))
+
+-- the search for a page that just one slot has
+pub finds-only : (s : State) (page i : ℕ) → i < s .size → hasPage page (slotAt s i .content) ≡ true
+    → ((j : ℕ) → j < s .size → hasPage page (slotAt s j .content) ≡ true → j ≡ i) → slotOf s page ≡ At i
+unfolding slotOf
+finds-only s page i b h only =
+    let x = pick-some (λ slot. hasPage page (slotAt s slot .content)) (λ j k. false) (s .size) i b h in
+    let y = pick-is (λ slot. hasPage page (slotAt s slot .content)) (λ j k. false) (s .size) (x .0) (x .1) in
+    x .1 ∙ ap At (only (x .0) (y .0) (y .1))
+
+-- no page in two slots
+abbrev pub OneSlot : State → Type 0
+OneSlot s = (page i j : ℕ) → i < s .size → j < s .size → hasPage page (slotAt s i .content) ≡ true → hasPage page (slotAt s j .content) ≡ true → i ≡ j
+
+-- so it is in a sound state
+pub one-place : (s : State) → Sound s → (page i j : ℕ) → i < 64 → j < 64 → hasPage page (slotAt s i .content) ≡ true → hasPage page (slotAt s j .content) ≡ true → i ≡ j
+one-place s z page i j a b p q =
+    let x = page-has page (slotAt s i .content) p in
+    let y = page-has page (slotAt s j .content) q in
+    z .one-slot i j a b (x .0) (y .0) (x .1 ∙ sym (y .1))
+
+pub one-has : (s : State) → Sound s → OneSlot s
+one-has s z page i j a b = one-place s z page i j (omega (arith, z .size-most)) (omega (arith, z .size-most))
+
 pub finds : (s : State) (z : Sound s) (page i : ℕ) → i < 64 → isFilled (slotAt s i .content) ≡ true → pageIn (slotAt s i .content) ≡ page → slotOf s page ≡ At i
-finds s z page i b f e = go (slotOf s page) refl
-  where
-    go : (x : Found) → slotOf s page ≡ x → slotOf s page ≡ At i
-    go Nowhere q = true-false (sym (has-page page (slotAt s i .content) f e) ∙ not-found s page i q (z .slot i b .started f))
-    go (At j) q =
-        let k = found-slot s page j q in
-        q ∙ ap At (z .one-slot j i (omega (arith, k .0, z .size-most)) b (k .1) f (k .2 ∙ sym e))
+finds s z page i b f e =
+    let h = has-page page (slotAt s i .content) f e in
+    finds-only s page i (z .slot i b .started f) h (λ j c q. one-place s z page j i (omega (arith, z .size-most)) b q h)
 
 -- the holding on a slot's page is the holding on the slot
 pub on-slot : (s : State) (page i r : ℕ) → slotOf s page ≡ At i → holdingOn s page r ≡ holdingAt s i r
@@ -63,6 +84,10 @@ on-held s page r h = go (slotOf s page) refl
     go Nowhere e = true-false (sym (sym (ap (λ (x : Holding). isHeld (x .pin)) (on-nowhere s page r e)) ∙ h))
     go (At i) e = (i, e, sym (ap (λ (x : Holding). isHeld (x .pin)) (on-slot s page i r e)) ∙ h)
 
+-- the holding on a page, by the slot that has it
+pub on-at : (s : State) → OneSlot s → (page i r : ℕ) → i < s .size → hasPage page (slotAt s i .content) ≡ true → holdingOn s page r ≡ holdingAt s i r
+on-at s one page i r b h = on-slot s page i r (finds-only s page i b h (λ j c q. one page j i c b q h))
+
 -- two states with the same pages in their slots
 pub same-slot : (s t : State) (page : ℕ) → s .size ≡ t .size
     → ((i : ℕ) → i < s .size → hasPage page (slotAt s i .content) ≡ hasPage page (slotAt t i .content)) → slotOf s page ≡ slotOf t page
@@ -72,11 +97,12 @@ same-slot s t page n f =
     ∙ ap (λ (m : ℕ). pickBelow m (λ slot. hasPage page (slotAt t slot .content)) (λ x y. false)) n
 
 module _ (some : ℕ → Bool) (s : State) (z : Sized s) (most : s .size ≤ 64) where
+  released-page : (page i : ℕ) → i < 64 → hasPage page (slotAt (released some s) i .content) ≡ hasPage page (slotAt s i .content)
+  released-page page i h = ap (λ (x : Slot). hasPage page (x .content)) (released-slot some s z i h) ∙ dirtied-page page (wroteSlot some s i) (slotAt s i)
+
   pub released-slot-of : (page : ℕ) → slotOf (released some s) page ≡ slotOf s page
   unfolding released
-  released-slot-of page =
-      same-slot (released some s) s page refl
-      (λ i h. ap (λ (x : Slot). hasPage page (x .content)) (released-slot some s z i (omega arith)) ∙ dirtied-page page (wroteSlot some s i) (slotAt s i))
+  released-slot-of page = same-slot (released some s) s page refl (λ i h. released-page page i (omega arith))
 
   -- the holdings of the released rows go and no others
   pub released-on : (page row : ℕ) → row < 32 → holdingOn (released some s) page row ≡ cond (some row) emptyHolding (holdingOn s page row)
@@ -88,6 +114,14 @@ module _ (some : ℕ → Bool) (s : State) (z : Sized s) (most : s .size ≤ 64)
       go (At i) = released-holding some s z i row h
 
   -- a kill releases, and marks rows
+  pub killed-page : (cause : Cause) (page i : ℕ) → i < 64 → hasPage page (slotAt (killed some cause s) i .content) ≡ hasPage page (slotAt s i .content)
+  unfolding killed
+  killed-page cause page i h = released-page page i h
+
+  pub killed-one : (cause : Cause) → OneSlot s → OneSlot (killed some cause s)
+  unfolding killed released
+  killed-one cause one page i j a b p q = one page i j a b (sym (killed-page cause page i (omega arith)) ∙ p) (sym (killed-page cause page j (omega arith)) ∙ q)
+
   pub killed-slot-of : (cause : Cause) (page : ℕ) → slotOf (killed some cause s) page ≡ slotOf s page
   unfolding killed slotOf
   killed-slot-of cause page = released-slot-of page
