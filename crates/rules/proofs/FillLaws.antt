@@ -50,6 +50,9 @@ module _ (s : State) (z : Sized s) (most : s .size ≤ 64) (slot page level : �
   unfolding filled cleared
   filled-slot i = slot-put s z slot (filledSlot s page level) i (omega arith)
 
+  pub filled-at : slotAt (filled s slot page level) slot ≡ filledSlot s page level
+  filled-at = filled-slot slot ∙ rw (eq-eqb slot slot refl)
+
   -- the pages of the slots
   pub filled-page : (other i : ℕ) → hasPage other (slotAt (filled s slot page level) i .content) ≡ cond (eqb i slot) (eqb page other) (hasPage other (slotAt s i .content))
   filled-page other i = ap (λ (x : Slot). hasPage other (x .content)) (filled-slot i) ∙ go (eqb i slot)

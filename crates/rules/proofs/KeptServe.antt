@@ -8,19 +8,18 @@ use lib.Dec.{eqb}
 use Rattle.seq.specs.declared.Found.{Found}
 use Rattle.seq.specs.declared.Found.the-variants.{At, Nowhere}
 use Rattle.seq.proofs.Tests.{true-false, and-true, both-true}
-use Rattle.seq.proofs.PickLaws.{pick-is, pick-none}
 use Rattle.model.specs.declared.Back.the-variants.{Nothing}
 use Rattle.model.specs.declared.Cause.the-variants.{Taken}
 use Rattle.model.specs.declared.Mode.{Mode}
 use Rattle.model.specs.declared.State.{State}
 use Rattle.model.specs.Parties.{levelOf, mayAccess}
 use Rattle.model.specs.State.{emptyHolding, slotAt, holdingAt}
-use Rattle.model.specs.Words.{isFilled, pageIn, arrivalIn, hasPage, isPin, pinOf, pins, seenHolder, seen, dormant, seesDormant, leastArrival, slotOf}
+use Rattle.model.specs.Words.{isFilled, pageIn, arrivalIn, isPin, pinOf, pins, seenHolder, seen, dormant, seesDormant, leastArrival, slotOf}
 use Rattle.model.specs.Changes.{released, killed, cleared}
 use Rattle.model.proofs.ChangeLaws.{wroteSlot, killed-slot, killed-holding}
 use Rattle.model.proofs.ArrivalLaws.{least-is, least-first}
 use Rattle.model.proofs.PinLaws.{no-pin, not-pinned}
-use Rattle.model.proofs.ContentLaws.{page-has, has-page}
+use Rattle.model.proofs.ContentLaws.{has-page}
 use Rattle.model.proofs.SeenLaws.{dormant-unheld, not-seen}
 use Rattle.rules.specs.Calls.{waiting, granted, conflicts, mustWait, step1, step2, step3, pinnersKilled, writeBack, filled, intoSlot, servedAt, served}
 use Rattle.rules.specs.Choice.{chosen}
@@ -30,9 +29,11 @@ use Rattle.rules.proofs.KeptDrop.{killed-sound}
 use Rattle.rules.proofs.KeptOwn.{waiting-sound}
 use Rattle.rules.proofs.KeptNew.{Asking}
 use Rattle.rules.proofs.KeptGrant.{granted-sound}
-use Rattle.rules.proofs.KeptFill.{filled-slot, filled-holding, asking-filled, filled-sound}
+use Rattle.rules.proofs.KeptFill.{asking-filled, filled-sound}
 use Rattle.rules.proofs.KeptChoice.{chosen-free}
 use Rattle.rules.proofs.KeptTaken.{asking-killed, killed-granted}
+use Rattle.rules.proofs.FillLaws.{filled-at, filled-empty}
+use Rattle.rules.proofs.PageLaws.{found-slot, not-found}
 
 module _ (s : State) (row page : ℕ) (mode : Mode) (h : Sound s) (a : Asking s row) (p : page ≤ 4095) (m : mayAccess (levelOf row) page mode ≡ true) where
   wait-sound : Sound (waiting s row page mode .state)
@@ -100,12 +101,11 @@ module _ (s : State) (row page : ℕ) (mode : Mode) (h : Sound s) (a : Asking s 
         go false e = e
 
     absent : (j : ℕ) → j < 64 → isFilled (slotAt n j .content) ≡ true → pageIn (slotAt n j .content) ≡ page → ⊥
-    unfolding slotOf
     absent j b f e =
         let k = slot-marked (wroteSlot (pins s slot) s j) (slotAt s j) (slotAt n j) (killed-slot (pins s slot) s (h .sized) Taken j b) in
         let g = sym (k .filled) ∙ f in
         true-false (sym (has-page page (slotAt s j .content) g (sym (k .page) ∙ e))
-        ∙ pick-none (λ i. hasPage page (slotAt s i .content)) (λ i o. false) (s .size) j none (h .slot j b .started g))
+        ∙ not-found s page j none (h .slot j b .started g))
 
     into-sound : Sound (intoSlot (At slot) s row page mode .state)
     unfolding pinnersKilled killed released filled cleared
@@ -118,17 +118,17 @@ module _ (s : State) (row page : ℕ) (mode : Mode) (h : Sound s) (a : Asking s 
         (record {
           asking = asking-filled n slot page (levelOf row) k (x .0) row y;
           slot-is = omega (arith, x .0, h .size-most);
-          filled = rw (filled-slot n slot page (levelOf row) k (x .0)) refl;
-          allowed = rw (filled-slot n slot page (levelOf row) k (x .0)) m;
-          least = rw (filled-slot n slot page (levelOf row) k (x .0)) (omega arith);
+          filled = rw (filled-at n (k .sized) (k .size-most) slot page (levelOf row) (x .0)) refl;
+          allowed = rw (filled-at n (k .sized) (k .size-most) slot page (levelOf row) (x .0)) m;
+          least = rw (filled-at n (k .sized) (k .size-most) slot page (levelOf row) (x .0)) (omega arith);
           most = omega arith;
-          own = λ w. true-false (sym (rw (filled-holding n slot page (levelOf row) k (x .0) row (a .row-is)) at w));
-          alone = λ q b _. rw (filled-holding n slot page (levelOf row) k (x .0) q b) (no-pin (pinOf mode) (emptyHolding .pin) refl);
+          own = λ w. true-false (sym (rw (filled-empty n (k .sized) (k .size-most) slot page (levelOf row) (x .0) row (a .row-is)) at w));
+          alone = λ q b _. rw (filled-empty n (k .sized) (k .size-most) slot page (levelOf row) (x .0) q b) (no-pin (pinOf mode) (emptyHolding .pin) refl);
         })
         (writeBack (slotAt n slot))
 
   pub served-sound : Sound (served s row page mode .state)
-  unfolding served slotOf
+  unfolding served
   served-sound = go (slotOf s page) refl
     where
       into : slotOf s page ≡ Nowhere → (f : Found) → chosen s row ≡ f → Sound (intoSlot f s row page mode .state)
@@ -138,6 +138,5 @@ module _ (s : State) (row page : ℕ) (mode : Mode) (h : Sound s) (a : Asking s 
       go : (f : Found) → slotOf s page ≡ f → Sound (servedAt f s row page mode .state)
       go Nowhere e = into e (chosen s row) refl
       go (At slot) e =
-          let x = pick-is (λ i. hasPage page (slotAt s i .content)) (λ i o. false) (s .size) slot e in
-          let y = page-has page (slotAt s slot .content) (x .1) in
-          here-sound slot (omega (arith, x .0, h .size-most)) (y .0) (y .1)
+          let x = found-slot s page slot e in
+          here-sound slot (omega (arith, x .0, h .size-most)) (x .1) (x .2)
