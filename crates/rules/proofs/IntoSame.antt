@@ -17,7 +17,7 @@ use Rattle.model.specs.declared.Holding.{Holding}
 use Rattle.model.specs.declared.State.{State}
 use Rattle.model.specs.Parties.{levelOf}
 use Rattle.model.specs.State.{emptyHolding, rowAt, slotAt}
-use Rattle.model.specs.Words.{isLive, hasPage, isHeld, pins, seen, isOpen, slotOf}
+use Rattle.model.specs.Words.{hasPage, isHeld, pins, seen, isOpen, slotOf}
 use Rattle.model.specs.Changes.{killedRow}
 use Rattle.model.proofs.ContentLaws.{has-same}
 use Rattle.model.proofs.SeenLaws.{open-seen}
@@ -71,10 +71,10 @@ none-open : (L : ℕ) (s : State) → anyBelow (s .size) (isOpen s L) ≡ false 
 unfolding isOpen
 none-open L s e i b = not-false (seen s L i) (any-none (isOpen s L) (s .size) i e b)
 
-pub into-same : (L : ℕ) (s t : State) (me page : ℕ) (mode : Mode) → L ≤ 2 → me < 32 → levelOf me ≤ L → Sound s → Sound t → Alike L s t → page ≤ 4095 → isLive (rowAt s me .condition) ≡ true
+pub into-same : (L : ℕ) (s t : State) (me page : ℕ) (mode : Mode) → L ≤ 2 → me < 32 → levelOf me ≤ L → Sound s → Sound t → Alike L s t
     → ((r : ℕ) → r < 32 → levelOf r ≤ L → isHeld (holdingOn s page r .pin) ≡ false)
     → Same L (served s me page mode) (served t me page mode)
-into-same L s t me page mode most r low z y a _ _ nobody = go (anyBelow (s .size) (isOpen s L)) refl
+into-same L s t me page mode most r low z y a nobody = go (anyBelow (s .size) (isOpen s L)) refl
   where
     nobody′ : Nobody L t page
     nobody′ q h l = sym (ap (λ (x : Holding). isHeld (x .pin)) (a .holding page q h l)) ∙ nobody q h l

@@ -27,10 +27,11 @@ use Rattle.rules.proofs.SoundFacts.{Sound}
 use Rattle.rules.proofs.Alike.{holdingOn, Alike, Same}
 use Rattle.rules.proofs.SamePages.{same-seen, same-strongest, same-least}
 use Rattle.rules.proofs.SameChanges.{same-unless, same-put-row, same-killed, same-released}
-use Rattle.rules.proofs.SameRefusals.{same-tick-refusal, own-row, same-begin-refusal, same-end-refusal, begin-passed, end-passed, look-passed}
+use Rattle.rules.proofs.SameRefusals.{same-tick-refusal, own-row, same-begin-refusal, same-end-refusal}
 use Rattle.rules.proofs.AlikeLaws.{alike-sym}
 use Rattle.rules.proofs.TickLaws.{later, sized-later, later-row}
 use Rattle.rules.proofs.PageLaws.{on-slot, on-nowhere}
+use Rattle.rules.proofs.RefusalFacts.{begin-taken, end-taken, look-taken}
 
 -- a page that the other state has in no slot is held by no row up to L
 unseen : (L : ℕ) (s t : State) → Alike L s t → (page i : ℕ) → slotOf s page ≡ At i → slotOf t page ≡ Nowhere → (level : ℕ) → level ≤ L → seen s level i ≡ false
@@ -83,7 +84,7 @@ module _ (L : ℕ) (s t : State) (y : Sound s) (z : Sound t) (alike : Alike L s 
         (record { state = putRow s (rowOf level number) x; answer = Begun })
         (record { state = putRow t (rowOf level number) x; answer = Begun })
         alike (same-begin-refusal L s t alike two level number low deadline)
-        (λ e. (refl, same-put-row L s t (y .sized) (z .sized) alike (rowOf level number) x x (omega (arith, begin-passed s level number deadline e)) refl))
+        (λ e. (refl, same-put-row L s t (y .sized) (z .sized) alike (rowOf level number) x x (begin-taken s level number deadline e .names .row-is) refl))
 
     pub same-ended : (number : ℕ) → Same L (ended s level number) (ended t level number)
     unfolding ended
@@ -97,7 +98,7 @@ module _ (L : ℕ) (s t : State) (y : Sound s) (z : Sound t) (alike : Alike L s 
           refl,
           same-put-row L (released own s) (released own t) (sized-released own s (y .sized)) (sized-released own t (z .sized))
               (same-released L s t (y .sized) (z .sized) alike (y .size-most) (z .size-most) own own (λ r h l. refl))
-              (rowOf level number) freeRow freeRow (omega (arith, end-passed s level number e)) refl,
+              (rowOf level number) freeRow freeRow (end-taken s level number e .row-is) refl,
         ))
 
     pub same-looked : (number : ℕ) → Same L (lookedAt s level number) (lookedAt t level number)
@@ -107,7 +108,7 @@ module _ (L : ℕ) (s t : State) (y : Sound s) (z : Sound t) (alike : Alike L s 
         (record { state = s; answer = looked (rowAt s (rowOf level number) .condition) })
         (record { state = t; answer = looked (rowAt t (rowOf level number) .condition) })
         alike refl
-        (λ e. (ap (λ (x : Row). told (looked (x .condition))) (own-row L s t alike two level number low (look-passed level number e)), alike))
+        (λ e. (ap (λ (x : Row). told (looked (x .condition))) (own-row L s t alike two level number low (look-taken level number e .number-is)), alike))
 
     same-view : (page : ℕ) → viewedIn (slotOf s page) s level ≡ viewedIn (slotOf t page) t level
     same-view page = go (slotOf s page) (slotOf t page) refl refl

@@ -12,14 +12,15 @@ use Rattle.model.specs.Parties.{rowOf, levelOf}
 use Rattle.model.specs.Words.{isHeld, slotOf}
 use Rattle.model.proofs.PinLaws.{pin-held}
 use Rattle.rules.specs.Calls.{unpinnedAt, unpinned}
-use Rattle.rules.specs.Refusals.{pinsPage, unpinRefusal}
+use Rattle.rules.specs.Refusals.{unpinRefusal}
 use Rattle.rules.proofs.SoundFacts.{Sound}
 use Rattle.rules.proofs.Alike.{holdingOn, Alike, Same}
 use Rattle.rules.proofs.PageLaws.{found-slot, on-held}
 use Rattle.rules.proofs.SamePages.{same-holding}
 use Rattle.rules.proofs.SameChanges.{same-unless}
-use Rattle.rules.proofs.SameRefusals.{pins-on, same-unpin-refusal, unpin-passed}
+use Rattle.rules.proofs.SameRefusals.{pins-on, same-unpin-refusal}
 use Rattle.rules.proofs.UnpinLaws.{unpinned-on}
+use Rattle.rules.proofs.RefusalFacts.{UnpinTaken, unpin-taken}
 
 same-unpinned-at : (L : ℕ) (s t : State) → Sound s → Sound t → Alike L s t → (row page i j : ℕ) → row < 32 → levelOf row ≤ L → slotOf s page ≡ At i → slotOf t page ≡ At j
     → Alike L (unpinnedAt s row i) (unpinnedAt t row j)
@@ -48,15 +49,14 @@ same-unpinned L s t two y z alike level number page low =
     (record { state = atFound (slotOf s page) (unpinnedAt s (rowOf level number)) s; answer = Unpinned })
     (record { state = atFound (slotOf t page) (unpinnedAt t (rowOf level number)) t; answer = Unpinned })
     alike (same-unpin-refusal L s t alike two level number low page)
-    (λ e. (refl, go (unpin-passed s level number page e)))
+    (λ e. (refl, go (unpin-taken s level number page e)))
   where
-    go : (number ≤ 7) × (pinsPage s (rowOf level number) page ≡ true)
+    go : UnpinTaken s level number page
         → Alike L (atFound (slotOf s page) (unpinnedAt s (rowOf level number)) s) (atFound (slotOf t page) (unpinnedAt t (rowOf level number)) t)
     go h =
-        let n : number ≤ 7 = h .0 in
-        let r : rowOf level number < 32 = omega arith in
-        let l : levelOf (rowOf level number) ≤ L = omega arith in
-        let p : isHeld (holdingOn s page (rowOf level number) .pin) ≡ true = pin-held (holdingOn s page (rowOf level number) .pin) (sym (pins-on s (rowOf level number) page) ∙ h .1) in
+        let r : rowOf level number < 32 = h .names .row-is in
+        let l : levelOf (rowOf level number) ≤ L = omega (arith, h .names .own-level) in
+        let p : isHeld (holdingOn s page (rowOf level number) .pin) ≡ true = pin-held (holdingOn s page (rowOf level number) .pin) (sym (pins-on s (rowOf level number) page) ∙ h .pinned) in
         let q : isHeld (holdingOn t page (rowOf level number) .pin) ≡ true = rw (alike .holding page (rowOf level number) r l) at p in
         let fs = on-held s page (rowOf level number) p in
         let ft = on-held t page (rowOf level number) q in
