@@ -23,7 +23,7 @@ use Rattle.model.proofs.PriorityLaws.{outranks-level}
 use Rattle.model.proofs.SeenLaws.{seen-by, seen-held}
 use Rattle.rules.proofs.ChoiceRank.{Best, best-is, is-best, best-some, best-level, holder-level}
 use Rattle.rules.proofs.ChoiceOrder.{touchOf, nextBefore, before-held}
-use Rattle.rules.proofs.SamePages.{same-rank}
+use Rattle.rules.proofs.SamePages.{same-rank, same-holder, same-seen}
 
 module _ (L : ℕ) (s t : State) (a : Alike L s t) where
   module _ (i j : ℕ) (w : SamePage L s t i j) where
@@ -32,14 +32,6 @@ module _ (L : ℕ) (s t : State) (a : Alike L s t) where
 
     pub page-pins : (r : ℕ) → r < 32 → levelOf r ≤ L → pins s i r ≡ pins t j r
     page-pins r b l = ap (λ (x : Holding). isPin (x .pin)) (w .holding r b l)
-
-    page-holder : (M : ℕ) → M ≤ L → (r : ℕ) → r < 32 → seenHolder s M i r ≡ seenHolder t M j r
-    unfolding seenHolder
-    page-holder M m r b = and-when (leb (levelOf r) M) (holds s i r) (holds t j r) (λ e. page-holds r b (let l = leb-true (levelOf r) M e in omega arith))
-
-    pub page-seen : (M : ℕ) → M ≤ L → seen s M i ≡ seen t M j
-    unfolding seen
-    page-seen M m = any-same (seenHolder s M i) (seenHolder t M j) 32 (page-holder M m)
 
     pub page-pinned : (M : ℕ) → M ≤ L → pinnedAt s M i ≡ pinnedAt t M j
     unfolding pinnedAt
@@ -63,10 +55,10 @@ module _ (L : ℕ) (s t : State) (a : Alike L s t) where
         let p : ℕ → Bool = λ o. not (seenHolder s (levelOf me) i o) || (eqb (levelOf o) (levelOf me) && not (outranks s o me)) in
         let q : ℕ → Bool = λ o. not (seenHolder t (levelOf me) j o) || (eqb (levelOf o) (levelOf me) && not (outranks t o me)) in
         let e : allBelow 32 p ≡ allBelow 32 q = all-same p q 32 (λ o c.
-        ap (λ (x : Bool). not x || (eqb (levelOf o) (levelOf me) && not (outranks s o me))) (page-holder (levelOf me) l o c)
+        ap (λ (x : Bool). not x || (eqb (levelOf o) (levelOf me) && not (outranks s o me))) (same-holder L s t a i j (w .holding) (levelOf me) l o c)
         ∙ ap (λ (x : Bool). not (seenHolder t (levelOf me) j o) || x)
         (and-when (eqb (levelOf o) (levelOf me)) (not (outranks s o me)) (not (outranks t o me)) (λ v. ap not (same-rank L s t a o me c b (let u = eqb-true (levelOf o) (levelOf me) v in omega arith) l)))) in
-        ap (λ (x : Bool). x && allBelow 32 p) (page-seen (levelOf me) l) ∙ ap (λ (x : Bool). seen t (levelOf me) j && x) e
+        ap (λ (x : Bool). x && allBelow 32 p) (same-seen L s t a i j (w .holding) (levelOf me) l) ∙ ap (λ (x : Bool). seen t (levelOf me) j && x) e
 
     -- the best holder is of a level up to L
     module _ (v : seen s L i ≡ true) where
@@ -101,8 +93,8 @@ module _ (L : ℕ) (s t : State) (a : Alike L s t) where
       unfolding heldAbove
       page-above me l =
           let p = seen-held s L i v in
-          let q = seen-held t L j (sym (page-seen L (omega arith)) ∙ v) in
-          rw (p, q, page-seen (levelOf me) l)
+          let q = seen-held t L j (sym (same-seen L s t a i j (w .holding) L (omega arith)) ∙ v) in
+          rw (p, q, same-seen L s t a i j (w .holding) (levelOf me) l)
 
   -- the order of two slots
   pub page-before : (i j k l : ℕ) → SamePage L s t i j → SamePage L s t k l → seen s L i ≡ true → seen s L k ≡ true → beforeHeld s i k ≡ beforeHeld t j l

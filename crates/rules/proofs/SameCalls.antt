@@ -25,7 +25,7 @@ use Rattle.rules.specs.Calls.{begun, ended, deliveredRows, isLate, lateK
 use Rattle.rules.specs.Refusals.{beginRefusal, endRefusal, tickRefusal, lookRefusal, viewRefusal, countRefusal}
 use Rattle.rules.proofs.SoundFacts.{Sound}
 use Rattle.rules.proofs.Alike.{holdingOn, Alike, Same}
-use Rattle.rules.proofs.SamePages.{same-seen, same-strongest, same-least}
+use Rattle.rules.proofs.SamePages.{same-seen, same-strongest, same-least, same-holding}
 use Rattle.rules.proofs.SameChanges.{same-unless, same-put-row, same-killed, same-released}
 use Rattle.rules.proofs.SameRefusals.{same-tick-refusal, own-row, same-begin-refusal, same-end-refusal}
 use Rattle.rules.proofs.AlikeLaws.{alike-sym}
@@ -115,10 +115,11 @@ module _ (L : ℕ) (s t : State) (y : Sound s) (z : Sound t) (alike : Alike L s 
       where
         both : (i j : ℕ) → slotOf s page ≡ At i → slotOf t page ≡ At j → viewedIn (At i) s level ≡ viewedIn (At j) t level
         both i j at-s at-t =
+            let same = same-holding L s t alike page i j at-s at-t in
             rw (
-              same-seen L s t alike page i j at-s at-t level low,
-              same-strongest L s t alike page i j at-s at-t level low,
-              same-least L s t alike page i j at-s at-t level low,
+              same-seen L s t alike i j same level low,
+              same-strongest L s t alike i j same level low,
+              same-least L s t alike i j same level low,
               no-dormant s level i (omega arith),
               no-dormant t level j (omega arith),
             )

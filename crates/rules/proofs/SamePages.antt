@@ -24,19 +24,20 @@ module _ (L : ℕ) (s t : State) (alike : Alike L s t) where
   unfolding outranks
   same-rank r q h k l m = rw (alike .row r h l, alike .row q k m)
 
-  module _ (page i j : ℕ) (at-s : slotOf s page ≡ At i) (at-t : slotOf t page ≡ At j) where
-    pub same-holding : (r : ℕ) → r < 32 → levelOf r ≤ L → holdingAt s i r ≡ holdingAt t j r
-    same-holding r h l = sym (on-slot s page i r at-s) ∙ alike .holding page r h l ∙ on-slot t page j r at-t
+  pub same-holding : (page i j : ℕ) → slotOf s page ≡ At i → slotOf t page ≡ At j → (r : ℕ) → r < 32 → levelOf r ≤ L → holdingAt s i r ≡ holdingAt t j r
+  same-holding page i j at-s at-t r h l = sym (on-slot s page i r at-s) ∙ alike .holding page r h l ∙ on-slot t page j r at-t
 
+  -- slots on which the rows up to L have the same holdings
+  module _ (i j : ℕ) (same : (r : ℕ) → r < 32 → levelOf r ≤ L → holdingAt s i r ≡ holdingAt t j r) where
     pub same-conflicts : (me : ℕ) (mode : Mode) (r : ℕ) → r < 32 → levelOf r ≤ L → conflicts s me i mode r ≡ conflicts t me j mode r
     unfolding conflicts
-    same-conflicts me mode r h l = rw (same-holding r h l)
+    same-conflicts me mode r h l = rw (same r h l)
 
     module _ (level : ℕ) (up : level ≤ L) where
-      same-holder : (r : ℕ) → r < 32 → seenHolder s level i r ≡ seenHolder t level j r
+      pub same-holder : (r : ℕ) → r < 32 → seenHolder s level i r ≡ seenHolder t level j r
       unfolding seenHolder
       same-holder r h = and-when (leb (levelOf r) level) (holds s i r) (holds t j r)
-          (λ e. rw (same-holding r h (omega (arith, leb-true (levelOf r) level e))))
+          (λ e. rw (same r h (omega (arith, leb-true (levelOf r) level e))))
 
       pub same-seen : seen s level i ≡ seen t level j
       unfolding seen
@@ -44,7 +45,7 @@ module _ (L : ℕ) (s t : State) (alike : Alike L s t) where
 
       seen-holding : (r : ℕ) → r < 32 → seenHolder s level i r ≡ true → holdingAt s i r ≡ holdingAt t j r
       unfolding seenHolder
-      seen-holding r h e = same-holding r h (omega (arith, leb-true (levelOf r) level (and-left (leb (levelOf r) level) (holds s i r) e)))
+      seen-holding r h e = same r h (omega (arith, leb-true (levelOf r) level (and-left (leb (levelOf r) level) (holds s i r) e)))
 
       pub same-strongest : strongestPin s level i ≡ strongestPin t level j
       unfolding strongestPin
