@@ -1,7 +1,8 @@
--- Pins: which are held and pinned, the stronger of two, and which conflict.
-use mathlib.Core.Path.{_≡_, refl}
+-- Pins: which are held, pins and write pins; the stronger of two; which conflict.
+use mathlib.Core.Path.{_≡_, refl, sym, _∙_}
 use mathlib.Core.Bool.{Bool, true, false, cond, _&&_, _||_, and-comm, or-comm}
 use lib.Dec.{ltb}
+use Rattle.seq.proofs.Tests.{true-false, not-true-false}
 use Rattle.model.specs.declared.Mode.{Mode}
 use Rattle.model.specs.declared.Mode.the-variants as Mode
 use Rattle.model.specs.declared.Pin.{Pin}
@@ -15,10 +16,20 @@ pin-held Read e = refl
 pin-held Write e = refl
 
 pub not-pinned : (p : Pin) → isHeld p ≡ false → isPin p ≡ false
-not-pinned Absent e = refl
-not-pinned Unpinned e = refl
-not-pinned Read e = e
-not-pinned Write e = e
+not-pinned p e = not-true-false (isPin p) (λ w. true-false (sym (pin-held p w) ∙ e))
+
+-- a write pin is a pin
+pub write-pin : (p : Pin) → isWrite p ≡ true → isPin p ≡ true
+write-pin Absent e = e
+write-pin Unpinned e = e
+write-pin Read e = refl
+write-pin Write e = refl
+
+pub write-held : (p : Pin) → isWrite p ≡ true → isHeld p ≡ true
+write-held p e = pin-held p (write-pin p e)
+
+pub not-written : (p : Pin) → isPin p ≡ false → isWrite p ≡ false
+not-written p e = not-true-false (isWrite p) (λ w. true-false (sym (write-pin p w) ∙ e))
 
 pub mode-held : (mode : Mode) → isHeld (pinOf mode) ≡ true
 mode-held Mode.Read = refl
@@ -27,18 +38,6 @@ mode-held Mode.Write = refl
 pub mode-pin : (mode : Mode) → isPin (pinOf mode) ≡ true
 mode-pin Mode.Read = refl
 mode-pin Mode.Write = refl
-
-pub write-held : (p : Pin) → isWrite p ≡ true → isHeld p ≡ true
-write-held Absent e = e
-write-held Unpinned e = refl
-write-held Read e = refl
-write-held Write e = refl
-
-pub not-written : (p : Pin) → isPin p ≡ false → isWrite p ≡ false
-not-written Absent e = refl
-not-written Unpinned e = refl
-not-written Read e = refl
-not-written Write e = e
 
 -- the stronger of two pins is one of them
 pub stronger-is : (P : Pin → Type 0) (p q : Pin) → P p → P q → P (stronger p q)

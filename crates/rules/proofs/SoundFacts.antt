@@ -9,7 +9,7 @@ use lib.Dec.{ltb, eqb}
 use lib.ListN.{length}
 use Rattle.seq.specs.Below.{allBelow, countBelow}
 use Rattle.seq.proofs.Tests.{true-false, parts, and-true, both-true}
-use Rattle.seq.proofs.BelowLaws.{all-each, One, count-one}
+use Rattle.seq.proofs.BelowLaws.{all-each, One, count-one, pairs-each}
 use Rattle.model.specs.declared.Condition.{Condition}
 use Rattle.model.specs.declared.Condition.the-variants.{Free, Idle, Fetching, Waiting, Killed}
 use Rattle.model.specs.declared.Content.{Content}
@@ -187,8 +187,7 @@ pages-facts s e i j a b f g q = elim (ℕ-discrete i j) [
   | no m ↦ absurd (pairs (λ x y. isFilled (slotAt s x .content) ≡ true → isFilled (slotAt s y .content) ≡ true → pageIn (slotAt s x .content) ≡ pageIn (slotAt s y .content) → ⊥)
       (λ x y h u v w. h v u (sym w)) 64
       (λ x y c d u v w.
-      let k = all-each (λ other. not (isFilled (slotAt s x .content) && hasPage (pageIn (slotAt s x .content)) (slotAt s other .content))) x y
-      (all-each (λ slot. allBelow slot (λ other. not (isFilled (slotAt s slot .content) && hasPage (pageIn (slotAt s slot .content)) (slotAt s other .content)))) 64 x e c) d in
+      let k = pairs-each (λ slot other. not (isFilled (slotAt s slot .content) && hasPage (pageIn (slotAt s slot .content)) (slotAt s other .content))) 64 x y e c d in
       true-false (sym (both-true u (has-page (pageIn (slotAt s x .content)) (slotAt s y .content) v (sym w))) ∙ not-true (isFilled (slotAt s x .content) && hasPage (pageIn (slotAt s x .content)) (slotAt s y .content)) k))
       i j a b m f g q)
 ]
@@ -198,8 +197,7 @@ unfolding soundPins
 pins-facts s i e r q a b m =
     pairs (λ x y. conflict (holdingAt s i x .pin) (holdingAt s i y .pin) ≡ false)
     (λ x y h. conflict-comm (holdingAt s i y .pin) (holdingAt s i x .pin) ∙ h) 32
-    (λ x y c d. not-true (conflict (holdingAt s i x .pin) (holdingAt s i y .pin)) (all-each (λ other. not (conflict (holdingAt s i x .pin) (holdingAt s i other .pin))) x y
-    (all-each (λ row. allBelow row (λ other. not (conflict (holdingAt s i row .pin) (holdingAt s i other .pin)))) 32 x e c) d))
+    (λ x y c d. not-true (conflict (holdingAt s i x .pin) (holdingAt s i y .pin)) (pairs-each (λ row other. not (conflict (holdingAt s i row .pin) (holdingAt s i other .pin))) 32 x y e c d))
     r q a b m
 
 pub facts : (s : State) → sound s ≡ true → Sound s

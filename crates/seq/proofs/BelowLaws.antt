@@ -102,6 +102,14 @@ module _ (p : ℕ → Bool) where
       go true h = omega arith
       go false h = omega arith
 
+-- a test of each pair of different numbers below n, the larger first
+module _ (q : ℕ → ℕ → Bool) where
+  pub pairs-each : (n i j : ℕ) → allBelow n (λ k. allBelow k (q k)) ≡ true → i < n → j < i → q i j ≡ true
+  pairs-each n i j e a b = all-each (q i) i j (all-each (λ k. allBelow k (q k)) n i e a) b
+
+  pub each-pairs : (n : ℕ) → ((i j : ℕ) → i < n → j < i → q i j ≡ true) → allBelow n (λ k. allBelow k (q k)) ≡ true
+  each-pairs n f = each-all (λ k. allBelow k (q k)) n (λ i a. each-all (q i) i (λ j b. f i j a b))
+
 module _ (p q : ℕ → Bool) where
   -- two loops of one length at their end
   pub both-at : (n m : ℕ) (a b : Bool) → n ≡ m → a ≡ allBelow n p → b ≡ allBelow n q → a && b ≡ allBelow m p && allBelow m q

@@ -8,20 +8,14 @@ use lib.Dec.{eqb}
 use borrow.Author.Tests.{eqb-true, eq-eqb, not-true}
 use Rattle.seq.specs.Below.{anyBelow, allBelow, countBelow}
 use Rattle.seq.proofs.Tests.{true-false, same-truth}
-use Rattle.seq.proofs.BelowLaws.{One, any-none, any-hit, all-each, each-all, count-one, one-count}
+use Rattle.seq.proofs.BelowLaws.{One, any-none, any-hit, count-one, one-count, pairs-each, each-pairs}
 use Rattle.model.specs.declared.Pin.{Pin}
-use Rattle.model.specs.declared.Pin.the-variants.{Absent, Unpinned, Read, Write}
 use Rattle.model.specs.declared.State.{State}
 use Rattle.model.specs.State.{holdingAt}
 use Rattle.model.specs.Words.{isPin, isWrite, conflict}
+use Rattle.model.proofs.PinLaws.{write-pin, conflict-comm}
 use Rattle.rules.specs.Sound.{soundPins}
 use Rattle.sound.specs.Elements.{pinsTest}
-
-write-pin : (p : Pin) → isWrite p ≡ true → isPin p ≡ true
-write-pin Absent e = e
-write-pin Unpinned e = e
-write-pin Read e = refl
-write-pin Write e = refl
 
 -- a pin beside a write pin
 write-first : (p q : Pin) → isWrite p ≡ true → isPin q ≡ true → conflict p q ≡ true
@@ -29,12 +23,7 @@ unfolding conflict
 write-first p q w e = rw (write-pin p w, e, w)
 
 write-second : (p q : Pin) → isPin p ≡ true → isWrite q ≡ true → conflict p q ≡ true
-unfolding conflict
-write-second p q e w = rw (e, write-pin q w, w) (or-right (isWrite p))
-  where
-    or-right : (a : Bool) → a || true ≡ true
-    or-right true = refl
-    or-right false = refl
+write-second p q e w = conflict-comm p q ∙ write-first q p w e
 
 no-write : (p q : Pin) → isWrite p ≡ false → isWrite q ≡ false → conflict p q ≡ false
 unfolding conflict
@@ -66,13 +55,10 @@ module _ (f : ℕ → Pin) (n : ℕ) where
   apart-each : apart ≡ true → (i j : ℕ) → i < n → j < i → conflict (f i) (f j) ≡ false
   apart-each e i j a b =
       not-true (conflict (f i) (f j))
-      (all-each (λ other. not (conflict (f i) (f other))) i j
-      (all-each (λ row. allBelow row (λ other. not (conflict (f row) (f other)))) n i e a) b)
+      (pairs-each (λ row other. not (conflict (f row) (f other))) n i j e a b)
 
   each-apart : ((i j : ℕ) → i < n → j < i → conflict (f i) (f j) ≡ false) → apart ≡ true
-  each-apart h =
-      each-all (λ row. allBelow row (λ other. not (conflict (f row) (f other)))) n
-      (λ i a. each-all (λ other. not (conflict (f i) (f other))) i (λ j b. rw (h i j a b)))
+  each-apart h = each-pairs (λ row other. not (conflict (f row) (f other))) n (λ i j a b. rw (h i j a b))
 
   -- a write pin is the only pin
   only-write : apart ≡ true → (w : ℕ) → w < n → isWrite (f w) ≡ true → One (λ row. isPin (f row)) n
