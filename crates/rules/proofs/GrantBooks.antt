@@ -22,28 +22,19 @@ use Rattle.model.specs.Changes.{written}
 use Rattle.model.proofs.StateLaws.{Sized}
 use Rattle.model.proofs.BookLaws.{Booked}
 use Rattle.model.proofs.ContentLaws.{dirtied-page, dirtied-stays, dirtied-is}
-use Rattle.model.proofs.PinLaws.{write-held}
+use Rattle.model.proofs.PinLaws.{write-held, stronger-is, mode-held}
 use Rattle.rules.specs.Calls.{heldWith, unpinnedAt, granted}
 use Rattle.rules.proofs.GrantLaws.{grantedSlot, grantedHolding, granted-slot, granted-holding, lowest-page, lowest-dirty}
 use Rattle.rules.proofs.UnpinLaws.{unpinnedHolding, unpinnedSlot, unpinned-holding, unpinned-slot}
 
 -- ---- the holding that a grant puts
 
-stronger-held : (p : Pin) (mode : Mode) → isHeld (stronger p (pinOf mode)) ≡ true
-unfolding stronger
-stronger-held Absent Mode.Read = refl
-stronger-held Absent Mode.Write = refl
-stronger-held Unpinned Mode.Read = refl
-stronger-held Unpinned Mode.Write = refl
-stronger-held Read Mode.Read = refl
-stronger-held Read Mode.Write = refl
-stronger-held Write Mode.Read = refl
-stronger-held Write Mode.Write = refl
-
-put-held : (held : Bool) (own : Holding) (mode : Mode) (arrival clock : ℕ) → isHeld (heldWith held own (pinOf mode) arrival clock .pin) ≡ true
-put-held true own mode arrival clock = stronger-held (own .pin) mode
-put-held false own Mode.Read arrival clock = refl
-put-held false own Mode.Write arrival clock = refl
+put-held : (own : Holding) (mode : Mode) (arrival clock : ℕ) → isHeld (heldWith (isHeld (own .pin)) own (pinOf mode) arrival clock .pin) ≡ true
+put-held own mode arrival clock = go (isHeld (own .pin)) refl
+  where
+    go : (b : Bool) → isHeld (own .pin) ≡ b → isHeld (heldWith b own (pinOf mode) arrival clock .pin) ≡ true
+    go true e = stronger-is (λ x. isHeld x ≡ true) (own .pin) (pinOf mode) e (mode-held mode)
+    go false e = mode-held mode
 
 stronger-write : (p : Pin) (mode : Mode) → isWrite p ≡ true → isWrite (stronger p (pinOf mode)) ≡ true
 unfolding stronger
@@ -71,7 +62,7 @@ module _ (u : State) (z : Sized u) (row slot : ℕ) (r : row < 32) (b : slot < 6
   granted-holds i q h e = ap (λ (x : Holding). isHeld (x .pin)) (granted-holding u z row slot r b mode arrival back i q h) ∙ go (eqb i slot && eqb q row)
     where
       go : (own : Bool) → isHeld (cond own (grantedHolding u row slot mode arrival) (holdingAt u i q) .pin) ≡ true
-      go true = put-held (isHeld (holdingAt u slot row .pin)) (holdingAt u slot row) mode arrival (u .clock)
+      go true = put-held (holdingAt u slot row) mode arrival (u .clock)
       go false = e
 
   pub granted-booked : (k page i : ℕ) → Booked k page u (granted u row slot mode arrival back .state) i
