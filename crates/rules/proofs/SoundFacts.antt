@@ -63,7 +63,12 @@ pub record Held (s : State) (slot row : ℕ) : Type 0 where
   pub touch : holdingAt s slot row .touch ≤ slotAt s slot .touch
   pub lowest : lowestIn (slotAt s slot .content) ≤ levelOf row
 
-pub record Sound (s : State) : Type 0 where
+-- what it says of the rows
+abbrev pub RowsSound : State → Type 0
+RowsSound s = (r : ℕ) → r < 32 → RowSound s r (rowAt s r .condition) (rowAt s r .deadline)
+
+-- what it says of a state, with a given part for the rows
+pub record Facts (Rows : Type 0) (s : State) : Type 0 where
   pub sized : Sized s
   pub size-least : 1 ≤ s .size
   pub size-most : s .size ≤ 64
@@ -73,10 +78,13 @@ pub record Sound (s : State) : Type 0 where
   pub slot : (i : ℕ) → i < 64 → SlotSound s i
   pub one-slot : (i j : ℕ) → i < 64 → j < 64 → isFilled (slotAt s i .content) ≡ true → isFilled (slotAt s j .content) ≡ true
       → pageIn (slotAt s i .content) ≡ pageIn (slotAt s j .content) → i ≡ j
-  pub row : (r : ℕ) → r < 32 → RowSound s r (rowAt s r .condition) (rowAt s r .deadline)
+  pub row : Rows
   pub held : (i r : ℕ) → i < 64 → r < 32 → holds s i r ≡ true → Held s i r
   pub unheld : (i r : ℕ) → i < 64 → r < 32 → holds s i r ≡ false → holdingAt s i r ≡ emptyHolding
   pub no-conflict : (i r q : ℕ) → i < 64 → r < 32 → q < 32 → (r ≡ q → ⊥) → conflict (holdingAt s i r .pin) (holdingAt s i q .pin) ≡ false
+
+abbrev pub Sound : State → Type 0
+Sound s = Facts (RowsSound s) s
 
 -- ---- from the test to the facts
 
