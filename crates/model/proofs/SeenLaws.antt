@@ -1,4 +1,4 @@
--- What a level sees of a slot.
+-- What a level sees of a slot, and of a dormant one.
 use mathlib.Core.Path.{_≡_, sym, _∙_}
 use mathlib.Core.Bool.{true, false}
 use Prim.Native.Nat.{ℕ, _<_, _≤_}
@@ -52,4 +52,3 @@ dormant-unheld s slot e r b = any-none (holds s slot) 32 r (not-true (anyBelow 3
 pub no-dormant : (s : State) (level slot : ℕ) → level ≤ 2 → seesDormant s level slot ≡ false
 unfolding seesDormant
 no-dormant s level slot h = rw (ne-eqb level 3 (λ e. omega arith))
-

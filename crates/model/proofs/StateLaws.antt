@@ -1,4 +1,4 @@
--- What stands at a row, a slot and a holding of a state with one of them replaced.
+-- What stands at a row, a slot and a holding of a state with one of them replaced, and of the fresh state.
 use mathlib.Core.Path.{_≡_, refl, sym, _∙_, ap}
 use mathlib.Core.Bool.{Bool, cond, _&&_}
 use mathlib.Core.List.{List}

@@ -1,4 +1,4 @@
--- What a clearance up to 2 can learn of a state, as a relation of two states: by pages, and not by slots.
+-- What a clearance up to 2 can learn of a state, as a relation of two states: by pages, and not by slots; and of two outcomes.
 use mathlib.Core.Path.{_≡_}
 use Prim.Native.Nat.{ℕ, _<_, _≤_}
 use Rattle.seq.specs.Below.{atFound}

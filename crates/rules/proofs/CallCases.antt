@@ -1,4 +1,4 @@
--- What an accepted call does, one case for each kind of change; which calls ask for a page; how a request or retry is served.
+-- What a call does, one case for each kind of change; which calls ask for a page.
 use mathlib.Core.Path.{_≡_, refl, sym}
 use mathlib.Core.Bool.{Bool, true, false, cond}
 use mathlib.Core.List.{[], _∷_}

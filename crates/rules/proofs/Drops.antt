@@ -48,10 +48,6 @@ pub record Refilled (s : State) (c : Call) (t : State) (slot q : ℕ) : Type 0 w
 abbrev pub Lost : State → Call → State → ℕ → ℕ → Type 0
 Lost s c t slot q = (isLive (rowAt t q .condition) ≡ false) ⊎ Refilled s c t slot q
 
--- a holding that stays was not dropped
-not-dropped : {P : Type 0} (h : Holding) → isHeld (h .pin) ≡ true → isHeld (h .pin) ≡ false → P
-not-dropped h a b = true-false (sym a ∙ b)
-
 -- a holding that is dropped with those of some rows is of one of them
 dropped-some : {P : Type 0} (gone : Bool) (h k : Holding) → k ≡ cond gone emptyHolding h → isHeld (h .pin) ≡ true → isHeld (k .pin) ≡ false → (gone ≡ true → P) → P
 dropped-some true h k e a b f = f refl

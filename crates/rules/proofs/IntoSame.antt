@@ -26,7 +26,6 @@ use Rattle.rules.specs.Calls.{intoSlot, served}
 use Rattle.rules.proofs.SoundFacts.{Sound}
 use Rattle.rules.proofs.Alike.{holdingOn, Alike, Same}
 use Rattle.rules.proofs.PageLaws.{found-slot}
-use Rattle.rules.proofs.IntoSeen.{SamePage, open-alike}
 use Rattle.rules.proofs.IntoGain.{gains-same}
 use Rattle.rules.proofs.IntoFill.{leftRow, leftHolding, into-gains}
 use Rattle.rules.proofs.IntoOpen.{Nobody, nobody-seen, served-absent, open-gains}
@@ -34,6 +33,7 @@ use Rattle.rules.proofs.ChoicePages.{page-pins}
 use Rattle.rules.proofs.ChoiceSame.{SeesAll, chosen-paired}
 use Rattle.rules.proofs.AlikeLaws.{alike-sym}
 use Rattle.rules.proofs.SameChanges.{same-waiting}
+use Rattle.rules.proofs.SameSlots.{SamePage, same-open}
 
 module _ (L : ℕ) (s t : State) (z : Sound s) (y : Sound t) (a : Alike L s t) (me page : ℕ) (mode : Mode) (r : me < 32) (low : levelOf me ≤ L) where
   -- taking the slots of one page leaves the same to the rows up to L
@@ -82,13 +82,13 @@ into-same L s t me page mode most r low z y a nobody = go (anyBelow (s .size) (i
     go : (b : Bool) → anyBelow (s .size) (isOpen s L) ≡ b → Same L (served s me page mode) (served t me page mode)
     go true e =
         let x = any-hit (isOpen s L) (s .size) e in
-        let x′ = any-hit (isOpen t L) (t .size) (open-alike L s t z y a L (omega arith) e) in
+        let x′ = any-hit (isOpen t L) (t .size) (same-open L s t z y a L (omega arith) e) in
         gains-same L s t me page mode (rowAt s) (rowAt t) (holdingOn s) (holdingOn t) (served s me page mode) (served t me page mode) r low a (a .row) (a .holding)
         (open-gains L s z me page mode most r low nobody (x .0) (x .1) (open-seen s L (x .0) (x .2)))
         (open-gains L t y me page mode most r low nobody′ (x′ .0) (x′ .1) (open-seen t L (x′ .0) (x′ .2)))
     go false e =
         let all = none-open L s e in
-        let all′ = none-open L t (not-true-false (anyBelow (t .size) (isOpen t L)) (λ q. true-false (sym (open-alike L t s y z (alike-sym a) L (omega arith) q) ∙ e))) in
+        let all′ = none-open L t (not-true-false (anyBelow (t .size) (isOpen t L)) (λ q. true-false (sym (same-open L t s y z (alike-sym a) L (omega arith) q) ∙ e))) in
         let absent = seen-absent L s page all nobody (λ i q. found-slot s page i q .0) in
         let absent′ = seen-absent L t page all′ nobody′ (λ i q. found-slot t page i q .0) in
         rw (served-absent s me page mode absent, served-absent t me page mode absent′)

@@ -1,4 +1,4 @@
--- The holding that a grant puts.
+-- When a row may be granted a page, and what the holding is that a grant puts.
 use mathlib.Core.Path.{_≡_, refl, sym}
 use mathlib.Core.Bool.{Bool, true, false}
 use Prim.Native.Nat.{ℕ, _+_, _<_, _≤_}

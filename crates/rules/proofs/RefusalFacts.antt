@@ -1,4 +1,4 @@
--- What it says of a call and its numbers that no refusal applies.
+-- What it says of a call and its numbers that no refusal applies; what holds of a call, refused or not.
 use mathlib.Core.Path.{_≡_, refl, sym}
 use mathlib.Core.Bool.{Bool, true, false, _&&_, not}
 use mathlib.Core.List.{List, [], _∷_}

@@ -27,9 +27,9 @@ use Rattle.rules.proofs.SameRefusals.{own-condition, same-request-refus
 use Rattle.rules.proofs.SameCalls.{same-begun, same-ended, same-ticked, same-looked, same-viewed, same-counted}
 use Rattle.rules.proofs.SameUnpin.{same-unpinned}
 use Rattle.rules.proofs.SameServed.{same-served}
-use Rattle.rules.proofs.IntoSeen.{count-same}
 use Rattle.rules.proofs.IntoSame.{into-same}
 use Rattle.rules.proofs.RefusalFacts.{Named, request-taken, retry-taken}
+use Rattle.rules.proofs.SameSlots.{same-open-count}
 
 same-request : (L : ℕ) (s t : State) (me page : ℕ) (mode : Mode) → L ≤ 2 → me < 32 → levelOf me ≤ L → Sound s → Sound t → Alike L s t → Same L (served s me page mode) (served t me page mode)
 same-request L s t me page mode two h l y z alike = go (anyBelow 32 (λ r. leb (levelOf r) L && isHeld (holdingOn s page r .pin))) refl
@@ -83,4 +83,4 @@ same-step L s t (end level number) two y z a k = same-ended L s t (facts s y) (f
 same-step L s t tick two y z a k = same-ticked L s t (facts s y) (facts t z) a
 same-step L s t (look level number) two y z a k = same-looked L s t (facts s y) (facts t z) a two level (leb-true level L k) number
 same-step L s t (view level page) two y z a k = same-viewed L s t (facts s y) (facts t z) a two level (leb-true level L k) page
-same-step L s t (count level) two y z a k = same-counted L s t (facts s y) (facts t z) a two level (leb-true level L k) (count-same L s t (facts s y) (facts t z) a level (leb-true level L k))
+same-step L s t (count level) two y z a k = same-counted L s t (facts s y) (facts t z) a two level (leb-true level L k) (same-open-count L s t (facts s y) (facts t z) a level (leb-true level L k))

@@ -1,4 +1,4 @@
--- What sound says of a state, as facts; and that these facts are all that it says.
+-- What sound says of a state, as facts.
 use mathlib.Core.Path.{_≡_, refl, sym, _∙_}
 use mathlib.Core.Bool.{Bool, true, false, _&&_, _||_, not}
 use Prim.Native.Nat.{ℕ, _+_, _<_, _≤_}

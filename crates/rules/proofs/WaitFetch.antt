@@ -1,4 +1,4 @@
--- What an answer wait or fetch says of the state before: wait comes only by steps 1 and g.
+-- What an answer wait or fetch says: wait comes only by steps 1 and g; a fetch is due after the clock, and its row is fetching until then.
 use mathlib.Core.Path.{_≡_, refl, sym, _∙_, ap}
 use mathlib.Core.Bool.{Bool, true, false, _&&_, not}
 use mathlib.Core.Logic.{_⊎_, inl, inr}

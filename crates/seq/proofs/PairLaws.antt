@@ -1,4 +1,4 @@
--- Two searches whose numbers correspond: they find numbers that correspond.
+-- Two searches whose numbers correspond: they find numbers that correspond. The largest value of what passes.
 use mathlib.Core.Path.{_≡_, refl, _∙_, sym, ap}
 use mathlib.Core.Bool.{Bool, true, false}
 use Prim.Native.Nat.{ℕ, _<_, _≤_}

@@ -1,4 +1,4 @@
--- What a level sees of a slot; the slot with the same page in an alike state; the count of open slots agrees.
+-- The slot that has the same page in an alike state; the counts of seen and of open slots agree.
 use mathlib.Core.Path.{_≡_, refl, sym, _∙_, ap}
 use mathlib.Core.Bool.{true}
 use Prim.Native.Nat.{ℕ, _+_, _<_, _≤_}
@@ -72,12 +72,12 @@ open-count s M = count-not (seen s M) (s .size)
 
 module _ (L : ℕ) (s t : State) (z : Sound s) (y : Sound t) (a : Alike L s t) where
   -- the count of open slots
-  pub count-same : (M : ℕ) → M ≤ L → countBelow (s .size) (isOpen s M) ≡ countBelow (t .size) (isOpen t M)
-  count-same M m =
+  pub same-open-count : (M : ℕ) → M ≤ L → countBelow (s .size) (isOpen s M) ≡ countBelow (t .size) (isOpen t M)
+  same-open-count M m =
       let p = seen-most L s t z y a M m in
       let q = seen-most L t s y z (alike-sym a) M m in
       omega (arith, open-count s M, open-count t M, a .size)
 
   -- where a slot is open to a level up to L in the one state, a slot is in the other
-  pub open-alike : (M : ℕ) → M ≤ L → anyBelow (s .size) (isOpen s M) ≡ true → anyBelow (t .size) (isOpen t M) ≡ true
-  open-alike M m e = any-count (isOpen s M) (isOpen t M) (s .size) (t .size) (count-same M m) e
+  pub same-open : (M : ℕ) → M ≤ L → anyBelow (s .size) (isOpen s M) ≡ true → anyBelow (t .size) (isOpen t M) ≡ true
+  same-open M m e = any-count (isOpen s M) (isOpen t M) (s .size) (t .size) (same-open-count M m) e
