@@ -9,7 +9,6 @@ use Rattle.seq.proofs.Tests.{and-false-right}
 use Rattle.model.specs.declared.Back.{Back}
 use Rattle.model.specs.declared.Cause.{Cause}
 use Rattle.model.specs.declared.Mode.{Mode}
-use Rattle.model.specs.declared.Pin.the-variants as Pin
 use Rattle.model.specs.declared.Row.{Row}
 use Rattle.model.specs.declared.State.{State}
 use Rattle.model.specs.Parties.{levelOf}

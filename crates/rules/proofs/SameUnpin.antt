@@ -6,7 +6,6 @@ use native.Mathlib.Omega.{arith}
 use Rattle.seq.specs.Below.{atFound}
 use Rattle.seq.specs.declared.Found.the-variants.{At}
 use Rattle.model.specs.declared.Answer.the-variants.{Unpinned}
-use Rattle.model.specs.declared.Pin.the-variants as Pin
 use Rattle.model.specs.declared.State.{State}
 use Rattle.model.specs.Parties.{rowOf, levelOf}
 use Rattle.model.specs.Words.{isHeld, slotOf}
