@@ -3,13 +3,13 @@ use mathlib.Core.Path.{_≡_, refl, sym, _∙_}
 use mathlib.Core.Bool.{Bool, true, false, _&&_, _||_, not}
 use Prim.Native.Nat.{ℕ, _+_, _<_, _≤_}
 use native.Mathlib.Omega.{arith}
-use native.Mathlib.Decide.{ℕ-discrete, decLt}
+use native.Mathlib.Decide.{ℕ-discrete}
 use borrow.Author.Tests.{ltb-true, leb-true, eqb-true, leb-false, not-true}
 use lib.Dec.{ltb, eqb}
 use lib.ListN.{length}
 use Rattle.seq.specs.Below.{allBelow, countBelow}
 use Rattle.seq.proofs.Tests.{true-false, parts, and-true, both-true}
-use Rattle.seq.proofs.BelowLaws.{all-each, One, count-one, pairs-each}
+use Rattle.seq.proofs.BelowLaws.{all-each, One, count-one, pairs-each, by-larger}
 use Rattle.model.specs.declared.Condition.{Condition}
 use Rattle.model.specs.declared.Condition.the-variants.{Free, Idle, Fetching, Waiting, Killed}
 use Rattle.model.specs.declared.Content.{Content}
@@ -180,19 +180,12 @@ unheld-facts s i r e h =
     let k = and-true (eqb (holdingAt s i r .arrival) 0) (eqb (holdingAt s i r .touch) 0) (rw h at e) in
     no-holding (holdingAt s i r) h (eqb-true (holdingAt s i r .arrival) 0 (k .0)) (eqb-true (holdingAt s i r .touch) 0 (k .1))
 
--- what holds of each pair of different numbers by the larger first, holds of each pair
-pairs : (P : ℕ → ℕ → Type 0) → ((i j : ℕ) → P i j → P j i) → (n : ℕ) → ((i j : ℕ) → i < n → j < i → P i j) → (i j : ℕ) → i < n → j < n → (i ≡ j → ⊥) → P i j
-pairs P sy n f i j a b m = elim (decLt j i) [
-  | yes h ↦ f i j a h
-  | no h ↦ sy j i (f j i b (let k = m in elim (ℕ-discrete i j) [ yes e ↦ absurd (k e) | no e ↦ omega arith ]))
-]
-
 pages-facts : (s : State) → soundPages s ≡ true → (i j : ℕ) → i < 64 → j < 64 → isFilled (slotAt s i .content) ≡ true → isFilled (slotAt s j .content) ≡ true
     → pageIn (slotAt s i .content) ≡ pageIn (slotAt s j .content) → i ≡ j
 unfolding soundPages samePage
 pages-facts s e i j a b f g q = elim (ℕ-discrete i j) [
   | yes m ↦ m
-  | no m ↦ absurd (pairs (λ x y. isFilled (slotAt s x .content) ≡ true → isFilled (slotAt s y .content) ≡ true → pageIn (slotAt s x .content) ≡ pageIn (slotAt s y .content) → ⊥)
+  | no m ↦ absurd (by-larger (λ x y. isFilled (slotAt s x .content) ≡ true → isFilled (slotAt s y .content) ≡ true → pageIn (slotAt s x .content) ≡ pageIn (slotAt s y .content) → ⊥)
       (λ x y h u v w. h v u (sym w)) 64
       (λ x y c d u v w.
       let k = pairs-each (λ slot other. not (isFilled (slotAt s slot .content) && hasPage (pageIn (slotAt s slot .content)) (slotAt s other .content))) 64 x y e c d in
@@ -203,7 +196,7 @@ pages-facts s e i j a b f g q = elim (ℕ-discrete i j) [
 pins-facts : (s : State) (i : ℕ) → soundPins s i ≡ true → (r q : ℕ) → r < 32 → q < 32 → (r ≡ q → ⊥) → conflict (holdingAt s i r .pin) (holdingAt s i q .pin) ≡ false
 unfolding soundPins
 pins-facts s i e r q a b m =
-    pairs (λ x y. conflict (holdingAt s i x .pin) (holdingAt s i y .pin) ≡ false)
+    by-larger (λ x y. conflict (holdingAt s i x .pin) (holdingAt s i y .pin) ≡ false)
     (λ x y h. conflict-comm (holdingAt s i y .pin) (holdingAt s i x .pin) ∙ h) 32
     (λ x y c d. not-true (conflict (holdingAt s i x .pin) (holdingAt s i y .pin)) (pairs-each (λ row other. not (conflict (holdingAt s i row .pin) (holdingAt s i other .pin))) 32 x y e c d))
     r q a b m

@@ -4,7 +4,7 @@ use mathlib.Core.Bool.{Bool, true, false, cond, _&&_, _||_}
 use Prim.Native.Nat.{ℕ, zero, suc, _+_, _<_, _≤_}
 use native.Mathlib.Numerals.{add-one}
 use native.Mathlib.Omega.{arith}
-use native.Mathlib.Decide.{ℕ-discrete}
+use native.Mathlib.Decide.{ℕ-discrete, decLt}
 use Rattle.seq.specs.Below.{anyBelow, allBelow, countBelow}
 use Rattle.seq.proofs.Tests.{true-false, and-true, or-false, or-true-right, and-false-right, both-true}
 
@@ -109,6 +109,13 @@ module _ (q : ℕ → ℕ → Bool) where
 
   pub each-pairs : (n : ℕ) → ((i j : ℕ) → i < n → j < i → q i j ≡ true) → allBelow n (λ k. allBelow k (q k)) ≡ true
   each-pairs n f = each-all (λ k. allBelow k (q k)) n (λ i a. each-all (q i) i (λ j b. f i j a b))
+
+-- what holds of each pair of different numbers by the larger first, holds of each pair
+pub by-larger : (P : ℕ → ℕ → Type 0) → ((i j : ℕ) → P i j → P j i) → (n : ℕ) → ((i j : ℕ) → i < n → j < i → P i j) → (i j : ℕ) → i < n → j < n → (i ≡ j → ⊥) → P i j
+by-larger P sy n f i j a b m = elim (decLt j i) [
+  | yes h ↦ f i j a h
+  | no h ↦ sy j i (f j i b (let k = m in elim (ℕ-discrete i j) [ yes e ↦ absurd (k e) | no e ↦ omega arith ]))
+]
 
 module _ (p q : ℕ → Bool) where
   -- two loops of one length at their end
