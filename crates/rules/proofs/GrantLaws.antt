@@ -1,10 +1,11 @@
--- What a grant leaves at each row, slot and holding, and on each page.
-use mathlib.Core.Path.{_≡_, refl, sym, _∙_, ap}
-use mathlib.Core.Bool.{Bool, true, false, cond, _&&_}
+-- What a grant leaves at each row, slot and holding, and on each page; the rows that it spares.
+use mathlib.Core.Path.{_≡_, refl}
+use mathlib.Core.Bool.{false, cond, _&&_, not}
 use Prim.Native.Nat.{ℕ, _<_}
-use borrow.Author.Tests.{eqb-true}
+use borrow.Author.Tests.{eq-eqb}
 use lib.Dec.{leb, eqb}
 use Rattle.seq.specs.declared.Found.the-variants.{At}
+use Rattle.seq.proofs.Tests.{and-false-right}
 use Rattle.model.specs.declared.Back.{Back}
 use Rattle.model.specs.declared.Mode.{Mode}
 use Rattle.model.specs.declared.Condition.the-variants.{Idle, Fetching}
@@ -16,11 +17,22 @@ use Rattle.model.specs.declared.Holding.{Holding}
 use Rattle.model.specs.declared.State.{State}
 use Rattle.model.specs.Parties.{levelOf}
 use Rattle.model.specs.State.{rowAt, slotAt, holdingAt}
-use Rattle.model.specs.Words.{hasPage, dirtyIn, isHeld, pinOf, slotOf}
+use Rattle.model.specs.Words.{hasPage, dirtyIn, isHeld, pinOf, conflict, holds, slotOf}
 use Rattle.model.proofs.StateLaws.{Sized, row-put, slot-put, holding-put, sized-put-row, sized-put-slot, sized-put-holding}
-use Rattle.rules.specs.Calls.{heldWith, withLowest, granted}
+use Rattle.model.proofs.PinLaws.{no-pin, not-pinned}
+use Rattle.rules.specs.Calls.{heldWith, withLowest, granted, conflicts}
 use Rattle.rules.proofs.Alike.{holdingOn}
-use Rattle.rules.proofs.PageLaws.{same-slot, put-on}
+use Rattle.rules.proofs.PageLaws.{put-on, put-slot-of}
+
+-- the rows with a conflicting pin are not the requester, and hold the slot
+pub own-spared : (s : State) (row slot : ℕ) (mode : Mode) → conflicts s row slot mode row ≡ false
+unfolding conflicts
+own-spared s row slot mode = rw (eq-eqb row row refl)
+
+pub unheld-spared : (s : State) (row slot : ℕ) (mode : Mode) (q : ℕ) → holds s slot q ≡ false → conflicts s row slot mode q ≡ false
+unfolding conflicts
+unheld-spared s row slot mode q e =
+    and-false-right (not (eqb q row)) (conflict (pinOf mode) (holdingAt s slot q .pin)) (no-pin (pinOf mode) (holdingAt s slot q .pin) (not-pinned (holdingAt s slot q .pin) e))
 
 -- the holding, the slot and the row that a grant puts
 abbrev pub grantedHolding : State → ℕ → ℕ → Mode → ℕ → Holding
@@ -77,14 +89,8 @@ module _ (s : State) (z : Sized s) (row slot : ℕ) (r : row < 32) (b : slot < 6
 
   pub granted-slot-of : (page : ℕ) → slotOf (granted s row slot mode arrival back .state) page ≡ slotOf s page
   unfolding granted
-  granted-slot-of page = same-slot (granted s row slot mode arrival back .state) s page refl go
-    where
-      go : (i : ℕ) → i < granted s row slot mode arrival back .state .size → hasPage page (slotAt (granted s row slot mode arrival back .state) i .content) ≡ hasPage page (slotAt s i .content)
-      go i h = ap (λ (x : Slot). hasPage page (x .content)) (granted-slot i) ∙ last (eqb i slot) refl
-        where
-          last : (e : Bool) → eqb i slot ≡ e → hasPage page (cond (eqb i slot) (grantedSlot s row slot) (slotAt s i) .content) ≡ hasPage page (slotAt s i .content)
-          last true e = rw e (lowest-page (levelOf row) page (slotAt s slot .content) ∙ ap (λ (k : ℕ). hasPage page (slotAt s k .content)) (sym (eqb-true i slot e)))
-          last false e = rw e
+  granted-slot-of page =
+      put-slot-of s (granted s row slot mode arrival back .state) slot (grantedSlot s row slot) refl granted-slot page (lowest-page (levelOf row) page (slotAt s slot .content))
 
 -- the requester has the page; every other holding on a page stays
 pub granted-on : (s : State) (z : Sized s) (row slot page : ℕ) → row < 32 → slot < 64 → slotOf s page ≡ At slot → (mode : Mode) (arrival : ℕ) (back : Back) (other q : ℕ) → q < 32

@@ -1,13 +1,13 @@
 -- A request or retry of a row above a level leaves the state alike for the level.
 use mathlib.Core.Path.{_≡_, refl, sym, _∙_}
-use mathlib.Core.Bool.{Bool, true, false, cond, _&&_, not}
+use mathlib.Core.Bool.{Bool, true, false, cond, _&&_}
 use Prim.Native.Nat.{ℕ, _+_, _<_, _≤_}
 use native.Mathlib.Omega.{arith}
-use borrow.Author.Tests.{le-leb, ne-eqb, lt-ltb}
-use lib.Dec.{leb, eqb}
+use borrow.Author.Tests.{le-leb}
+use lib.Dec.{leb}
 use Rattle.seq.specs.declared.Found.{Found}
 use Rattle.seq.specs.declared.Found.the-variants.{At, Nowhere}
-use Rattle.seq.proofs.Tests.{true-false, both-true, not-true-false, and-false-right}
+use Rattle.seq.proofs.Tests.{true-false, both-true, not-true-false}
 use Rattle.seq.proofs.BelowLaws.{any-none}
 use Rattle.model.specs.declared.Back.{Back}
 use Rattle.model.specs.declared.Back.the-variants.{Nothing}
@@ -15,13 +15,15 @@ use Rattle.model.specs.declared.Cause.the-variants.{Taken}
 use Rattle.model.specs.declared.Condition.the-variants.{Waiting}
 use Rattle.model.specs.declared.Mode.{Mode}
 use Rattle.model.specs.declared.State.{State}
-use Rattle.model.specs.Parties.{levelOf, better}
+use Rattle.model.specs.Parties.{levelOf}
 use Rattle.model.specs.State.{rowAt, slotAt, holdingAt}
-use Rattle.model.specs.Words.{arrivalIn, pinOf, conflict, pins, seen, seesDormant, outranks, leastArrival, slotOf}
+use Rattle.model.specs.Words.{arrivalIn, pins, seen, seesDormant, outranks, leastArrival, slotOf}
 use Rattle.model.specs.Changes.{killed}
 use Rattle.model.proofs.StateLaws.{Sized}
 use Rattle.model.proofs.ChangeLaws.{killed-size, killed-holding, sized-killed}
-use Rattle.model.proofs.PinLaws.{not-pinned, no-pin}
+use Rattle.model.proofs.PinLaws.{not-pinned}
+use Rattle.model.proofs.PriorityLaws.{outranks-level}
+use Rattle.model.proofs.SeenLaws.{not-seen}
 use Rattle.rules.specs.Choice.{chosen}
 use Rattle.rules.specs.Calls.{waiting, granted, conflicts, mustWait, step1, step2, step3, pinnersKilled, writeBack, filled, intoSlot, servedAt, served}
 use Rattle.rules.proofs.SoundFacts.{Sound}
@@ -30,26 +32,17 @@ use Rattle.rules.proofs.AlikeLaws.{alike-trans}
 use Rattle.rules.proofs.PageLaws.{found-slot, killed-slot-of, one-has, killed-one}
 use Rattle.rules.proofs.HiddenChanges.{killed-hidden, row-hidden, granted-hidden}
 use Rattle.rules.proofs.HiddenFill.{filled-hidden}
-use Rattle.rules.proofs.HiddenChoice.{Unheld, unseen-unheld, chosen-unheld}
+use Rattle.rules.proofs.HiddenChoice.{chosen-unheld}
 use Rattle.rules.proofs.FillLaws.{sized-filled}
+use Rattle.rules.proofs.GrantLaws.{unheld-spared}
 
 module _ (L : ℕ) (s : State) (z : Sound s) (me : ℕ) (mine : me < 32) (higher : L < levelOf me) where
-  -- a row of a lower level has the better priority
-  lower-outranks : (r : ℕ) → levelOf r ≤ L → outranks s r me ≡ true
-  unfolding outranks better
-  lower-outranks r l = rw (ne-eqb (levelOf r) (levelOf me) (λ e. omega arith), lt-ltb (levelOf r) (levelOf me) (omega arith))
-
   -- where no wait is due, no conflicting pin is of the level or a lower one
   no-wait : (slot : ℕ) (mode : Mode) → mustWait s me slot mode ≡ false → (r : ℕ) → r < 32 → levelOf r ≤ L → conflicts s me slot mode r ≡ false
   unfolding mustWait
   no-wait slot mode e r b l =
       let k = any-none (λ other. leb (levelOf other) (levelOf me) && conflicts s me slot mode other && outranks s other me) 32 r e b in
-      not-true-false (conflicts s me slot mode r) (λ c. true-false (sym (both-true (both-true (le-leb (levelOf r) (levelOf me) (omega arith)) c) (lower-outranks r l)) ∙ k))
-
-  no-conflict : (slot : ℕ) (mode : Mode) → Unheld L s slot → (r : ℕ) → r < 32 → levelOf r ≤ L → conflicts s me slot mode r ≡ false
-  unfolding conflicts
-  no-conflict slot mode h r b l =
-      and-false-right (not (eqb r me)) (conflict (pinOf mode) (holdingAt s slot r .pin)) (no-pin (pinOf mode) (holdingAt s slot r .pin) (not-pinned (holdingAt s slot r .pin) (h r b l)))
+      not-true-false (conflicts s me slot mode r) (λ c. true-false (sym (both-true (both-true (le-leb (levelOf r) (levelOf me) (omega arith)) c) (outranks-level s r me (omega arith))) ∙ k))
 
   -- a grant after a kill of rows above the level
   kill-and-grant : (some : ℕ → Bool) → ((r : ℕ) → r < 32 → levelOf r ≤ L → some r ≡ false) → (slot : ℕ) → slot < 64 → (mode : Mode) (arrival : ℕ) (back : Back)
@@ -77,7 +70,7 @@ module _ (L : ℕ) (s : State) (z : Sound s) (me : ℕ) (mine : me < 32) (higher
 
   step3-hidden : (slot : ℕ) (mode : Mode) → slot < 64 → seen s (levelOf me) slot ≡ false → Alike L s (step3 s me slot mode .state)
   unfolding step3
-  step3-hidden slot mode b e = kill-and-grant (conflicts s me slot mode) (no-conflict slot mode (unseen-unheld L (levelOf me) s slot (omega arith) e)) slot b mode (s .clock + s .delay) Nothing
+  step3-hidden slot mode b e = kill-and-grant (conflicts s me slot mode) (λ r h l. unheld-spared s me slot mode r (not-seen s (levelOf me) slot r e h (omega arith))) slot b mode (s .clock + s .delay) Nothing
 
   into-hidden : (f : Found) → chosen s me ≡ f → (page : ℕ) (mode : Mode) → slotOf s page ≡ Nowhere → Alike L s (intoSlot f s me page mode .state)
   unfolding pinnersKilled

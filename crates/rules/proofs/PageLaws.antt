@@ -4,7 +4,7 @@ use mathlib.Core.Bool.{Bool, true, false, cond, _&&_}
 use Prim.Native.Nat.{ℕ, _<_, _≤_}
 use native.Mathlib.Omega.{arith}
 use native.Mathlib.Decide.{ℕ-discrete}
-use borrow.Author.Tests.{eq-eqb, ne-eqb}
+use borrow.Author.Tests.{eqb-true, eq-eqb, ne-eqb}
 use lib.Dec.{eqb}
 use Rattle.seq.specs.Below.{pickBelow, atFound}
 use Rattle.seq.specs.declared.Found.{Found}
@@ -146,3 +146,12 @@ put-on s u row slot page x found still f other q h = rw (still other) (go (slotO
           | yes m ↦ eq-eqb i slot (at-same (sym e ∙ ap (slotOf s) m ∙ found)) ∙ sym (eq-eqb other page m)
           | no m ↦ ne-eqb i slot (λ w. m (sym (found-slot s other i e .2) ∙ ap (λ (k : ℕ). pageIn (slotAt s k .content)) w ∙ found-slot s page slot found .2)) ∙ sym (ne-eqb other page m)
         ]
+
+-- one slot replaced by one with the same page: every page stays in its slot
+pub put-slot-of : (s u : State) (slot : ℕ) (x : Slot) → u .size ≡ s .size → ((i : ℕ) → slotAt u i ≡ cond (eqb i slot) x (slotAt s i))
+    → (page : ℕ) → hasPage page (x .content) ≡ hasPage page (slotAt s slot .content) → slotOf u page ≡ slotOf s page
+put-slot-of s u slot x n f page e = same-slot u s page n (λ i _. ap (λ (y : Slot). hasPage page (y .content)) (f i) ∙ go i (eqb i slot) refl)
+  where
+    go : (i : ℕ) (b : Bool) → eqb i slot ≡ b → hasPage page (cond b x (slotAt s i) .content) ≡ hasPage page (slotAt s i .content)
+    go i true q = e ∙ ap (λ (k : ℕ). hasPage page (slotAt s k .content)) (sym (eqb-true i slot q))
+    go i false q = refl

@@ -2,7 +2,6 @@
 use mathlib.Core.Path.{_≡_, refl, sym, ap}
 use mathlib.Core.Bool.{Bool, true, false, cond, _&&_}
 use Prim.Native.Nat.{ℕ, _+_}
-use borrow.Author.Tests.{eq-eqb}
 use Rattle.seq.specs.declared.Found.{Found}
 use Rattle.seq.specs.declared.Found.the-variants.{At, Nowhere}
 use Rattle.seq.proofs.BelowLaws.{none-any}
@@ -19,6 +18,7 @@ use Rattle.model.specs.Changes.{written, dirtied, released, killed}
 use Rattle.model.proofs.ChangeLaws.{wroteSlot}
 use Rattle.rules.specs.Choice.{chosen}
 use Rattle.rules.specs.Calls.{waiting, granted, conflicts, mustWait, step1, step2, step3, pinnersKilled, writeBack, filled, intoSlot, servedAt, served}
+use Rattle.rules.proofs.GrantLaws.{own-spared}
 
 -- a kill of no row
 killed-none : (s : State) → killed (λ _. false) Taken s ≡ s
@@ -28,11 +28,6 @@ killed-none s = λ j.
     (withHoldings (withSlots s (each-still (λ i x. cond (wroteSlot (λ _. false) s i) (dirtied x) x) (s .slots) emptySlot (λ i h. rw (none-any (λ row. false && written (s .clock) (holdingAt s i row)) 32 (λ q b. refl))) j))
     (each-still (λ k h. h) (s .holdings) emptyHolding (λ i h. refl) j))
     (each-still (λ row x. x) (s .rows) freeRow (λ i h. refl) j)
-
--- the rows killed for a page that a slot has are not the requester
-conflicts-other : (s : State) (row slot : ℕ) (mode : Mode) → conflicts s row slot mode row ≡ false
-unfolding conflicts
-conflicts-other s row slot mode = rw (eq-eqb row row refl)
 
 pub data Serving (s : State) (row page : ℕ) (mode : Mode) (o : Outcome) : Type 0 where
   waits : (slot : ℕ) → slotOf s page ≡ At slot → seen s (levelOf row) slot ≡ true → mustWait s row slot mode ≡ true → o ≡ waiting s row page mode → Serving s row page mode o
@@ -49,7 +44,7 @@ module _ (s : State) (row page : ℕ) (mode : Mode) where
       go : (w : Bool) → mustWait s row slot mode ≡ w
           → Serving s row page mode (cond w (waiting s row page mode) (granted (killed (conflicts s row slot mode) Taken s) row slot mode (leastArrival s (levelOf row) slot) Nothing))
       go true q = waits slot e v q refl
-      go false q = joins slot (leastArrival s (levelOf row) slot) (conflicts s row slot mode) e (conflicts-other s row slot mode) refl
+      go false q = joins slot (leastArrival s (levelOf row) slot) (conflicts s row slot mode) e (own-spared s row slot mode) refl
 
   step2-how : (slot : ℕ) → slotOf s page ≡ At slot → Serving s row page mode (step2 s row slot mode)
   unfolding step2
@@ -59,7 +54,7 @@ module _ (s : State) (row page : ℕ) (mode : Mode) where
 
   step3-how : (slot : ℕ) → slotOf s page ≡ At slot → Serving s row page mode (step3 s row slot mode)
   unfolding step3
-  step3-how slot e = joins slot (s .clock + s .delay) (conflicts s row slot mode) e (conflicts-other s row slot mode) refl
+  step3-how slot e = joins slot (s .clock + s .delay) (conflicts s row slot mode) e (own-spared s row slot mode) refl
 
   into-how : slotOf s page ≡ Nowhere → (f : Found) → chosen s row ≡ f → Serving s row page mode (intoSlot f s row page mode)
   into-how e Nowhere q = waits-g e q refl

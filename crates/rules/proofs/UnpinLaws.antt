@@ -1,8 +1,7 @@
 -- What an unpin leaves at each slot and holding, and on each page.
-use mathlib.Core.Path.{_≡_, refl, sym, _∙_, ap}
-use mathlib.Core.Bool.{Bool, true, false, cond, _&&_}
+use mathlib.Core.Path.{_≡_, refl}
+use mathlib.Core.Bool.{cond, _&&_}
 use Prim.Native.Nat.{ℕ, _<_}
-use borrow.Author.Tests.{eqb-true}
 use lib.Dec.{eqb}
 use Rattle.seq.specs.declared.Found.the-variants.{At}
 use Rattle.model.specs.declared.Holding.{Holding}
@@ -10,13 +9,13 @@ use Rattle.model.specs.declared.Pin.the-variants.{Unpinned}
 use Rattle.model.specs.declared.Slot.{Slot}
 use Rattle.model.specs.declared.State.{State}
 use Rattle.model.specs.State.{slotAt, holdingAt}
-use Rattle.model.specs.Words.{hasPage, slotOf}
+use Rattle.model.specs.Words.{slotOf}
 use Rattle.model.specs.Changes.{written, dirtied}
 use Rattle.model.proofs.StateLaws.{Sized, slot-put, holding-put}
 use Rattle.model.proofs.ContentLaws.{dirtied-page}
 use Rattle.rules.specs.Calls.{unpinnedAt}
 use Rattle.rules.proofs.Alike.{holdingOn}
-use Rattle.rules.proofs.PageLaws.{same-slot, put-on}
+use Rattle.rules.proofs.PageLaws.{put-on, put-slot-of}
 
 -- the holding and the slot that an unpin puts
 abbrev pub unpinnedHolding : Holding → Holding
@@ -36,11 +35,8 @@ module _ (s : State) (z : Sized s) (row slot : ℕ) (r : row < 32) (b : slot < 6
 
   pub unpinned-slot-of : (page : ℕ) → slotOf (unpinnedAt s row slot) page ≡ slotOf s page
   unfolding unpinnedAt
-  unpinned-slot-of page = same-slot (unpinnedAt s row slot) s page refl (λ i _. ap (λ (x : Slot). hasPage page (x .content)) (unpinned-slot i) ∙ go i (eqb i slot) refl)
-    where
-      go : (i : ℕ) (e : Bool) → eqb i slot ≡ e → hasPage page (cond e (unpinnedSlot s row slot) (slotAt s i) .content) ≡ hasPage page (slotAt s i .content)
-      go i true e = dirtied-page page (written (s .clock) (holdingAt s slot row)) (slotAt s slot) ∙ ap (λ (k : ℕ). hasPage page (slotAt s k .content)) (sym (eqb-true i slot e))
-      go i false e = refl
+  unpinned-slot-of page =
+      put-slot-of s (unpinnedAt s row slot) slot (unpinnedSlot s row slot) refl unpinned-slot page (dirtied-page page (written (s .clock) (holdingAt s slot row)) (slotAt s slot))
 
   pub unpinned-on : (page : ℕ) → slotOf s page ≡ At slot → (other q : ℕ) → q < 32
       → holdingOn (unpinnedAt s row slot) other q ≡ cond (eqb other page && eqb q row) (unpinnedHolding (holdingAt s slot row)) (holdingOn s other q)
