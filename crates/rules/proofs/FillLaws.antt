@@ -9,18 +9,20 @@ use lib.Dec.{eqb}
 use Rattle.seq.specs.declared.Found.{Found}
 use Rattle.seq.specs.declared.Found.the-variants.{At, Nowhere}
 use Rattle.seq.proofs.Tests.{true-false, not-true-false, cond-same}
+use Rattle.model.specs.declared.Cause.the-variants.{Taken}
 use Rattle.model.specs.declared.Content.the-variants.{Filled}
 use Rattle.model.specs.declared.Holding.{Holding}
 use Rattle.model.specs.declared.Slot.{Slot}
 use Rattle.model.specs.declared.State.{State}
 use Rattle.model.specs.State.{emptyHolding, rowAt, slotAt, holdingAt}
-use Rattle.model.specs.Words.{hasPage, slotOf}
-use Rattle.model.specs.Changes.{cleared}
+use Rattle.model.specs.Words.{hasPage, pins, slotOf}
+use Rattle.model.specs.Changes.{killed, cleared}
 use Rattle.model.proofs.StateLaws.{Sized, slot-put, sized-put-slot}
-use Rattle.model.proofs.ChangeLaws.{cleared-holding, sized-cleared}
+use Rattle.model.proofs.ChangeLaws.{cleared-holding, sized-cleared, sized-killed, killed-size}
 use Rattle.rules.specs.Calls.{filled}
 use Rattle.rules.proofs.Alike.{holdingOn}
-use Rattle.rules.proofs.PageLaws.{found-has, not-found, finds-only, OneSlot, on-slot, on-nowhere, on-at}
+use Rattle.rules.proofs.PageLaws.{found-has, not-found, finds-only, OneSlot, on-slot, on-nowhere, on-at, one-has, killed-one}
+use Rattle.rules.proofs.SoundFacts.{Sound}
 
 abbrev pub filledSlot : State → ℕ → ℕ → Slot
 filledSlot s page level = record { content = Filled page (s .clock + s .delay) false level; touch = s .clock }
@@ -112,3 +114,18 @@ module _ (s : State) (z : Sized s) (most : s .size ≤ 64) (slot page level : �
                   let n : hasPage other (slotAt s slot .content) ≡ false = not-true-false (hasPage other (slotAt s slot .content)) (λ q. m (one other i slot (rw filled-size at (k .0)) there w q)) in
                   on-slot (filled s slot page level) other i r e ∙ filled-holding i r b ∙ rw (ne-eqb i slot m, n) (sym (on-at s one other i r (rw filled-size at (k .0)) w))
             ]
+
+-- a slot of which the pinners have been killed, ready to be filled
+pub record Freed (s : State) (slot : ℕ) : Type 0 where
+  pub sized : Sized (killed (pins s slot) Taken s)
+  pub most : killed (pins s slot) Taken s .size ≤ 64
+  pub there : slot < killed (pins s slot) Taken s .size
+  pub one : OneSlot (killed (pins s slot) Taken s)
+
+pub freed : (s : State) → Sound s → (slot : ℕ) → slot < s .size → Freed s slot
+freed s z slot h = record {
+  sized = sized-killed (pins s slot) s (z .sized) Taken;
+  most = rw (killed-size (pins s slot) Taken s) (z .size-most);
+  there = rw (killed-size (pins s slot) Taken s) h;
+  one = killed-one (pins s slot) s (z .sized) (z .size-most) Taken (one-has s z);
+}

@@ -24,7 +24,7 @@ use Rattle.model.specs.State.{rowAt, slotAt, holdingAt}
 use Rattle.model.specs.Words.{hasPage, isHeld, pinOf, strength, stronger, pins, slotOf}
 use Rattle.model.specs.Changes.{killed}
 use Rattle.model.proofs.StateLaws.{Sized}
-use Rattle.model.proofs.ChangeLaws.{killed-clock, killed-size, sized-killed}
+use Rattle.model.proofs.ChangeLaws.{killed-clock, sized-killed}
 use Rattle.rules.specs.Calls.{heldWith, waiting, granted, pinnersKilled, writeBack, filled}
 use Rattle.rules.proofs.SoundFacts.{Sound}
 use Rattle.rules.proofs.PageLaws.{found-has, killed-page}
@@ -32,7 +32,7 @@ use Rattle.rules.proofs.GrantLaws.{grantedRow, grantedHolding, granted-
 use Rattle.rules.proofs.GrantBooks.{granted-booked}
 use Rattle.rules.proofs.KeptChoice.{chosen-free}
 use Rattle.rules.proofs.ServeCases.{Serving, waits, waits-g, joins, fills}
-use Rattle.rules.proofs.FillLaws.{sized-filled, filled-clock, filled-has}
+use Rattle.rules.proofs.FillLaws.{sized-filled, filled-clock, filled-has, freed}
 
 -- the state on which a page is granted, made from s
 pub record Ground (s u : State) (page slot : ℕ) : Type 0 where
@@ -56,14 +56,12 @@ pub filled-ground : (s : State) → Sound s → (page slot level : ℕ) → slot
 unfolding pinnersKilled
 filled-ground s z page slot level h =
     let k : State = killed (pins s slot) Taken s in
-    let kz : Sized k = sized-killed (pins s slot) s (z .sized) Taken in
-    let km : k .size ≤ 64 = rw (killed-size (pins s slot) Taken s) (z .size-most) in
-    let kt : slot < k .size = rw (killed-size (pins s slot) Taken s) h in
+    let f = freed s z slot h in
     record {
-      sized = sized-filled k kz km slot page level kt;
-      clock = filled-clock k kz km slot page level kt ∙ killed-clock (pins s slot) Taken s;
+      sized = sized-filled k (f .sized) (f .most) slot page level (f .there);
+      clock = filled-clock k (f .sized) (f .most) slot page level (f .there) ∙ killed-clock (pins s slot) Taken s;
       slot-is = omega (arith, z .size-most);
-      has-it = filled-has k kz km slot page level kt;
+      has-it = filled-has k (f .sized) (f .most) slot page level (f .there);
     }
 
 pub record Grant (s : State) (row page : ℕ) (mode : Mode) (o : Outcome) : Type 0 where

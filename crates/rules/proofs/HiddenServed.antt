@@ -19,8 +19,7 @@ use Rattle.model.specs.Parties.{levelOf}
 use Rattle.model.specs.State.{rowAt, slotAt, holdingAt}
 use Rattle.model.specs.Words.{arrivalIn, pins, outranks, leastArrival, slotOf}
 use Rattle.model.specs.Changes.{killed}
-use Rattle.model.proofs.StateLaws.{Sized}
-use Rattle.model.proofs.ChangeLaws.{killed-size, killed-holding, sized-killed}
+use Rattle.model.proofs.ChangeLaws.{killed-holding, sized-killed}
 use Rattle.model.proofs.PinLaws.{not-pinned}
 use Rattle.model.proofs.PriorityLaws.{outranks-level}
 use Rattle.model.proofs.SeenLaws.{not-seen}
@@ -29,11 +28,11 @@ use Rattle.rules.specs.Calls.{waiting, granted, conflicts, mustWait, pin
 use Rattle.rules.proofs.SoundFacts.{Sound}
 use Rattle.rules.proofs.Alike.{Alike}
 use Rattle.rules.proofs.AlikeLaws.{alike-trans}
-use Rattle.rules.proofs.PageLaws.{found-slot, killed-slot-of, one-has, killed-one}
+use Rattle.rules.proofs.PageLaws.{found-slot, killed-slot-of}
 use Rattle.rules.proofs.HiddenChanges.{killed-hidden, row-hidden, granted-hidden}
 use Rattle.rules.proofs.HiddenFill.{filled-hidden}
 use Rattle.rules.proofs.HiddenChoice.{chosen-unheld}
-use Rattle.rules.proofs.FillLaws.{sized-filled}
+use Rattle.rules.proofs.FillLaws.{sized-filled, freed}
 use Rattle.rules.proofs.GrantLaws.{unheld-spared}
 use Rattle.rules.proofs.ServeCases.{Step, wait-1, grant-1, grant-2, grant-3, wait-g, fill, step}
 
@@ -62,16 +61,13 @@ module _ (L : ℕ) (s : State) (z : Sound s) (me : ℕ) (mine : me < 32) (higher
   fill-hidden slot e page mode n =
       let c = chosen-unheld L s z me higher slot e in
       let k : State = killed (pins s slot) Taken s in
-      let kz : Sized k = sized-killed (pins s slot) s (z .sized) Taken in
-      let km : k .size ≤ 64 = rw (killed-size (pins s slot) Taken s) (z .size-most) in
-      let kt : slot < k .size = rw (killed-size (pins s slot) Taken s) (c .0) in
+      let f = freed s z slot (c .0) in
       let b : slot < 64 = omega (arith, c .0, z .size-most) in
-      let fz = sized-filled k kz km slot page (levelOf me) kt in
       alike-trans (killed-hidden L s (z .sized) (z .size-most) (pins s slot) (λ r h l. not-pinned (holdingAt s slot r .pin) (c .1 r h l)) Taken)
       (alike-trans
-      (filled-hidden k kz km slot page (levelOf me) kt (killed-one (pins s slot) s (z .sized) (z .size-most) Taken (one-has s z)) (killed-slot-of (pins s slot) s (z .sized) (z .size-most) Taken page ∙ n) L
+      (filled-hidden k (f .sized) (f .most) slot page (levelOf me) (f .there) (f .one) (killed-slot-of (pins s slot) s (z .sized) (z .size-most) Taken page ∙ n) L
       (λ r h l. killed-holding (pins s slot) s (z .sized) Taken slot r h ∙ rw (not-pinned (holdingAt s slot r .pin) (c .1 r h l)) (z .unheld slot r b h (c .1 r h l))))
-      (granted-hidden L (filled k slot page (levelOf me)) fz me mine higher slot b mode (s .clock + s .delay) (writeBack (slotAt k slot))))
+      (granted-hidden L (filled k slot page (levelOf me)) (sized-filled k (f .sized) (f .most) slot page (levelOf me) (f .there)) me mine higher slot b mode (s .clock + s .delay) (writeBack (slotAt k slot))))
 
   pub served-hidden : (page : ℕ) (mode : Mode) → Alike L s (served s me page mode .state)
   served-hidden page mode = go (served s me page mode) (step s me page mode)

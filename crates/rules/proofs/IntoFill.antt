@@ -14,15 +14,14 @@ use Rattle.model.specs.Parties.{levelOf}
 use Rattle.model.specs.State.{emptyHolding, rowAt, slotAt}
 use Rattle.model.specs.Words.{hasPage, isHeld, pins, slotOf}
 use Rattle.model.specs.Changes.{killed, killedRow}
-use Rattle.model.proofs.StateLaws.{Sized}
-use Rattle.model.proofs.ChangeLaws.{killed-row, sized-killed, killed-size, killed-delay, killed-clock}
+use Rattle.model.proofs.ChangeLaws.{killed-row, killed-size, killed-delay, killed-clock}
 use Rattle.rules.specs.Calls.{pinnersKilled, writeBack, filled, intoSlot}
 use Rattle.rules.proofs.SoundFacts.{Sound}
 use Rattle.rules.proofs.Alike.{holdingOn}
-use Rattle.rules.proofs.PageLaws.{OneSlot, one-has, killed-one, killed-slot-of, killed-page, killed-on}
+use Rattle.rules.proofs.PageLaws.{killed-slot-of, killed-page, killed-on}
 use Rattle.rules.proofs.IntoGain.{Gains, gains-as}
 use Rattle.rules.proofs.IntoGrant.{granted-gains}
-use Rattle.rules.proofs.FillLaws.{sized-filled, filled-size, filled-delay, filled-clock, filled-row, filled-empty, filled-new, filled-on}
+use Rattle.rules.proofs.FillLaws.{sized-filled, filled-size, filled-delay, filled-clock, filled-row, filled-empty, filled-new, filled-on, Freed, freed}
 
 -- what is left of a row, and of its holding on a page, when a slot is taken
 abbrev pub leftRow : State → ℕ → ℕ → Row
@@ -41,15 +40,15 @@ pub into-gains : (L : ℕ) (s : State) (z : Sound s) (me slot page : ℕ) → me
 unfolding pinnersKilled
 into-gains L s z me slot page r low there absent mode =
     gains-as L s me page mode (rowAt u) (leftRow s slot) (holdingOn u) (leftHolding s slot) (intoSlot (At slot) s me page mode) r low
-    (λ q h l. filled-row k kz km slot page (levelOf me) kt q ∙ killed-row (pins s slot) s (z .sized) Taken q h)
+    (λ q h l. filled-row k (f .sized) (f .most) slot page (levelOf me) (f .there) q ∙ killed-row (pins s slot) s (z .sized) Taken q h)
     left
     (granted-gains L s u
-    (filled-size k kz km slot page (levelOf me) kt ∙ killed-size (pins s slot) Taken s)
-    (filled-delay k kz km slot page (levelOf me) kt ∙ killed-delay (pins s slot) Taken s)
-    (filled-clock k kz km slot page (levelOf me) kt ∙ killed-clock (pins s slot) Taken s)
-    (sized-filled k kz km slot page (levelOf me) kt) me slot page r b
-    (filled-new k kz km slot page (levelOf me) kt one nowhere)
-    (ap (λ (x : Holding). isHeld (x .pin)) (filled-empty k kz km slot page (levelOf me) kt me r))
+    (filled-size k (f .sized) (f .most) slot page (levelOf me) (f .there) ∙ killed-size (pins s slot) Taken s)
+    (filled-delay k (f .sized) (f .most) slot page (levelOf me) (f .there) ∙ killed-delay (pins s slot) Taken s)
+    (filled-clock k (f .sized) (f .most) slot page (levelOf me) (f .there) ∙ killed-clock (pins s slot) Taken s)
+    (sized-filled k (f .sized) (f .most) slot page (levelOf me) (f .there)) me slot page r b
+    (filled-new k (f .sized) (f .most) slot page (levelOf me) (f .there) (f .one) nowhere)
+    (ap (λ (x : Holding). isHeld (x .pin)) (filled-empty k (f .sized) (f .most) slot page (levelOf me) (f .there) me r))
     (z .delay-least) mode (writeBack (slotAt k slot)))
   where
     -- the state without its pinners, and then with the page in the slot
@@ -59,27 +58,18 @@ into-gains L s z me slot page r low there absent mode =
     u : State
     u = filled k slot page (levelOf me)
 
-    kz : Sized k
-    kz = sized-killed (pins s slot) s (z .sized) Taken
-
-    km : k .size ≤ 64
-    km = rw (killed-size (pins s slot) Taken s) (z .size-most)
-
-    kt : slot < k .size
-    kt = rw (killed-size (pins s slot) Taken s) there
+    f : Freed s slot
+    f = freed s z slot there
 
     b : slot < 64
     b = omega (arith, z .size-most)
-
-    one : OneSlot k
-    one = killed-one (pins s slot) s (z .sized) (z .size-most) Taken (one-has s z)
 
     nowhere : slotOf k page ≡ Nowhere
     nowhere = killed-slot-of (pins s slot) s (z .sized) (z .size-most) Taken page ∙ absent
 
     left : (other q : ℕ) → q < 32 → levelOf q ≤ L → holdingOn u other q ≡ leftHolding s slot other q
     left other q h _ =
-        filled-on k kz km slot page (levelOf me) kt one nowhere other q h
+        filled-on k (f .sized) (f .most) slot page (levelOf me) (f .there) (f .one) nowhere other q h
         ∙ ap (λ (x : Bool). cond x emptyHolding (holdingOn k other q)) (killed-page (pins s slot) s (z .sized) (z .size-most) Taken other slot b)
         ∙ ap (λ (x : Holding). cond (hasPage other (slotAt s slot .content)) emptyHolding x) (killed-on (pins s slot) s (z .sized) (z .size-most) Taken other q h)
         ∙ both-left (pins s slot q) (hasPage other (slotAt s slot .content)) (holdingOn s other q)
