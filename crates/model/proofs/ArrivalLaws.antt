@@ -6,8 +6,8 @@ use borrow.Author.Tests.{ltb-false}
 use lib.Dec.{leb, ltb}
 use Rattle.seq.proofs.Tests.{and-true}
 use Rattle.seq.proofs.BelowLaws.{any-hit}
-use Rattle.seq.proofs.PickLaws.{pick-is, pick-some, pick-first}
 use Rattle.seq.proofs.OrderLaws.{ltb-strict, ltb-trans}
+use Rattle.seq.proofs.PickLaws.{pick-is, pick-some, pick-first}
 use Rattle.model.specs.declared.State.{State}
 use Rattle.model.specs.Parties.{levelOf}
 use Rattle.model.specs.State.{holdingAt}

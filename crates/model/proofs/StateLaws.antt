@@ -7,12 +7,12 @@ use native.Mathlib.Decide.{ℕ-discrete}
 use borrow.Author.Tests.{eq-eqb, ne-eqb}
 use lib.Dec.{eqb}
 use lib.ListN.{length, length-set, length-replicate}
+use Rattle.seq.proofs.EachLaws.{set-at, replicate-at}
 use Rattle.model.specs.State.{freeRow, emptySlot, emptyHolding, emptyHoldings, fresh, rowAt, slotAt, holdingAt, withClock, putRow, putSlot, putHolding}
 use Rattle.model.specs.declared.Row.{Row}
 use Rattle.model.specs.declared.Slot.{Slot}
 use Rattle.model.specs.declared.Holding.{Holding}
 use Rattle.model.specs.declared.State.{State}
-use Rattle.seq.proofs.EachLaws.{set-at, replicate-at}
 
 -- the arrays have their sizes
 pub record Sized (s : State) : Type 0 where

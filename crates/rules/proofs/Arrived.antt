@@ -20,13 +20,13 @@ use Rattle.rules.specs.Sound.{sound}
 use Rattle.rules.specs.Refusals.{tickRefusal, lookRefusal}
 use Rattle.rules.specs.Calls.{unless, lateKilled, ticked, looked, lookedAt}
 use Rattle.rules.specs.Run.{Call, tick, look, outcome}
-use Rattle.rules.proofs.Kept.{kept-sound}
 use Rattle.rules.proofs.SoundFacts.{Sound, facts}
+use Rattle.rules.proofs.TickLaws.{later, ticked-clock, ticked-idle}
+use Rattle.rules.proofs.RefusalFacts.{look-taken}
+use Rattle.rules.proofs.Kept.{kept-sound}
 use Rattle.rules.proofs.CallCases.{Asks, isServed}
 use Rattle.rules.proofs.Granting.{grant-ready}
-use Rattle.rules.proofs.TickLaws.{later, ticked-clock, ticked-idle}
 use Rattle.rules.proofs.WaitFetch.{granted-alone}
-use Rattle.rules.proofs.RefusalFacts.{look-taken}
 
 -- every holding of the row has arrived
 abbrev pub AllArrived : State → ℕ → Type 0

@@ -24,9 +24,9 @@ use Rattle.model.specs.Words.{hasPage, dirtyIn, isWrite, pins, slotOf}
 use Rattle.model.specs.Changes.{released, killed, cleared}
 use Rattle.model.proofs.StateLaws.{Sized, slot-put}
 use Rattle.model.proofs.ChangeLaws.{released-holding, released-slot, killed-slot, killed-holding, sized-killed, cleared-holding}
-use Rattle.model.proofs.BookLaws.{Booked, booked-same, booked-trans, booked-dropped}
 use Rattle.model.proofs.ContentLaws.{page-has}
 use Rattle.model.proofs.PinLaws.{not-written}
+use Rattle.model.proofs.BookLaws.{Booked, booked-same, booked-trans, booked-dropped}
 use Rattle.rules.specs.Answers.{pageBack, backTold}
 use Rattle.rules.specs.Choice.{chosen}
 use Rattle.rules.specs.Calls.{unpinnedAt, waiting, granted, pinnersKilled, writeBack, filled, lateKilled, isLate, deliveredRows, advanced}
@@ -34,12 +34,12 @@ use Rattle.rules.specs.Run.{Call}
 use Rattle.rules.specs.Secrecy.{startsRefused}
 use Rattle.rules.proofs.SoundFacts.{Sound}
 use Rattle.rules.proofs.GrantLaws.{granted-clock}
-use Rattle.rules.proofs.GrantBooks.{granted-booked, unpinned-booked}
-use Rattle.rules.proofs.Granting.{Ground, killed-ground, filled-ground}
 use Rattle.rules.proofs.TickLaws.{later, ticked-slot, ticked-holding, ticked-clock}
+use Rattle.rules.proofs.ServeCases.{Serving, waits, waits-g, joins, fills, serving}
 use Rattle.rules.proofs.KeptChoice.{chosen-free}
 use Rattle.rules.proofs.CallCases.{Effect, stays, starts, begins, unpins, ends, ticks, serves}
-use Rattle.rules.proofs.ServeCases.{Serving, waits, waits-g, joins, fills, serving}
+use Rattle.rules.proofs.GrantBooks.{granted-booked, unpinned-booked}
+use Rattle.rules.proofs.Granting.{Ground, killed-ground, filled-ground}
 
 -- the writes to a slot's page by the clock after the call: booked there, or booked in a state u in which no write pin is left, and reported if the page is dirty in u
 pub data Writes (s : State) (o : Outcome) (page slot : ℕ) : Type 0 where

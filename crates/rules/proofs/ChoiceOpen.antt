@@ -18,8 +18,8 @@ use Rattle.model.specs.Words.{holds, seen}
 use Rattle.model.proofs.SeenLaws.{not-seen, none-seen, seen-lower, dormant-unheld}
 use Rattle.rules.specs.Choice.{orElse, stepA, stepB, holderLevel, heldAbove, highestLevel, pinnedAt, inC, inD, inE, inF, stepHeld, chosen}
 use Rattle.rules.proofs.SoundFacts.{Sound}
-use Rattle.rules.proofs.ChoiceRank.{best-is, best-some, best-level, holder-level}
 use Rattle.rules.proofs.ChoiceSteps.{step-a, no-step-a, step-b, no-step-b, step-held, c-or-d}
+use Rattle.rules.proofs.ChoiceRank.{best-is, best-some, best-level, holder-level}
 
 -- what one search or else another found has a property, if what the first found has, and the second where the first found nothing
 or-found : (P : ℕ → Type 0) (f g : Found) → ((i : ℕ) → f ≡ At i → P i) → (f ≡ Nowhere → (i : ℕ) × (g ≡ At i) × P i) → (i : ℕ) × (orElse f g ≡ At i) × P i

@@ -16,9 +16,9 @@ use Rattle.seq.proofs.PairLaws.{Ordered}
 use Rattle.model.specs.declared.State.{State}
 use Rattle.model.specs.State.{slotAt}
 use Rattle.model.specs.Words.{pageIn, holds, outranks, bestHolder, latestTouch}
+use Rattle.model.proofs.PriorityLaws.{outranks-strict, outranks-trans, outranks-total}
 use Rattle.rules.specs.Choice.{holderLevel, worse, beforeHeld}
 use Rattle.rules.proofs.SoundFacts.{Sound}
-use Rattle.model.proofs.PriorityLaws.{outranks-strict, outranks-trans, outranks-total}
 use Rattle.rules.proofs.ChoiceRank.{best-some}
 
 module _ (s : State) where

@@ -16,14 +16,14 @@ use Rattle.model.specs.declared.State.{State}
 use Rattle.model.specs.Parties.{levelOf}
 use Rattle.model.specs.State.{holdingAt}
 use Rattle.model.specs.Words.{isHeld, isPin, holds, pins, seenHolder, seen, outranks, bestHolder, latestTouch}
-use Rattle.rules.specs.Choice.{holderLevel, heldAbove, pinnedAt, heldAtOwnLevel, seenPin, worse, beforeHeld}
-use Rattle.rules.proofs.Alike.{Alike}
 use Rattle.model.proofs.PriorityLaws.{outranks-level}
 use Rattle.model.proofs.SeenLaws.{seen-by, seen-held}
-use Rattle.rules.proofs.ChoiceRank.{Best, best-is, is-best, best-some, best-level, holder-level}
-use Rattle.rules.proofs.ChoiceOrder.{touchOf, nextBefore, before-held}
+use Rattle.rules.specs.Choice.{holderLevel, heldAbove, pinnedAt, heldAtOwnLevel, seenPin, worse, beforeHeld}
+use Rattle.rules.proofs.Alike.{Alike}
 use Rattle.rules.proofs.SamePages.{same-rank, same-holder, same-seen}
 use Rattle.rules.proofs.SameSlots.{SamePage}
+use Rattle.rules.proofs.ChoiceRank.{Best, best-is, is-best, best-some, best-level, holder-level}
+use Rattle.rules.proofs.ChoiceOrder.{touchOf, nextBefore, before-held}
 
 module _ (L : ℕ) (s t : State) (a : Alike L s t) where
   module _ (i j : ℕ) (w : SamePage L s t i j) where

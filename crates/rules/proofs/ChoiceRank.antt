@@ -9,8 +9,8 @@ use Rattle.seq.proofs.Tests.{true-false, not-false-true}
 use Rattle.seq.proofs.PickLaws.{pick-is, pick-some, pick-first, first-pick}
 use Rattle.model.specs.declared.State.{State}
 use Rattle.model.specs.Parties.{levelOf}
-use Rattle.model.proofs.PriorityLaws.{outranks-strict, outranks-trans, outranks-total, outranks-level}
 use Rattle.model.specs.Words.{holds, outranks, bestHolder}
+use Rattle.model.proofs.PriorityLaws.{outranks-strict, outranks-trans, outranks-total, outranks-level}
 use Rattle.rules.specs.Choice.{holderLevel}
 
 -- the row holds the slot and outranks its other holders

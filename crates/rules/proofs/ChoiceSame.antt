@@ -17,10 +17,10 @@ use Rattle.model.proofs.SeenLaws.{seen-by, seen-held}
 use Rattle.rules.specs.Choice.{orElse, stepA, stepB, beforeDormant, holderLevel, heldAbove, highestLevel, pinnedAt, inC, inD, heldAtOwnLevel, inE, inF, beforeHeld, stepHeld, chosen}
 use Rattle.rules.proofs.SoundFacts.{Sound}
 use Rattle.rules.proofs.Alike.{Alike}
-use Rattle.rules.proofs.ChoiceOrder.{held-order}
-use Rattle.rules.proofs.ChoicePages.{page-pins, page-pinned, page-seen-pin, page-own, page-level, page-above, page-before}
 use Rattle.rules.proofs.AlikeLaws.{alike-sym}
 use Rattle.rules.proofs.SameSlots.{SamePage, same-page-back, same-page-slot}
+use Rattle.rules.proofs.ChoiceOrder.{held-order}
+use Rattle.rules.proofs.ChoicePages.{page-pins, page-pinned, page-seen-pin, page-own, page-level, page-above, page-before}
 
 or-paired : (R : ℕ → ℕ → Type 0) (f g f′ g′ : Found) → Paired R f g → Paired R f′ g′ → Paired R (orElse f f′) (orElse g g′)
 or-paired R Nowhere Nowhere f′ g′ p q = q

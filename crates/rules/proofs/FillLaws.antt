@@ -20,9 +20,9 @@ use Rattle.model.specs.Changes.{killed, cleared}
 use Rattle.model.proofs.StateLaws.{Sized, slot-put, sized-put-slot}
 use Rattle.model.proofs.ChangeLaws.{cleared-holding, sized-cleared, sized-killed, killed-size}
 use Rattle.rules.specs.Calls.{filled}
+use Rattle.rules.proofs.SoundFacts.{Sound}
 use Rattle.rules.proofs.Alike.{holdingOn}
 use Rattle.rules.proofs.PageLaws.{found-has, not-found, finds-only, OneSlot, on-slot, on-nowhere, on-at, one-has, killed-one}
-use Rattle.rules.proofs.SoundFacts.{Sound}
 
 abbrev pub filledSlot : State → ℕ → ℕ → Slot
 filledSlot s page level = record { content = Filled page (s .clock + s .delay) false level; touch = s .clock }

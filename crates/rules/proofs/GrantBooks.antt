@@ -20,9 +20,9 @@ use Rattle.model.specs.State.{slotAt, holdingAt}
 use Rattle.model.specs.Words.{hasPage, dirtyIn, isHeld, isWrite, pinOf, stronger, holds}
 use Rattle.model.specs.Changes.{written}
 use Rattle.model.proofs.StateLaws.{Sized}
-use Rattle.model.proofs.BookLaws.{Booked}
 use Rattle.model.proofs.ContentLaws.{dirtied-page, dirtied-stays, dirtied-is}
 use Rattle.model.proofs.PinLaws.{write-held, stronger-is, mode-held}
+use Rattle.model.proofs.BookLaws.{Booked}
 use Rattle.rules.specs.Calls.{heldWith, unpinnedAt, granted}
 use Rattle.rules.proofs.GrantLaws.{grantedSlot, grantedHolding, granted-slot, granted-holding, lowest-page, lowest-dirty}
 use Rattle.rules.proofs.UnpinLaws.{unpinnedHolding, unpinnedSlot, unpinned-holding, unpinned-slot}

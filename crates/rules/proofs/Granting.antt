@@ -29,10 +29,10 @@ use Rattle.rules.specs.Calls.{heldWith, waiting, granted, pinnersKilled,
 use Rattle.rules.proofs.SoundFacts.{Sound}
 use Rattle.rules.proofs.PageLaws.{found-has, killed-page}
 use Rattle.rules.proofs.GrantLaws.{grantedRow, grantedHolding, granted-row, granted-holding}
-use Rattle.rules.proofs.GrantBooks.{granted-booked}
-use Rattle.rules.proofs.KeptChoice.{chosen-free}
-use Rattle.rules.proofs.ServeCases.{Serving, waits, waits-g, joins, fills}
 use Rattle.rules.proofs.FillLaws.{sized-filled, filled-clock, filled-has, freed}
+use Rattle.rules.proofs.ServeCases.{Serving, waits, waits-g, joins, fills}
+use Rattle.rules.proofs.KeptChoice.{chosen-free}
+use Rattle.rules.proofs.GrantBooks.{granted-booked}
 
 -- the state on which a page is granted, made from s
 pub record Ground (s u : State) (page slot : ℕ) : Type 0 where

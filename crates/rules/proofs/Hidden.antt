@@ -30,9 +30,9 @@ use Rattle.rules.proofs.SoundFacts.{Sound, facts}
 use Rattle.rules.proofs.Alike.{Alike}
 use Rattle.rules.proofs.AlikeLaws.{alike-refl, alike-trans}
 use Rattle.rules.proofs.PageLaws.{found-slot}
+use Rattle.rules.proofs.RefusalFacts.{unless-is, Named, begin-taken, request-taken, retry-taken, unpin-taken, end-taken}
 use Rattle.rules.proofs.HiddenChanges.{row-hidden, released-hidden, unpinned-hidden}
 use Rattle.rules.proofs.HiddenServed.{served-hidden}
-use Rattle.rules.proofs.RefusalFacts.{unless-is, Named, begin-taken, request-taken, retry-taken, unpin-taken, end-taken}
 
 -- a refused call leaves the state; of an accepted one its effect is to be shown
 unless-hidden : (L n : ℕ) (s : State) (o : Outcome) → (n ≡ 0 → Alike L s (o .state)) → Alike L s (unless n s o .state)

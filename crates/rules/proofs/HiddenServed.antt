@@ -29,12 +29,12 @@ use Rattle.rules.proofs.SoundFacts.{Sound}
 use Rattle.rules.proofs.Alike.{Alike}
 use Rattle.rules.proofs.AlikeLaws.{alike-trans}
 use Rattle.rules.proofs.PageLaws.{found-slot, killed-slot-of}
+use Rattle.rules.proofs.GrantLaws.{unheld-spared}
+use Rattle.rules.proofs.FillLaws.{sized-filled, freed}
+use Rattle.rules.proofs.ServeCases.{Step, wait-1, grant-1, grant-2, grant-3, wait-g, fill, step}
 use Rattle.rules.proofs.HiddenChanges.{killed-hidden, row-hidden, granted-hidden}
 use Rattle.rules.proofs.HiddenFill.{filled-hidden}
 use Rattle.rules.proofs.HiddenChoice.{chosen-unheld}
-use Rattle.rules.proofs.FillLaws.{sized-filled, freed}
-use Rattle.rules.proofs.GrantLaws.{unheld-spared}
-use Rattle.rules.proofs.ServeCases.{Step, wait-1, grant-1, grant-2, grant-3, wait-g, fill, step}
 
 module _ (L : ℕ) (s : State) (z : Sound s) (me : ℕ) (mine : me < 32) (higher : L < levelOf me) where
   -- where no wait is due, no conflicting pin is of the level or a lower one

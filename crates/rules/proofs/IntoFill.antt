@@ -19,9 +19,9 @@ use Rattle.rules.specs.Calls.{pinnersKilled, writeBack, filled, intoSlot
 use Rattle.rules.proofs.SoundFacts.{Sound}
 use Rattle.rules.proofs.Alike.{holdingOn}
 use Rattle.rules.proofs.PageLaws.{killed-slot-of, killed-page, killed-on}
+use Rattle.rules.proofs.FillLaws.{sized-filled, filled-size, filled-delay, filled-clock, filled-row, filled-empty, filled-new, filled-on, Freed, freed}
 use Rattle.rules.proofs.IntoGain.{Gains, gains-as}
 use Rattle.rules.proofs.IntoGrant.{granted-gains}
-use Rattle.rules.proofs.FillLaws.{sized-filled, filled-size, filled-delay, filled-clock, filled-row, filled-empty, filled-new, filled-on, Freed, freed}
 
 -- what is left of a row, and of its holding on a page, when a slot is taken
 abbrev pub leftRow : State → ℕ → ℕ → Row

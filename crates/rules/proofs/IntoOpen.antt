@@ -21,10 +21,10 @@ use Rattle.rules.specs.Calls.{step3, intoSlot, servedAt, served}
 use Rattle.rules.proofs.SoundFacts.{Sound}
 use Rattle.rules.proofs.Alike.{holdingOn}
 use Rattle.rules.proofs.PageLaws.{finds, on-slot}
+use Rattle.rules.proofs.ChoiceOpen.{chosen-open}
 use Rattle.rules.proofs.IntoGain.{Gains, gains-as}
 use Rattle.rules.proofs.IntoGrant.{hidden-gains}
 use Rattle.rules.proofs.IntoFill.{leftRow, leftHolding, into-gains}
-use Rattle.rules.proofs.ChoiceOpen.{chosen-open}
 
 -- no row up to L holds the page
 abbrev pub Nobody : ℕ → State → ℕ → Type 0

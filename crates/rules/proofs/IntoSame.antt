@@ -25,15 +25,15 @@ use Rattle.rules.specs.Choice.{chosen}
 use Rattle.rules.specs.Calls.{intoSlot, served}
 use Rattle.rules.proofs.SoundFacts.{Sound}
 use Rattle.rules.proofs.Alike.{holdingOn, Alike, Same}
+use Rattle.rules.proofs.AlikeLaws.{alike-sym}
 use Rattle.rules.proofs.PageLaws.{found-slot}
+use Rattle.rules.proofs.SameSlots.{SamePage, same-open}
+use Rattle.rules.proofs.SameChanges.{same-waiting}
+use Rattle.rules.proofs.ChoicePages.{page-pins}
+use Rattle.rules.proofs.ChoiceSame.{SeesAll, chosen-paired}
 use Rattle.rules.proofs.IntoGain.{gains-same}
 use Rattle.rules.proofs.IntoFill.{leftRow, leftHolding, into-gains}
 use Rattle.rules.proofs.IntoOpen.{Nobody, nobody-seen, served-absent, open-gains}
-use Rattle.rules.proofs.ChoicePages.{page-pins}
-use Rattle.rules.proofs.ChoiceSame.{SeesAll, chosen-paired}
-use Rattle.rules.proofs.AlikeLaws.{alike-sym}
-use Rattle.rules.proofs.SameChanges.{same-waiting}
-use Rattle.rules.proofs.SameSlots.{SamePage, same-open}
 
 module _ (L : ℕ) (s t : State) (z : Sound s) (y : Sound t) (a : Alike L s t) (me page : ℕ) (mode : Mode) (r : me < 32) (low : levelOf me ≤ L) where
   -- taking the slots of one page leaves the same to the rows up to L

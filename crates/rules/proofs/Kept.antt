@@ -32,15 +32,15 @@ use Rattle.rules.specs.Calls.{unless, started, begun, unpinnedAt, unpinn
 use Rattle.rules.specs.Run.{Call, start, begin, request, retry, unpin, end, tick, look, view, count, outcome, after}
 use Rattle.rules.specs.Sound.{sound}
 use Rattle.rules.proofs.SoundFacts.{Sound, facts}
-use Rattle.rules.proofs.SoundBack.{back}
+use Rattle.rules.proofs.PageLaws.{found-slot}
 use Rattle.rules.proofs.RefusalFacts.{start-taken, begin-taken, request-taken, retry-taken, unpin-taken, end-taken, tick-taken, unless-is}
+use Rattle.rules.proofs.SoundBack.{back}
 use Rattle.rules.proofs.KeptFresh.{fresh-facts}
 use Rattle.rules.proofs.KeptDrop.{ended-sound}
 use Rattle.rules.proofs.KeptOwn.{begun-sound, unpinned-sound}
 use Rattle.rules.proofs.KeptTick.{ticked-sound}
 use Rattle.rules.proofs.KeptNew.{Asking}
 use Rattle.rules.proofs.KeptServe.{served-sound}
-use Rattle.rules.proofs.PageLaws.{found-slot}
 
 -- a refused call changes nothing
 unless-kept : (n : ℕ) (s : State) (o : Outcome) → Sound s → (n ≡ 0 → Sound (o .state)) → Sound (unless n s o .state)

@@ -12,11 +12,11 @@ use Rattle.model.specs.Words.{isFilled, pageIn, pins}
 use Rattle.model.specs.Changes.{cleared}
 use Rattle.rules.specs.Calls.{filled}
 use Rattle.rules.proofs.SoundFacts.{Sound}
+use Rattle.rules.proofs.FillLaws.{filledSlot, sized-filled, filled-slot, filled-at, filled-holding, filled-empty}
 use Rattle.rules.proofs.KeptBase.{base, whole, slot-kept, HoldingKept, same, gone}
 use Rattle.rules.proofs.KeptChange.{SlotChange, kept-slot, new-slot, kept-holding, base-change}
 use Rattle.rules.proofs.KeptRows.{settled-kept, row-kept}
 use Rattle.rules.proofs.KeptNew.{Asking}
-use Rattle.rules.proofs.FillLaws.{filledSlot, sized-filled, filled-slot, filled-at, filled-holding, filled-empty}
 
 module _ (s : State) (slot page level : ℕ) (h : Sound s) (b : slot < s .size) where
   abbrev t : State

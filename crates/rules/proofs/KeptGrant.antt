@@ -22,12 +22,12 @@ use Rattle.model.proofs.PinLaws.{pin-held}
 use Rattle.rules.specs.Sound.{awaits}
 use Rattle.rules.specs.Calls.{touched, granted}
 use Rattle.rules.proofs.SoundFacts.{RowSound, Held, Sound}
+use Rattle.rules.proofs.GrantLaws.{grantedHolding, grantedSlot, grantedRow}
 use Rattle.rules.proofs.KeptBase.{Base, base, SlotKept, slot-kept, slot-touched, same}
 use Rattle.rules.proofs.KeptChange.{kept-slot, HoldingChange, kept-holding, new-holding, base-change}
 use Rattle.rules.proofs.KeptRows.{row-kept}
 use Rattle.rules.proofs.KeptOwn.{put-row-sound}
 use Rattle.rules.proofs.KeptNew.{Grantable, New, new-is, lowest-least}
-use Rattle.rules.proofs.GrantLaws.{grantedHolding, grantedSlot, grantedRow}
 
 module _ (s : State) (row slot : ℕ) (mode : Mode) (arrival : ℕ) (h : Sound s) (g : Grantable s row slot mode arrival) where
   abbrev k : Holding

@@ -19,10 +19,10 @@ use Rattle.model.proofs.StateLaws.{Sized, sized-put-row, sized-put-slot, sized-
 use Rattle.model.proofs.PutLaws.{row-same, row-other, slot-same, slot-other, holding-same, holding-other-slot, holding-other-row}
 use Rattle.rules.specs.Calls.{unpinnedAt, waiting}
 use Rattle.rules.proofs.SoundFacts.{Settled, RowSound, Sound}
+use Rattle.rules.proofs.UnpinLaws.{unpinnedHolding, unpinnedSlot}
 use Rattle.rules.proofs.KeptBase.{Base, base, whole, SlotKept, slot-kept, slot-marked, marked-touch, HoldingKept, same, loose}
 use Rattle.rules.proofs.KeptChange.{kept-slot, kept-holding, base-change}
 use Rattle.rules.proofs.KeptRows.{settled-kept, condition-kept, row-kept}
-use Rattle.rules.proofs.UnpinLaws.{unpinnedHolding, unpinnedSlot}
 
 -- another row put in place of one: it is live, and its condition is sound
 pub put-row-sound : (s : State) (row : ℕ) (x : Row) → row < 32 → Base s → isLive (x .condition) ≡ true → RowSound s row (x .condition) (x .deadline)

@@ -4,6 +4,7 @@ use mathlib.Core.Bool.{Bool, true, false, _&&_}
 use Prim.Native.Nat.{ℕ, _<_, _≤_}
 use native.Mathlib.Omega.{arith}
 use lib.Dec.{eqb}
+use Rattle.seq.proofs.BelowLaws.{one-same}
 use Rattle.model.specs.declared.Condition.{Condition}
 use Rattle.model.specs.declared.Condition.the-variants.{Free, Idle, Fetching, Waiting, Killed}
 use Rattle.model.specs.declared.Holding.{Holding}
@@ -13,7 +14,6 @@ use Rattle.model.specs.Words.{isPin, pins}
 use Rattle.rules.specs.Sound.{awaits}
 use Rattle.rules.proofs.SoundFacts.{Settled, Awaiting, RowSound}
 use Rattle.rules.proofs.KeptBase.{HoldingKept, same, gone, loose, still-held}
-use Rattle.seq.proofs.BelowLaws.{one-same}
 
 -- a holding that is not pinned is not pinned after
 unpinned-kept : (h k : Holding) → HoldingKept h k → isPin (h .pin) ≡ false → isPin (k .pin) ≡ false

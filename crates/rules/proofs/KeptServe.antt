@@ -17,13 +17,16 @@ use Rattle.model.specs.State.{emptyHolding, slotAt, holdingAt}
 use Rattle.model.specs.Words.{isFilled, pageIn, arrivalIn, isPin, pinOf, pins, seenHolder, seen, dormant, seesDormant, leastArrival, slotOf}
 use Rattle.model.specs.Changes.{released, killed, cleared}
 use Rattle.model.proofs.ChangeLaws.{wroteSlot, killed-slot, killed-holding}
-use Rattle.model.proofs.ArrivalLaws.{least-is, least-first}
-use Rattle.model.proofs.PinLaws.{no-pin, not-pinned}
 use Rattle.model.proofs.ContentLaws.{has-page}
+use Rattle.model.proofs.PinLaws.{no-pin, not-pinned}
 use Rattle.model.proofs.SeenLaws.{dormant-unheld, not-seen}
+use Rattle.model.proofs.ArrivalLaws.{least-is, least-first}
 use Rattle.rules.specs.Calls.{waiting, granted, conflicts, pinnersKilled, writeBack, filled, served}
 use Rattle.rules.specs.Choice.{chosen}
 use Rattle.rules.proofs.SoundFacts.{Sound}
+use Rattle.rules.proofs.PageLaws.{found-slot, not-found}
+use Rattle.rules.proofs.FillLaws.{filled-at, filled-empty}
+use Rattle.rules.proofs.ServeCases.{Step, wait-1, grant-1, grant-2, grant-3, wait-g, fill, step}
 use Rattle.rules.proofs.KeptBase.{slot-marked}
 use Rattle.rules.proofs.KeptDrop.{killed-sound}
 use Rattle.rules.proofs.KeptOwn.{waiting-sound}
@@ -32,9 +35,6 @@ use Rattle.rules.proofs.KeptGrant.{granted-sound}
 use Rattle.rules.proofs.KeptFill.{asking-filled, filled-sound}
 use Rattle.rules.proofs.KeptChoice.{chosen-free}
 use Rattle.rules.proofs.KeptTaken.{asking-killed, killed-granted}
-use Rattle.rules.proofs.FillLaws.{filled-at, filled-empty}
-use Rattle.rules.proofs.PageLaws.{found-slot, not-found}
-use Rattle.rules.proofs.ServeCases.{Step, wait-1, grant-1, grant-2, grant-3, wait-g, fill, step}
 
 module _ (s : State) (row page : ℕ) (mode : Mode) (h : Sound s) (a : Asking s row) (p : page ≤ 4095) (m : mayAccess (levelOf row) page mode ≡ true) where
   wait-sound : Sound (waiting s row page mode .state)

@@ -17,12 +17,12 @@ use Rattle.model.proofs.ChangeLaws.{wroteSlot, killed-row, killed-slot, killed-
 use Rattle.model.proofs.PinLaws.{no-pin}
 use Rattle.rules.specs.Calls.{granted, conflicts}
 use Rattle.rules.proofs.SoundFacts.{Sound}
+use Rattle.rules.proofs.GrantLaws.{own-spared}
 use Rattle.rules.proofs.KeptBase.{slot-marked, same}
 use Rattle.rules.proofs.KeptRows.{settled-kept}
 use Rattle.rules.proofs.KeptDrop.{killed-sound}
 use Rattle.rules.proofs.KeptNew.{Asking}
 use Rattle.rules.proofs.KeptGrant.{granted-sound}
-use Rattle.rules.proofs.GrantLaws.{own-spared}
 
 -- a row that no kill takes may ask after it as before
 pub asking-killed : (some : ℕ → Bool) (cause : Cause) (s : State) (row : ℕ) → Sound s → some row ≡ false → Asking s row → Asking (killed some cause s) row

@@ -16,11 +16,11 @@ use Rattle.model.specs.Words.{isLive, holds, pins}
 use Rattle.rules.specs.Sound.{awaits}
 use Rattle.rules.specs.Calls.{delivered, deliveredRow, deliveredRows, isLate, lateKilled, advanced}
 use Rattle.rules.proofs.SoundFacts.{RowSound, Sound}
+use Rattle.rules.proofs.TickLaws.{later, sized-later, later-row}
 use Rattle.rules.proofs.KeptBase.{Base, base, slot-kept, same}
 use Rattle.rules.proofs.KeptChange.{kept-slot, kept-holding, base-change}
 use Rattle.rules.proofs.KeptRows.{settled-kept, awaiting-kept}
 use Rattle.rules.proofs.KeptDrop.{killed-rest}
-use Rattle.rules.proofs.TickLaws.{later, sized-later, later-row}
 
 delivered-live : (clock : ℕ) (x : Condition) → isLive (delivered clock x) ≡ isLive x
 delivered-live clock Free = refl

@@ -9,9 +9,9 @@ use Rattle.model.specs.Words.{hasPage}
 use Rattle.rules.specs.Sound.{sound}
 use Rattle.rules.specs.Run.{Call, after}
 use Rattle.rules.proofs.SoundFacts.{facts}
+use Rattle.rules.proofs.PageLaws.{one-place}
 use Rattle.rules.proofs.KeptFresh.{fresh-sound}
 use Rattle.rules.proofs.Kept.{run-sound}
-use Rattle.rules.proofs.PageLaws.{one-place}
 
 -- no page in two slots
 pub one-slot : (s : State) → sound s ≡ true → (page i j : ℕ) → i < 64 → j < 64

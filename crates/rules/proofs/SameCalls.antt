@@ -25,13 +25,13 @@ use Rattle.rules.specs.Calls.{begun, ended, deliveredRows, isLate, lateK
 use Rattle.rules.specs.Refusals.{beginRefusal, endRefusal, tickRefusal, lookRefusal, viewRefusal, countRefusal}
 use Rattle.rules.proofs.SoundFacts.{Sound}
 use Rattle.rules.proofs.Alike.{holdingOn, Alike, Same}
+use Rattle.rules.proofs.AlikeLaws.{alike-sym}
+use Rattle.rules.proofs.PageLaws.{on-slot, on-nowhere}
+use Rattle.rules.proofs.TickLaws.{later, sized-later, later-row}
+use Rattle.rules.proofs.RefusalFacts.{begin-taken, end-taken, look-taken}
 use Rattle.rules.proofs.SamePages.{same-seen, same-strongest, same-least, same-holding}
 use Rattle.rules.proofs.SameChanges.{same-unless, same-put-row, same-killed, same-released}
 use Rattle.rules.proofs.SameRefusals.{same-tick-refusal, own-row, same-begin-refusal, same-end-refusal}
-use Rattle.rules.proofs.AlikeLaws.{alike-sym}
-use Rattle.rules.proofs.TickLaws.{later, sized-later, later-row}
-use Rattle.rules.proofs.PageLaws.{on-slot, on-nowhere}
-use Rattle.rules.proofs.RefusalFacts.{begin-taken, end-taken, look-taken}
 
 -- a page that the other state has in no slot is held by no row up to L
 unseen : (L : ℕ) (s t : State) → Alike L s t → (page i : ℕ) → slotOf s page ≡ At i → slotOf t page ≡ Nowhere → (level : ℕ) → level ≤ L → seen s level i ≡ false

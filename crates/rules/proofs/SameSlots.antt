@@ -14,8 +14,8 @@ use Rattle.model.specs.Words.{isFilled, pageIn, isHeld, holds, seen, isOpen, sl
 use Rattle.model.proofs.SeenLaws.{seen-by, by-seen}
 use Rattle.rules.proofs.SoundFacts.{Sound, Held}
 use Rattle.rules.proofs.Alike.{Alike}
-use Rattle.rules.proofs.PageLaws.{found-slot, finds, on-slot, on-held}
 use Rattle.rules.proofs.AlikeLaws.{alike-sym}
+use Rattle.rules.proofs.PageLaws.{found-slot, finds, on-slot, on-held}
 
 -- slots of two states that have one page, and on it the same holdings of the rows up to L
 pub record SamePage (L : ℕ) (s t : State) (i j : ℕ) : Type 0 where

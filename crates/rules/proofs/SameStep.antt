@@ -22,14 +22,14 @@ use Rattle.rules.specs.Secrecy.{isKept}
 use Rattle.rules.specs.Sound.{sound}
 use Rattle.rules.proofs.SoundFacts.{Sound, facts}
 use Rattle.rules.proofs.Alike.{holdingOn, Alike, Same}
+use Rattle.rules.proofs.RefusalFacts.{Named, request-taken, retry-taken}
+use Rattle.rules.proofs.SameSlots.{same-open-count}
 use Rattle.rules.proofs.SameChanges.{same-unless}
+use Rattle.rules.proofs.IntoSame.{into-same}
 use Rattle.rules.proofs.SameRefusals.{own-condition, same-request-refusal, same-retry-refusal}
 use Rattle.rules.proofs.SameCalls.{same-begun, same-ended, same-ticked, same-looked, same-viewed, same-counted}
 use Rattle.rules.proofs.SameUnpin.{same-unpinned}
 use Rattle.rules.proofs.SameServed.{same-served}
-use Rattle.rules.proofs.IntoSame.{into-same}
-use Rattle.rules.proofs.RefusalFacts.{Named, request-taken, retry-taken}
-use Rattle.rules.proofs.SameSlots.{same-open-count}
 
 same-request : (L : ℕ) (s t : State) (me page : ℕ) (mode : Mode) → L ≤ 2 → me < 32 → levelOf me ≤ L → Sound s → Sound t → Alike L s t → Same L (served s me page mode) (served t me page mode)
 same-request L s t me page mode two h l y z alike = go (anyBelow 32 (λ r. leb (levelOf r) L && isHeld (holdingOn s page r .pin))) refl

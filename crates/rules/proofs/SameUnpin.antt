@@ -15,11 +15,11 @@ use Rattle.rules.specs.Refusals.{unpinRefusal}
 use Rattle.rules.proofs.SoundFacts.{Sound}
 use Rattle.rules.proofs.Alike.{holdingOn, Alike, Same}
 use Rattle.rules.proofs.PageLaws.{found-slot, on-held}
+use Rattle.rules.proofs.UnpinLaws.{unpinned-on}
+use Rattle.rules.proofs.RefusalFacts.{UnpinTaken, unpin-taken}
 use Rattle.rules.proofs.SamePages.{same-holding}
 use Rattle.rules.proofs.SameChanges.{same-unless}
 use Rattle.rules.proofs.SameRefusals.{pins-on, same-unpin-refusal}
-use Rattle.rules.proofs.UnpinLaws.{unpinned-on}
-use Rattle.rules.proofs.RefusalFacts.{UnpinTaken, unpin-taken}
 
 same-unpinned-at : (L : ℕ) (s t : State) → Sound s → Sound t → Alike L s t → (row page i j : ℕ) → row < 32 → levelOf row ≤ L → slotOf s page ≡ At i → slotOf t page ≡ At j
     → Alike L (unpinnedAt s row i) (unpinnedAt t row j)

@@ -27,10 +27,10 @@ use Rattle.rules.specs.Calls.{granted, conflicts, mustWait, served}
 use Rattle.rules.specs.Run.{Call, outcome}
 use Rattle.rules.proofs.SoundFacts.{Sound, facts}
 use Rattle.rules.proofs.PageLaws.{found-slot, not-found}
-use Rattle.rules.proofs.CallCases.{Asks, isServed, Effect, stays, starts, begins, unpins, ends, ticks, serves, effect}
 use Rattle.rules.proofs.ServeCases.{Serving, waits, waits-g, joins, fills, serving}
-use Rattle.rules.proofs.Granting.{Grant, grant, granted-answer, grant-fetch}
 use Rattle.rules.proofs.ChoiceSteps.{or-none, no-step-a, no-step-b, c-or-d}
+use Rattle.rules.proofs.CallCases.{Asks, isServed, Effect, stays, starts, begins, unpins, ends, ticks, serves, effect}
+use Rattle.rules.proofs.Granting.{Grant, grant, granted-answer, grant-fetch}
 
 -- ---- the slots where none is chosen
 
