@@ -49,13 +49,17 @@ stronger-is P p q a b = go (ltb (strength p) (strength q))
     go false = a
 
 -- a pin conflicts only with pins
-pub no-pin : (p q : Pin) → isPin q ≡ false → conflict p q ≡ false
+pub no-two-pins : (p q : Pin) → (isPin p ≡ true → isPin q ≡ true → ⊥) → conflict p q ≡ false
 unfolding conflict
-no-pin p q e = rw e (go (isPin p))
+no-two-pins p q f = go (isPin p) (isPin q) refl refl
   where
-    go : (b : Bool) → b && false && (isWrite p || isWrite q) ≡ false
-    go true = refl
-    go false = refl
+    go : (a b : Bool) → isPin p ≡ a → isPin q ≡ b → isPin p && isPin q && (isWrite p || isWrite q) ≡ false
+    go true true d e = absurd (f d e)
+    go true false d e = rw (d, e)
+    go false b d e = rw d
+
+pub no-pin : (p q : Pin) → isPin q ≡ false → conflict p q ≡ false
+no-pin p q e = no-two-pins p q (λ _ w. true-false (sym w ∙ e))
 
 pub conflict-comm : (p q : Pin) → conflict p q ≡ conflict q p
 unfolding conflict

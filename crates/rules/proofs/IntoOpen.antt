@@ -39,9 +39,9 @@ pub served-absent : (s : State) (me page : ℕ) (mode : Mode) → slotOf s page 
 unfolding served
 served-absent s me page mode e = ap (λ (f : Found). servedAt f s me page mode) e
 
-pub served-hidden : (s : State) (me page : ℕ) (mode : Mode) (i : ℕ) → slotOf s page ≡ At i → seen s (levelOf me) i ≡ false → levelOf me ≤ 2 → served s me page mode ≡ step3 s me i mode
+pub served-unseen : (s : State) (me page : ℕ) (mode : Mode) (i : ℕ) → slotOf s page ≡ At i → seen s (levelOf me) i ≡ false → levelOf me ≤ 2 → served s me page mode ≡ step3 s me i mode
 unfolding served seesDormant
-served-hidden s me page mode i e h l =
+served-unseen s me page mode i e h l =
     ap (λ (f : Found). servedAt f s me page mode) e
     ∙ rw (h, ne-eqb (levelOf me) 3 (λ q. omega arith))
 
@@ -82,5 +82,5 @@ module _ (L : ℕ) (s : State) (z : Sound s) (me page : ℕ) (mode : Mode) (most
           (open-into (k .0) (k .2 .0) (k .2 .1) e)
       go (At i) e =
           let h = nobody-seen L s page i nobody e in
-          by (step3 s me i mode) (served-hidden s me page mode i e (seen-lower s L (levelOf me) i low h) (omega arith))
+          by (step3 s me i mode) (served-unseen s me page mode i e (seen-lower s L (levelOf me) i low h) (omega arith))
           (hidden-gains L s z me i page r low e h mode)

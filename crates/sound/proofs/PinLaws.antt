@@ -1,19 +1,19 @@
 -- No two pins of a slot conflict just where no pin is a write pin, or there is one pin alone.
 use mathlib.Core.Path.{_≡_, refl, sym, _∙_}
-use mathlib.Core.Bool.{Bool, true, false, cond, _&&_, _||_, not}
+use mathlib.Core.Bool.{Bool, true, false, cond, _&&_, not}
 use Prim.Native.Nat.{ℕ, _<_}
 use native.Mathlib.Omega.{arith}
 use native.Mathlib.Decide.{decLt}
 use lib.Dec.{eqb}
 use borrow.Author.Tests.{eqb-true, eq-eqb, not-true}
 use Rattle.seq.specs.Below.{anyBelow, allBelow, countBelow}
-use Rattle.seq.proofs.Tests.{true-false, same-truth}
+use Rattle.seq.proofs.Tests.{true-false, same-truth, and-false-right}
 use Rattle.seq.proofs.BelowLaws.{One, any-none, any-hit, count-one, one-count, pairs-each, each-pairs}
 use Rattle.model.specs.declared.Pin.{Pin}
 use Rattle.model.specs.declared.State.{State}
 use Rattle.model.specs.State.{holdingAt}
 use Rattle.model.specs.Words.{isPin, isWrite, conflict}
-use Rattle.model.proofs.PinLaws.{write-pin, conflict-comm}
+use Rattle.model.proofs.PinLaws.{write-pin, conflict-comm, no-two-pins}
 use Rattle.rules.specs.Sound.{soundPins}
 use Rattle.sound.specs.Elements.{pinsTest}
 
@@ -27,20 +27,7 @@ write-second p q e w = conflict-comm p q ∙ write-first q p w e
 
 no-write : (p q : Pin) → isWrite p ≡ false → isWrite q ≡ false → conflict p q ≡ false
 unfolding conflict
-no-write p q e f = rw (e, f) (and-right (isPin p && isPin q))
-  where
-    and-right : (a : Bool) → a && false ≡ false
-    and-right true = refl
-    and-right false = refl
-
-no-pin : (p q : Pin) → (isPin p ≡ true → isPin q ≡ true → ⊥) → conflict p q ≡ false
-unfolding conflict
-no-pin p q f = go (isPin p) (isPin q) refl refl
-  where
-    go : (a b : Bool) → isPin p ≡ a → isPin q ≡ b → isPin p && isPin q && (isWrite p || isWrite q) ≡ false
-    go true true d e = absurd (f d e)
-    go true false d e = rw (d, e)
-    go false b d e = rw d
+no-write p q e f = rw (e, f) (and-false-right (isPin p && isPin q) false refl)
 
 module _ (f : ℕ → Pin) (n : ℕ) where
   abbrev apart : Bool
@@ -92,7 +79,7 @@ module _ (f : ℕ → Pin) (n : ℕ) where
       go : (b : Bool) → wrote ≡ b → apart ≡ true
       go true q =
           let o = count-one (λ row. isPin (f row)) n (eqb-true number 1 (rw q at e)) in
-          each-apart (λ i j a b. no-pin (f i) (f j) (λ c d.
+          each-apart (λ i j a b. no-two-pins (f i) (f j) (λ c d.
           let x = o .only i a c in
           let y = o .only j (omega arith) d in
           omega arith))
