@@ -17,7 +17,7 @@ use Rattle.model.specs.Parties.{levelOf}
 use Rattle.model.specs.Words.{holds, seen}
 use Rattle.model.proofs.SeenLaws.{not-seen, none-seen, seen-lower, dormant-unheld}
 use Rattle.rules.specs.Choice.{orElse, stepA, stepB, holderLevel, heldAbove, highestLevel, pinnedAt, inC, inD, inE, inF, stepHeld, chosen}
-use Rattle.rules.proofs.SoundFacts.{Sound}
+use Rattle.rules.proofs.SoundFacts.{Sound, empty-unheld}
 use Rattle.rules.proofs.ChoiceSteps.{step-a, no-step-a, step-b, no-step-b, step-held, c-or-d}
 use Rattle.rules.proofs.ChoiceRank.{best-is, best-some, best-level, holder-level}
 
@@ -34,7 +34,7 @@ module _ (s : State) (z : Sound s) (L me : ℕ) (low : levelOf me ≤ L) where
   unfolding OpenSlot
   a-open i e =
       let x = step-a s i e in
-      (x .0, none-seen s L i (λ r b _. not-true-false (holds s i r) (λ h. true-false (sym (z .held i r (omega (arith, x .0, z .size-most)) b h .filled) ∙ x .1))))
+      (x .0, none-seen s L i (λ r b _. empty-unheld s z i r (omega (arith, x .0, z .size-most)) b (x .1)))
 
   b-open : (i : ℕ) → stepB s ≡ At i → OpenSlot i
   unfolding OpenSlot

@@ -1,4 +1,4 @@
--- What a slot filled with a page that no slot had leaves at each row, slot and holding, and on each page.
+-- What a slot filled with a page that no slot had leaves at each row, slot and holding, and on each page; a slot ready to be filled.
 use mathlib.Core.Path.{_≡_, refl, sym, _∙_, ap}
 use mathlib.Core.Bool.{Bool, true, false, cond}
 use Prim.Native.Nat.{ℕ, _+_, _<_, _≤_}

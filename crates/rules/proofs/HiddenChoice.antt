@@ -1,12 +1,12 @@
 -- The slot chosen for a row is held by no row of a level below its own.
-use mathlib.Core.Path.{_≡_, refl, sym, _∙_}
+use mathlib.Core.Path.{_≡_, refl, sym}
 use mathlib.Core.Bool.{Bool, true, false, _&&_, _||_, not}
 use Prim.Native.Nat.{ℕ, _<_, _≤_}
 use native.Mathlib.Omega.{arith}
 use borrow.Author.Tests.{not-true, le-leb, ne-eqb}
 use lib.Dec.{leb, eqb}
 use Rattle.seq.specs.declared.Found.the-variants.{At}
-use Rattle.seq.proofs.Tests.{true-false, parts, not-true-false}
+use Rattle.seq.proofs.Tests.{true-false, parts}
 use Rattle.seq.proofs.BelowLaws.{all-each}
 use Rattle.model.specs.declared.State.{State}
 use Rattle.model.specs.Parties.{levelOf}
@@ -14,7 +14,7 @@ use Rattle.model.specs.State.{slotAt}
 use Rattle.model.specs.Words.{isFilled, holds, seenHolder, seen, outranks}
 use Rattle.model.proofs.SeenLaws.{not-seen, dormant-unheld}
 use Rattle.rules.specs.Choice.{heldAbove, heldAtOwnLevel, inE, inF, chosen}
-use Rattle.rules.proofs.SoundFacts.{Sound}
+use Rattle.rules.proofs.SoundFacts.{Sound, empty-unheld}
 use Rattle.rules.proofs.ChoiceSteps.{chosen-is}
 
 -- no row of the level or a lower one holds the slot
@@ -26,7 +26,7 @@ unseen-unheld L M s slot h e r b l = not-seen s M slot r e b (omega arith)
 
 module _ (L : ℕ) (s : State) (z : Sound s) (me : ℕ) (higher : L < levelOf me) where
   unfilled : (slot : ℕ) → slot < s .size → isFilled (slotAt s slot .content) ≡ false → Unheld L s slot
-  unfilled slot h e r b l = not-true-false (holds s slot r) (λ k. true-false (sym (z .held slot r (omega (arith, z .size-most)) b k .filled) ∙ e))
+  unfilled slot h e r b l = empty-unheld s z slot r (omega (arith, z .size-most)) b e
 
   above : (slot : ℕ) → heldAbove s me slot ≡ true → Unheld L s slot
   unfolding heldAbove

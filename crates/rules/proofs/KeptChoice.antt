@@ -1,5 +1,5 @@
 -- The chosen slot is one of those started with, and the requester has no pin on it.
-use mathlib.Core.Path.{_≡_, sym, _∙_}
+use mathlib.Core.Path.{_≡_}
 use mathlib.Core.Bool.{true, false, _&&_}
 use Prim.Native.Nat.{ℕ, _<_}
 use native.Mathlib.Omega.{arith}
@@ -7,16 +7,16 @@ use borrow.Author.Tests.{le-leb, not-true}
 use lib.Dec.{leb}
 use Rattle.seq.specs.Below.{anyBelow}
 use Rattle.seq.specs.declared.Found.the-variants.{At}
-use Rattle.seq.proofs.Tests.{true-false, parts, not-true-false}
+use Rattle.seq.proofs.Tests.{parts}
 use Rattle.seq.proofs.BelowLaws.{any-none}
 use Rattle.model.specs.declared.State.{State}
 use Rattle.model.specs.Parties.{levelOf}
 use Rattle.model.specs.State.{holdingAt}
-use Rattle.model.specs.Words.{holds, pins, seen}
+use Rattle.model.specs.Words.{pins, seen}
 use Rattle.model.proofs.PinLaws.{not-pinned}
 use Rattle.model.proofs.SeenLaws.{not-seen, dormant-unheld}
 use Rattle.rules.specs.Choice.{heldAbove, seenPin, inE, inF, chosen}
-use Rattle.rules.proofs.SoundFacts.{Sound}
+use Rattle.rules.proofs.SoundFacts.{Sound, empty-unheld}
 use Rattle.rules.proofs.ChoiceSteps.{chosen-is}
 
 module _ (s : State) (row : ℕ) (b : row < 32) (h : Sound s) where
@@ -36,6 +36,6 @@ module _ (s : State) (row : ℕ) (b : row < 32) (h : Sound s) where
 
   pub chosen-free : (slot : ℕ) → chosen s row ≡ At slot → (slot < s .size) × (pins s slot row ≡ false)
   chosen-free = chosen-is s row (λ slot. pins s slot row ≡ false)
-      (λ i g u. not-pinned (holdingAt s i row .pin) (not-true-false (holds s i row) (λ w. true-false (sym (h .held i row (omega (arith, g, h .size-most)) b w .filled) ∙ u))))
+      (λ i g u. not-pinned (holdingAt s i row .pin) (empty-unheld s h i row (omega (arith, g, h .size-most)) b u))
       (λ i d. not-pinned (holdingAt s i row .pin) (dormant-unheld s i d row b))
       above in-e in-f

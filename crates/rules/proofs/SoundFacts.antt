@@ -8,7 +8,7 @@ use borrow.Author.Tests.{ltb-true, leb-true, eqb-true, leb-false, not-true}
 use lib.Dec.{ltb, eqb}
 use lib.ListN.{length}
 use Rattle.seq.specs.Below.{allBelow, countBelow}
-use Rattle.seq.proofs.Tests.{true-false, parts, and-true, both-true}
+use Rattle.seq.proofs.Tests.{true-false, parts, and-true, both-true, not-true-false}
 use Rattle.seq.proofs.BelowLaws.{all-each, One, count-one, pairs-each, by-larger}
 use Rattle.model.specs.declared.Condition.{Condition}
 use Rattle.model.specs.declared.Condition.the-variants.{Free, Idle, Fetching, Waiting, Killed}
@@ -221,3 +221,7 @@ facts s e = record {
   unheld = λ i q a b. unheld-facts s i q (all-each (soundHolding s i) 32 q (all-each (λ slot. allBelow 32 (soundHolding s slot)) 64 i (search parts depth 20) a) b);
   no-conflict = λ i q o a. pins-facts s i (all-each (soundPins s) 64 i (search parts depth 20) a) q o;
 }
+
+-- an empty slot has no holder
+pub empty-unheld : (s : State) → Sound s → (i r : ℕ) → i < 64 → r < 32 → isFilled (slotAt s i .content) ≡ false → holds s i r ≡ false
+empty-unheld s z i r a b e = not-true-false (holds s i r) (λ h. true-false (sym (z .held i r a b h .filled) ∙ e))
