@@ -8,3 +8,4 @@ pub mod PutLaws
 pub mod PinLaws
 pub mod ArrivalLaws
 pub mod BookLaws
+pub mod SameRows

@@ -9,3 +9,4 @@ pub mod BoolLaws
 pub mod CountLaws
 pub mod PairLaws
 pub mod AllLaws
+pub mod ValueLaws
