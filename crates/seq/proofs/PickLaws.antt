@@ -23,6 +23,10 @@ module _ (p : ℕ → Bool) (before : ℕ → ℕ → Bool) where
   unfolding pickBelow
   pick-more n = rw add-one
 
+  -- one turn of a loop
+  pub pick-turn : (n : ℕ) (f g : Found) → f ≡ pickBelow n p before → g ≡ considered (p n) f n before → g ≡ pickBelow (n + 1) p before
+  pick-turn n f g e q = rw pick-more (q ∙ ap (λ (x : Found). considered (p n) x n before) e)
+
   -- what is found is below n and passes
   pub pick-is : (n i : ℕ) → pickBelow n p before ≡ At i → (i < n) × (p i ≡ true)
   unfolding pickBelow
