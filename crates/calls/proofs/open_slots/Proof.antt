@@ -4,8 +4,8 @@ use Prim.Native.Nat.{ℕ, _≤_, _-_}
 use native.Mathlib.Omega.{arith}
 use borrow.Author.Needs.{needs}
 use Rattle.seq.specs.Below.{anyBelow, countBelow}
-use Rattle.seq.proofs.AllLaws.{count-turn}
-use Rattle.seq.proofs.BelowLaws.{any-turn, count-at-most}
+use Rattle.seq.proofs.AllLaws.{any-test-turn, count-turn}
+use Rattle.seq.proofs.BelowLaws.{count-at-most}
 use Rattle.model.specs.Words.{seenHolder, isOpen}
 use Rattle.calls.proofs.SlotLaws.{seen-test, open-end}
 use Rattle.calls.proofs.open_slots.Statement.{statement}
@@ -13,7 +13,8 @@ use Rattle.calls.proofs.open_slots.Tie as tie
 use Rattle.calls.proofs.open_slots.Reads as reads
 use Rattle.calls.proofs.open_slots.Lts as lts
 use Rattle.calls.proofs.count_open.Reads as count-open-reads
-use Rattle.calls.proofs.seen_also.Reads as seen-also-reads
+use Rattle.calls.proofs.either.Reads as either-reads
+use Rattle.calls.proofs.is_seen.Reads as is-seen-reads
 
 abbrev Inv-loop2 : tie.InvT-loop2
 Inv-loop2 level s size number i seen₀ r₀ seen r = (r ≤ 32) × (seen ≡ anyBelow r (seenHolder s level i))
@@ -47,8 +48,11 @@ mul-h-2 c = omega arith
 element-copy-out-h : tie.Need-element-copy-out-h Inv-loop2 μ-loop2 Inv-loop μ-loop
 element-copy-out-h c = omega arith
 
-seen-also-requires : tie.Need-seen-also-requires Inv-loop2 μ-loop2 Inv-loop μ-loop
-seen-also-requires c κs = search needs
+is-seen-requires : tie.Need-is-seen-requires Inv-loop2 μ-loop2 Inv-loop μ-loop
+is-seen-requires c κs = search needs
+
+either-requires : tie.Need-either-requires Inv-loop2 μ-loop2 Inv-loop μ-loop
+either-requires c κs = search needs
 
 add-r : tie.Need-add-r Inv-loop2 μ-loop2 Inv-loop μ-loop
 add-r c = omega arith
@@ -58,12 +62,12 @@ loop2-less c = omega arith
 
 loop2-again : tie.Need-loop2-again Inv-loop2 μ-loop2 Inv-loop μ-loop
 loop2-again c =
-    let s = c .before .before .before .before .before .before .args .t1 in
-    let level = c .before .before .before .before .before .before .args .level in
-    let i = c .before .before .before .before .before .loop .i in
-    let w = c .before .before .before .loop2 in (
+    let s = c .before .before .before .before .before .before .before .args .t1 in
+    let level = c .before .before .before .before .before .before .before .args .level in
+    let i = c .before .before .before .before .before .before .loop .i in
+    let w = c .before .before .before .before .loop2 in (
       omega arith,
-      any-turn (seenHolder s level i) (w .r) (w .seen) (c .seen-also .result) (w .inv .1) (rw (← seen-test s level i (w .r)) (c .seen-also .ensures)),
+      any-test-turn (seenHolder s level i) (w .r) (w .seen) (c .before .is-seen .result) (c .either .result) (w .inv .1) (c .before .is-seen .ensures ∙ seen-test s level i (w .r)) (c .either .ensures),
     )
 
 count-open-requires : tie.Need-count-open-requires Inv-loop2 μ-loop2 Inv-loop μ-loop
@@ -106,7 +110,8 @@ open-slots-spec =
     add-h
     mul-h-2
     element-copy-out-h
-    seen-also-requires
+    is-seen-requires
+    either-requires
     add-r
     loop2-less
     loop2-again
