@@ -9,4 +9,5 @@ pub mod BoolLaws
 pub mod CountLaws
 pub mod PairLaws
 pub mod AllLaws
+pub mod BuildLaws
 pub mod ValueLaws

@@ -1,0 +1,149 @@
+-- The steps by summaries are the steps of document 01.
+use mathlib.Core.Path.{_≡_, refl, sym, _∙_, ap}
+use mathlib.Core.Bool.{Bool, true, false, cond, _&&_, _||_, not}
+use Prim.Native.Nat.{ℕ, _<_, _≤_}
+use native.Mathlib.Omega.{arith}
+use borrow.Author.Tests.{eqb-true}
+use lib.Dec.{ltb, eqb}
+use lib.ListN.{getD}
+use Rattle.seq.specs.Below.{pickBelow, atFound}
+use Rattle.seq.specs.Order.{lexLess}
+use Rattle.seq.specs.declared.Found.{Found}
+use Rattle.seq.specs.declared.Found.the-variants.{At, Nowhere}
+use Rattle.seq.proofs.PickLaws.{pick-same, pick-is}
+use Rattle.seq.proofs.BuildLaws.{build-at}
+use Rattle.model.specs.declared.State.{State}
+use Rattle.model.specs.State.{rowAt, slotAt}
+use Rattle.model.specs.Words.{pageIn, seen, dormant, outranks, bestHolder, latestTouch}
+use Rattle.rules.specs.Choice.{orElse, stepA, beforeDormant, stepB, holderLevel, heldAbove, highestLevel, pinnedAt, inC, inD, heldAtOwnLevel, seenPin, inE, inF, worse, beforeHeld, stepHeld, chosen}
+use Rattle.choice.specs.declared.Summary.{Summary}
+use Rattle.choice.specs.declared.Class.{Class}
+use Rattle.choice.specs.declared.Class.the-variants.{C, D, E, F}
+use Rattle.choice.specs.Summary.{
+  bestBelow,
+  levelIn,
+  tallied,
+  summaryOf,
+  noSummary,
+  summariesOf,
+  emptyIn,
+  dormantIn,
+  aboveIn,
+  besideIn,
+  inClass,
+  noOrder,
+  dormantBefore,
+  higher,
+  worseIn,
+  heldBefore,
+  pickFrom,
+  topFrom,
+  heldFrom,
+  chosenFrom,
+}
+
+module _ (s : State) (me : ℕ) (most : s .size ≤ 64) where
+  summary-at : (i : ℕ) → i < 64 → getD (summariesOf s me) i noSummary ≡ summaryOf s me i
+  unfolding summariesOf
+  summary-at i h = build-at (summaryOf s me) 64 noSummary i noSummary h
+
+  -- a search over the summaries is one over the slots
+  from-summaries : (some : Summary → Bool) (before : Summary → Summary → Bool) (p : ℕ → Bool) (q : ℕ → ℕ → Bool)
+      → ((i : ℕ) → some (summaryOf s me i) ≡ p i) → ((i j : ℕ) → before (summaryOf s me i) (summaryOf s me j) ≡ q i j)
+      → pickFrom (summariesOf s me) (s .size) some before ≡ pickBelow (s .size) p q
+  unfolding pickFrom
+  from-summaries some before p q f g =
+      pick-same (λ i. some (getD (summariesOf s me) i noSummary)) p (λ i j. before (getD (summariesOf s me) i noSummary) (getD (summariesOf s me) j noSummary)) q (s .size)
+      (λ i h. ap some (summary-at i (omega arith)) ∙ f i)
+      (λ i j h k _ _.
+      ap (λ (x : Summary). before x (getD (summariesOf s me) j noSummary)) (summary-at i (omega arith))
+      ∙ ap (before (summaryOf s me i)) (summary-at j (omega arith)) ∙ g i j)
+
+  same-a : pickFrom (summariesOf s me) (s .size) emptyIn noOrder ≡ stepA s
+  unfolding stepA emptyIn summaryOf
+  same-a = from-summaries emptyIn noOrder _ (λ i j. false) (λ i. refl) (λ i j. refl)
+
+  same-b : pickFrom (summariesOf s me) (s .size) dormantIn dormantBefore ≡ stepB s
+  unfolding stepB dormantIn dormantBefore summaryOf tallied dormant beforeDormant
+  same-b = from-summaries dormantIn dormantBefore (dormant s) (beforeDormant s) (λ i. refl) (λ i j. refl)
+
+  same-level : (i : ℕ) → levelIn (summaryOf s me i .best) ≡ holderLevel s i
+  unfolding levelIn summaryOf bestBelow holderLevel bestHolder
+  same-level i = refl
+
+  same-above : (i : ℕ) → aboveIn (summaryOf s me i) ≡ heldAbove s me i
+  unfolding aboveIn summaryOf tallied heldAbove seen
+  same-above i = refl
+
+  same-top : topFrom (summariesOf s me) (s .size) ≡ highestLevel s me
+  unfolding topFrom highestLevel higher
+  same-top =
+      ap (λ (f : Found). atFound f (λ i. levelIn (getD (summariesOf s me) i noSummary .best)) 0)
+      (from-summaries aboveIn higher (heldAbove s me) (λ i j. ltb (holderLevel s j) (holderLevel s i)) same-above
+      (λ i j. ap (λ (a : ℕ). ltb a (levelIn (summaryOf s me i .best))) (same-level j) ∙ ap (ltb (holderLevel s j)) (same-level i)))
+      ∙ go (pickBelow (s .size) (heldAbove s me) (λ i j. ltb (holderLevel s j) (holderLevel s i))) refl
+    where
+      go : (f : Found) → pickBelow (s .size) (heldAbove s me) (λ i j. ltb (holderLevel s j) (holderLevel s i)) ≡ f
+          → atFound f (λ i. levelIn (getD (summariesOf s me) i noSummary .best)) 0 ≡ atFound f (holderLevel s) 0
+      go Nowhere e = refl
+      go (At i) e =
+          let h = pick-is (heldAbove s me) (λ i j. ltb (holderLevel s j) (holderLevel s i)) (s .size) i e .0 in
+          ap (λ (x : Summary). levelIn (x .best)) (summary-at i (omega arith)) ∙ same-level i
+
+  -- where two numbers are equal, what is asked of the one is asked of the other
+  at-equal : (a : Bool) (x y : ℕ) (f : ℕ → Bool) → a && eqb x y && f x ≡ a && eqb x y && f y
+  at-equal a x y f = go (eqb x y) refl
+    where
+      none : (b : Bool) → b && false && f x ≡ b && false && f y
+      none true = refl
+      none false = refl
+
+      go : (e : Bool) → eqb x y ≡ e → a && eqb x y && f x ≡ a && eqb x y && f y
+      go true e = ap (λ (z : ℕ). a && eqb x y && f z) (eqb-true x y e)
+      go false e = rw e (none a)
+
+  same-pinned : (i : ℕ) → summaryOf s me i .tally .pinned ≡ pinnedAt s (holderLevel s i) i
+  unfolding summaryOf tallied pinnedAt levelIn bestBelow holderLevel bestHolder
+  same-pinned i = refl
+
+  same-worse : (f g : Found) (next : Bool) → worseIn f g (atFound f (λ row. rowAt s row .deadline) 0) (atFound g (λ row. rowAt s row .deadline) 0) next ≡ worse s f g next
+  unfolding outranks
+  same-worse Nowhere g next = refl
+  same-worse (At row) Nowhere next = refl
+  same-worse (At row) (At other) next = refl
+
+  same-before : (i j : ℕ) → heldBefore (summaryOf s me i) (summaryOf s me j) ≡ beforeHeld s i j
+  unfolding heldBefore beforeHeld summaryOf tallied bestBelow bestHolder latestTouch levelIn holderLevel
+  same-before i j =
+      same-worse (bestHolder s i) (bestHolder s j)
+      (lexLess (latestTouch s (holderLevel s i) i) (latestTouch s (holderLevel s j) j) (ltb (pageIn (slotAt s i .content)) (pageIn (slotAt s j .content))))
+
+  same-class : (class : Class) (p : ℕ → Bool) → ((i : ℕ) → inClass class (highestLevel s me) (summaryOf s me i) ≡ p i)
+      → heldFrom (summariesOf s me) (s .size) class (topFrom (summariesOf s me) (s .size)) ≡ stepHeld s p
+  unfolding heldFrom stepHeld
+  same-class class p f = rw same-top (from-summaries (inClass class (highestLevel s me)) heldBefore p (beforeHeld s) f same-before)
+
+  same-c : (i : ℕ) → inClass C (highestLevel s me) (summaryOf s me i) ≡ inC s me i
+  unfolding inC
+  same-c i =
+      rw (same-above i, same-level i, same-pinned i)
+      (at-equal (heldAbove s me i) (holderLevel s i) (highestLevel s me) (λ level. not (pinnedAt s level i)))
+
+  same-d : (i : ℕ) → inClass D (highestLevel s me) (summaryOf s me i) ≡ inD s me i
+  unfolding inD
+  same-d i =
+      rw (same-above i, same-level i, same-pinned i)
+      (at-equal (heldAbove s me i) (holderLevel s i) (highestLevel s me) (λ level. pinnedAt s level i))
+
+  same-e : (i : ℕ) → inClass E (highestLevel s me) (summaryOf s me i) ≡ inE s me i
+  unfolding inE besideIn summaryOf tallied heldAtOwnLevel seen seenPin
+  same-e i = refl
+
+  same-f : (i : ℕ) → inClass F (highestLevel s me) (summaryOf s me i) ≡ inF s me i
+  unfolding inF besideIn summaryOf tallied heldAtOwnLevel seen seenPin
+  same-f i = refl
+
+  -- the choice by summaries is the choice
+  pub choice-made : chosenFrom (summariesOf s me) (s .size) ≡ chosen s me
+  unfolding chosenFrom chosen
+  choice-made = rw (same-a, same-b, same-class C (inC s me) same-c, same-class D (inD s me) same-d, same-class E (inE s me) same-e, same-class F (inF s me) same-f)

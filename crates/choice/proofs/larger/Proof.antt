@@ -1,0 +1,19 @@
+use Rattle.seq.proofs.Tests.{tests}
+use Rattle.choice.specs.Summary.{largerOf}
+use Rattle.choice.proofs.larger.Statement.{statement}
+use Rattle.choice.proofs.larger.Tie as tie
+use Rattle.choice.proofs.larger.Reads as reads
+use Rattle.choice.proofs.larger.Lts as lts
+
+-- src/lib.rt:128:9
+returns : tie.Need-returns
+unfolding largerOf
+returns c = simp (tests, c .if1 .taken)
+
+-- src/lib.rt:124:1
+returns-2 : tie.Need-returns-2
+unfolding largerOf
+returns-2 c = simp (tests, c .if1 .left)
+
+pub larger-spec : {M : Type 1} → statement M
+larger-spec = tie.close (tie.spec returns returns-2)
