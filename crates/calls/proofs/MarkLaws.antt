@@ -7,7 +7,7 @@ use lib.Dec.{eqb}
 use lib.ListN.{getD, replicate, length-replicate, getD-replicate}
 use Rattle.seq.specs.Each.{each}
 use Rattle.seq.proofs.OneLaws.{eqb-sym}
-use Rattle.seq.proofs.ValueLaws.{made-at}
+use Rattle.seq.proofs.BuildLaws.{build-at}
 use Rattle.model.specs.declared.Row.{Row}
 use Rattle.model.specs.declared.Cause.the-variants.{Late}
 use Rattle.model.specs.declared.State.{State}
@@ -31,7 +31,7 @@ one-marked row other h k =
 
 pub late-marked : (clock : ℕ) (rows : List Row) (row : ℕ) → row < 32 → marked (lateMarks clock rows) row ≡ lateTest clock (getD rows row freeRow)
 unfolding lateMarks
-late-marked clock rows row h = made-at 32 false (λ r. lateTest clock (getD rows r freeRow)) row h
+late-marked clock rows row h = build-at (λ r. lateTest clock (getD rows r freeRow)) 32 false row false h
 
 -- end: the marked row is released, and free
 pub ended-row : (s t : State) (row : ℕ) (marks : List Bool) → row < 32 → marks ≡ oneMark row → t ≡ released (marked marks) s → putRow t row freeRow ≡ putRow (released (eqb row) s) row freeRow

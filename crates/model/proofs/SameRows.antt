@@ -1,14 +1,13 @@
 -- Rows are released or killed by a test of the rows below 32 alone: two tests that agree on those change a state alike.
-use mathlib.Core.Path.{_≡_, ap}
+use mathlib.Core.Path.{_≡_}
 use mathlib.Core.Bool.{Bool, cond, _&&_}
 use Prim.Native.Nat.{ℕ, _%_, _<_}
 use native.Mathlib.Omega.{arith}
-use lib.ListN.{getD}
 use Rattle.seq.proofs.BelowLaws.{any-same}
 use Rattle.seq.proofs.EachLaws.{each-same}
 use Rattle.model.specs.declared.Cause.{Cause}
 use Rattle.model.specs.declared.State.{State}
-use Rattle.model.specs.State.{freeRow, emptySlot, emptyHolding, slotAt, holdingAt, withRows, withSlots, withHoldings}
+use Rattle.model.specs.State.{freeRow, emptySlot, emptyHolding, holdingAt, withRows, withSlots, withHoldings}
 use Rattle.model.specs.Changes.{written, dirtied, released, killed, killedRow}
 use Rattle.model.proofs.StateLaws.{Sized}
 use Rattle.model.proofs.ChangeLaws.{wroteSlot}

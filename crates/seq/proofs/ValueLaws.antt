@@ -1,10 +1,10 @@
 -- The value at what a search found, as a loop carries it: one turn, from the value so far and whether something was found.
 -- And a list that is made from its places.
-use mathlib.Core.Path.{_≡_, refl, _∙_, sym, ap}
+use mathlib.Core.Path.{_≡_, refl}
 use mathlib.Core.Bool.{Bool, true, false, cond}
 use mathlib.Core.List.{List}
 use Prim.Native.Nat.{ℕ, _+_, _<_, _≤_}
-use lib.ListN.{getD, set, replicate, length-replicate, getD-replicate}
+use lib.ListN.{getD, set, replicate, length-replicate}
 use Rattle.seq.specs.Below.{anyBelow, pickBelow, considered, atFound}
 use Rattle.seq.specs.Each.{each, eachBelow}
 use Rattle.seq.specs.declared.Found.{Found}

@@ -1,4 +1,4 @@
-use mathlib.Core.Path.{_≡_, _∙_}
+use mathlib.Core.Path.{_≡_}
 use mathlib.Core.Bool.{false}
 use Prim.Native.Nat.{_≤_, _-_}
 use native.Mathlib.Omega.{arith}
@@ -6,7 +6,7 @@ use borrow.Author.Needs.{needs}
 use lib.ListN.{getD, replicate}
 use Rattle.seq.specs.Each.{eachBelow}
 use Rattle.seq.proofs.EachLaws.{each-below-none}
-use Rattle.seq.proofs.ValueLaws.{made-turn, made-all}
+use Rattle.seq.proofs.BuildLaws.{build-turn, build-all}
 use Rattle.model.specs.State.{freeRow}
 use Rattle.calls.specs.Elements.{lateTest, lateMarks}
 use Rattle.calls.proofs.late_rows.Statement.{statement}
@@ -43,11 +43,11 @@ loop-less : tie.Need-loop-less Inv-loop μ-loop
 loop-less c = omega arith
 
 loop-again : tie.Need-loop-again Inv-loop μ-loop
-loop-again c = (omega arith, made-turn 32 false (λ k. lateTest (c .before .before .before .before .args .clock) (getD (c .before .before .before .before .args .t1) k freeRow)) (c .before .before .before .loop .r) (c .before .before .before .loop .marks) (c .is-late .result) (omega arith) (c .before .before .before .loop .inv .1) (c .is-late .ensures))
+loop-again c = (omega arith, build-turn (λ k. lateTest (c .before .before .before .before .args .clock) (getD (c .before .before .before .before .args .t1) k freeRow)) 32 false (c .before .before .before .loop .r) (c .before .before .before .loop .marks) (c .is-late .result) (omega arith) (c .before .before .before .loop .inv .1) (c .is-late .ensures))
 
 returns : tie.Need-returns Inv-loop μ-loop
 unfolding lateMarks
-returns c = c .before .loop .inv .1 ∙ made-all 32 false (λ k. lateTest (c .before .before .args .clock) (getD (c .before .before .args .t1) k freeRow)) (c .before .loop .r) (omega arith)
+returns c = build-all (λ k. lateTest (c .before .before .args .clock) (getD (c .before .before .args .t1) k freeRow)) 32 false (c .before .loop .r) (c .before .loop .marks) (omega arith) (c .before .loop .inv .1)
 
 pub late-rows-spec : {M : Type 1} → statement M
 late-rows-spec =
