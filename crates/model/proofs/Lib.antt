@@ -9,3 +9,4 @@ pub mod ArrivalLaws
 pub mod BookLaws
 pub mod Ranges
 pub mod Releasing
+pub mod SameRows

@@ -6,3 +6,4 @@ pub mod PickLaws
 pub mod PairLaws
 pub mod BuildLaws
 pub mod EachLaws
+pub mod ValueLaws
