@@ -1,0 +1,4 @@
+pub mod SlotLaws
+pub mod ClearLaws
+pub mod StepLaws
+pub mod ServeLaws

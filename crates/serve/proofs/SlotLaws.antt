@@ -1,0 +1,102 @@
+-- What the steps read of the 32 holdings of a slot is what they read of the state.
+use mathlib.Core.Path.{_≡_, refl, sym, _∙_}
+use mathlib.Core.Bool.{Bool, true, false, _&&_}
+use mathlib.Core.List.{List}
+use Prim.Native.Nat.{ℕ, _<_}
+use native.Mathlib.Omega.{arith}
+use borrow.Author.Tests.{le-leb, eq-eqb}
+use lib.Dec.{leb, ltb, eqb}
+use lib.ListN.{getD}
+use Rattle.seq.specs.Below.{anyBelow}
+use Rattle.seq.proofs.Tests.{and-false-right}
+use Rattle.seq.proofs.BelowLaws.{any-same}
+use Rattle.seq.proofs.PickedLaws.{picked-same}
+use Rattle.seq.proofs.BuildLaws.{build-at}
+use Rattle.model.specs.declared.Cause.the-variants.{Taken}
+use Rattle.model.specs.declared.Holding.{Holding}
+use Rattle.model.specs.declared.Mode.{Mode}
+use Rattle.model.specs.declared.Slot.{Slot}
+use Rattle.model.specs.declared.State.{State}
+use Rattle.model.specs.Parties.{levelOf}
+use Rattle.model.specs.State.{freeRow, emptyHolding, slotAt, holdingAt}
+use Rattle.model.specs.Words.{isFilled, isHeld, isPin, holds, pins, seenHolder, seen, dormant, seesDormant, outranks, leastArrival}
+use Rattle.model.specs.Changes.{marked, killed}
+use Rattle.model.proofs.StateLaws.{Sized}
+use Rattle.model.proofs.SameRows.{killed-same}
+use Rattle.rules.specs.Calls.{conflicts, mustWait, pinnersKilled}
+use Rattle.serve.specs.Elements.{seenTest, conflictTest, barTest}
+use Rattle.serve.specs.OneSlot.{holdingsOn, heldBy, seenIn, leastIn, seesDormantIn, mustWaitIn, conflictMarks, pinMarks}
+
+module _ (s : State) (slot : ℕ) where
+  pub held-by : (row : ℕ) → row < 32 → heldBy (holdingsOn s slot) row ≡ holdingAt s slot row
+  unfolding holdingsOn
+  held-by row h = build-at (holdingAt s slot) 32 emptyHolding row emptyHolding h
+
+  seen-test : (level row : ℕ) → row < 32 → seenTest level row (heldBy (holdingsOn s slot) row) ≡ seenHolder s level slot row
+  unfolding seenTest seenHolder
+  seen-test level row h = rw (held-by row h)
+
+  pub seen-in : (level : ℕ) → seenIn (holdingsOn s slot) level ≡ seen s level slot
+  unfolding seenIn seen
+  seen-in level = any-same (λ row. seenTest level row (heldBy (holdingsOn s slot) row)) (seenHolder s level slot) 32 (seen-test level)
+
+  pub least-in : (level : ℕ) → leastIn (holdingsOn s slot) level ≡ leastArrival s level slot
+  unfolding leastIn leastArrival
+  least-in level =
+      picked-same (λ row. seenTest level row (heldBy (holdingsOn s slot) row)) (seenHolder s level slot)
+      (λ row other. ltb (heldBy (holdingsOn s slot) row .arrival) (heldBy (holdingsOn s slot) other .arrival))
+      (λ row other. ltb (holdingAt s slot row .arrival) (holdingAt s slot other .arrival))
+      (λ row. heldBy (holdingsOn s slot) row .arrival) (λ row. holdingAt s slot row .arrival) 0 32
+      (seen-test level)
+      (λ i j h k _ _. rw (held-by i h, held-by j k))
+      (λ i h _. rw (held-by i h))
+
+  pub dormant-in : (level : ℕ) → seesDormantIn (holdingsOn s slot) (slotAt s slot) level ≡ seesDormant s level slot
+  unfolding seesDormantIn seesDormant dormant
+  dormant-in level = rw (any-same (λ row. isHeld (heldBy (holdingsOn s slot) row .pin)) (holds s slot) 32 (λ row h. rw (held-by row h)))
+
+  pub must-wait-in : (row : ℕ) (mode : Mode) → mustWaitIn (holdingsOn s slot) (s .rows) row mode ≡ mustWait s row slot mode
+  unfolding mustWaitIn mustWait barTest conflictTest conflicts outranks
+  must-wait-in row mode =
+      any-same (λ other. barTest row (getD (s .rows) row freeRow .deadline) mode other (getD (s .rows) other freeRow .deadline) (heldBy (holdingsOn s slot) other))
+      (λ other. leb (levelOf other) (levelOf row) && conflicts s row slot mode other && outranks s other row) 32
+      (λ other h. rw (held-by other h))
+
+  conflict-marked : (row : ℕ) (mode : Mode) (other : ℕ) → other < 32 → marked (conflictMarks (holdingsOn s slot) row mode) other ≡ conflicts s row slot mode other
+  unfolding conflictMarks conflictTest conflicts
+  conflict-marked row mode other h =
+      build-at (λ r. conflictTest row mode r (heldBy (holdingsOn s slot) r)) 32 false other false h ∙ rw (held-by other h)
+
+  pin-marked : (row : ℕ) → row < 32 → marked (pinMarks (holdingsOn s slot)) row ≡ pins s slot row
+  unfolding pinMarks
+  pin-marked row h = build-at (λ r. isPin (heldBy (holdingsOn s slot) r .pin)) 32 false row false h ∙ rw (held-by row h)
+
+  -- the kills
+  pub conflicts-killed : Sized s → (row : ℕ) (mode : Mode) → killed (marked (conflictMarks (holdingsOn s slot) row mode)) Taken s ≡ killed (conflicts s row slot mode) Taken s
+  conflicts-killed z row mode = killed-same (marked (conflictMarks (holdingsOn s slot) row mode)) (conflicts s row slot mode) s (conflict-marked row mode) z Taken
+
+  pub pinners-killed : Sized s → killed (marked (pinMarks (holdingsOn s slot))) Taken s ≡ pinnersKilled s slot
+  unfolding pinnersKilled
+  pinners-killed z = killed-same (marked (pinMarks (holdingsOn s slot))) (pins s slot) s pin-marked z Taken
+
+-- every row is of level 3 or a lower one
+pub seen-by-3 : (held : List Holding) → seenIn held 3 ≡ anyBelow 32 (λ row. isHeld (heldBy held row .pin))
+unfolding seenIn seenTest
+seen-by-3 held =
+    any-same (λ row. leb (levelOf row) 3 && isHeld (heldBy held row .pin)) (λ row. isHeld (heldBy held row .pin)) 32
+    (λ row h. rw (le-leb (levelOf row) 3 (omega arith)))
+
+-- level 3 and a dormant page, by what the loop found
+pub not-dormant : (held : List Holding) (x : Slot) (level : ℕ) (found : Bool) → found ≡ seenIn held 3 → found ≡ true → false ≡ seesDormantIn held x level
+unfolding seesDormantIn
+not-dormant held x level found e f =
+    rw (← seen-by-3 held, ← e, f)
+    (sym (and-false-right (eqb level 3) (isFilled (x .content) && false) (and-false-right (isFilled (x .content)) false refl)))
+
+pub is-dormant : (held : List Holding) (x : Slot) (level : ℕ) (found filled : Bool) → level ≡ 3 → found ≡ seenIn held 3 → found ≡ false → filled ≡ isFilled (x .content) → filled ≡ seesDormantIn held x level
+unfolding seesDormantIn
+is-dormant held x level found filled l e f g = rw (eq-eqb level 3 l, ← seen-by-3 held, ← e, f, ← g) (and-true-right filled)
+  where
+    and-true-right : (b : Bool) → b ≡ b && true
+    and-true-right true = refl
+    and-true-right false = refl

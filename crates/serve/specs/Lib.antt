@@ -1,0 +1,2 @@
+pub mod OneSlot
+pub mod Elements
