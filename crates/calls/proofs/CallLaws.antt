@@ -14,8 +14,7 @@ use Rattle.model.specs.declared.Mode.{Mode}
 use Rattle.model.specs.declared.Row.{Row}
 use Rattle.model.specs.Parties.{rowOf, modeOf, mayAccess}
 use Rattle.rules.specs.Calls.{unless, delivered, deliveredRow}
-use Rattle.rules.specs.Refusals.{firstToApply, isRead, lookRefusal}
-use Rattle.rules.proofs.RefusalFacts.{row-below}
+use Rattle.rules.specs.Refusals.{firstToApply, isRead}
 
 -- n: the number that the code found; m: that of the definition
 pub refused : (n m : ℕ) (s : State) (o : Outcome) → n ≡ m → 0 < n → record { state = s; answer = Refused n } ≡ unless m s o
@@ -30,15 +29,6 @@ taken n m s o e h = let z : m ≡ 0 = omega arith in rw z
 
 pub none-applies : (n m : ℕ) → n ≡ m → n ≤ 0 → m ≡ 0
 none-applies n m e h = omega arith
-
-pub look-taken : (level number : ℕ) → lookRefusal level number ≡ 0 → rowOf level number < 32
-unfolding lookRefusal
-look-taken level number e = go (ltb 3 level) (ltb 7 number) refl refl e
-  where
-    go : (a b : Bool) → ltb 3 level ≡ a → ltb 7 number ≡ b → firstToApply ((4, a) ∷ (5, b) ∷ []) ≡ 0 → rowOf level number < 32
-    go true b p q z = absurd (omega arith)
-    go false true p q z = absurd (omega arith)
-    go false false p q z = row-below level number p q .0
 
 -- the refusals of a request by the access rule; m, b: its mode and the verdict, as the code found them
 module _ (level page mode : ℕ) (m : Mode) (b : Bool) (e : m ≡ modeOf mode) (f : b ≡ mayAccess level page m) where

@@ -6,7 +6,7 @@ use Prim.Native.Nat.{ℕ, _+_, _<_}
 use lib.Dec.{eqb}
 use lib.ListN.{getD, replicate, length-replicate, getD-replicate}
 use Rattle.seq.specs.Each.{each}
-use Rattle.seq.proofs.OneLaws.{eqb-sym}
+use Rattle.seq.proofs.Tests.{eqb-sym}
 use Rattle.seq.proofs.BuildLaws.{build-at}
 use Rattle.model.specs.declared.Row.{Row}
 use Rattle.model.specs.declared.Cause.the-variants.{Late}

@@ -1,18 +1,4 @@
 -- The value at what a search found, as a loop carries it: one turn, from the value so far and whether something was found.
-<<<<<<< HEAD
--- And a list that is made from its places.
-use mathlib.Core.Path.{_≡_, refl}
-use mathlib.Core.Bool.{Bool, true, false, cond}
-use mathlib.Core.List.{List}
-use Prim.Native.Nat.{ℕ, _+_, _<_, _≤_}
-use lib.ListN.{getD, set, replicate, length-replicate}
-use Rattle.seq.specs.Below.{anyBelow, pickBelow, considered, atFound}
-use Rattle.seq.specs.Each.{each, eachBelow}
-use Rattle.seq.specs.declared.Found.{Found}
-use Rattle.seq.specs.declared.Found.the-variants.{At, Nowhere}
-use Rattle.seq.proofs.BelowLaws.{none-any, hit-any}
-use Rattle.seq.proofs.EachLaws.{each-at, each-below-turn, each-below-all}
-=======
 use mathlib.Core.Path.{_≡_, refl}
 use mathlib.Core.Bool.{Bool, true, false, cond}
 use Prim.Native.Nat.{ℕ, _+_}
@@ -20,7 +6,6 @@ use Rattle.seq.specs.Below.{anyBelow, pickBelow, considered, atFound}
 use Rattle.seq.specs.declared.Found.{Found}
 use Rattle.seq.specs.declared.Found.the-variants.{At, Nowhere}
 use Rattle.seq.proofs.BelowLaws.{none-any, hit-any}
->>>>>>> df8a1797fbe674fed61c0a7470ce5727e60ba418
 use Rattle.seq.proofs.PickLaws.{pick-more, pick-is, pick-none}
 
 -- the order is one of the values
@@ -47,17 +32,3 @@ module _ {A : Type 0} (p : ℕ → Bool) (f : ℕ → A) (less : A → A → Boo
   pub value-turn : (n : ℕ) (t : Bool) (x : A) (found : Bool) (v w : A) → t ≡ p n → x ≡ f n → found ≡ anyBelow n p → v ≡ atFound (pickBelow n p before) f d
       → w ≡ bestOf t x found v → w ≡ atFound (pickBelow (n + 1) p before) f d
   value-turn n t x found v w e1 e2 e3 e4 q = rw (value-more n, ← e1, ← e2, ← e3, ← e4) q
-<<<<<<< HEAD
-
--- a list of n elements, each made from its place
-module _ {A : Type 0} (n : ℕ) (d : A) (f : ℕ → A) where
-  pub made-at : (i : ℕ) → i < n → getD (each (λ k _. f k) (replicate n d)) i d ≡ f i
-  made-at i h = each-at (λ k _. f k) (replicate n d) i d (rw (length-replicate n d) h)
-
-  pub made-turn : (i : ℕ) (l : List A) (x : A) → i < n → l ≡ eachBelow i (λ k _. f k) (replicate n d) → x ≡ f i → set l i x ≡ eachBelow (i + 1) (λ k _. f k) (replicate n d)
-  made-turn i l x h e q = each-below-turn (λ k _. f k) (replicate n d) i d l x (rw (length-replicate n d) h) e q
-
-  pub made-all : (i : ℕ) → n ≤ i → eachBelow i (λ k _. f k) (replicate n d) ≡ each (λ k _. f k) (replicate n d)
-  made-all i h = each-below-all (λ k _. f k) (replicate n d) i d (rw (length-replicate n d) h)
-=======
->>>>>>> df8a1797fbe674fed61c0a7470ce5727e60ba418

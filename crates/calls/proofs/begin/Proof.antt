@@ -17,10 +17,10 @@ unfolding begun
 returns c = refused _ _ _ _ (c .before .begin-refusal .ensures) (c .if1 .taken)
 
 mul-row : tie.Need-mul-row
-mul-row c = let h = begin-taken _ _ _ _ (none-applies _ _ (c .before .begin-refusal .ensures) (c .if1 .left)) .row-is in omega arith
+mul-row c = let h = begin-taken _ _ _ _ (none-applies _ _ (c .before .begin-refusal .ensures) (c .if1 .left)) .names .row-is in omega arith
 
 add-row : tie.Need-add-row
-add-row c = let h = begin-taken _ _ _ _ (none-applies _ _ (c .before .begin-refusal .ensures) (c .if1 .left)) .row-is in omega arith
+add-row c = let h = begin-taken _ _ _ _ (none-applies _ _ (c .before .begin-refusal .ensures) (c .if1 .left)) .names .row-is in omega arith
 
 cast-row : tie.Need-cast-row
 cast-row c = search needs
@@ -29,7 +29,7 @@ mul-t14 : tie.Need-mul-t14
 mul-t14 c = search needs
 
 element-set-from-t : tie.Need-element-set-from-t
-element-set-from-t c = let h = begin-taken _ _ _ _ (none-applies _ _ (c .before .begin-refusal .ensures) (c .if1 .left)) .row-is in omega arith
+element-set-from-t c = let h = begin-taken _ _ _ _ (none-applies _ _ (c .before .begin-refusal .ensures) (c .if1 .left)) .names .row-is in omega arith
 
 returns-2 : tie.Need-returns-2
 unfolding begun

@@ -23,16 +23,16 @@ unfolding ended
 returns c = refused _ _ _ _ (c .before .end-refusal .ensures) (c .if1 .taken)
 
 mul-row : tie.Need-mul-row
-mul-row c = let h = end-taken _ _ _ (none-applies _ _ (c .before .end-refusal .ensures) (c .if1 .left)) in omega arith
+mul-row c = let h = end-taken _ _ _ (none-applies _ _ (c .before .end-refusal .ensures) (c .if1 .left)) .row-is in omega arith
 
 add-row : tie.Need-add-row
-add-row c = let h = end-taken _ _ _ (none-applies _ _ (c .before .end-refusal .ensures) (c .if1 .left)) in omega arith
+add-row c = let h = end-taken _ _ _ (none-applies _ _ (c .before .end-refusal .ensures) (c .if1 .left)) .row-is in omega arith
 
 cast-row : tie.Need-cast-row
 cast-row c = search needs
 
 one-mark-requires : tie.Need-one-mark-requires
-one-mark-requires c κs = let h = end-taken _ _ _ (none-applies _ _ (c .before .end-refusal .ensures) (c .if1 .left)) in omega arith
+one-mark-requires c κs = let h = end-taken _ _ _ (none-applies _ _ (c .before .end-refusal .ensures) (c .if1 .left)) .row-is in omega arith
 
 release-requires : tie.Need-release-requires
 release-requires c κs = search needs
@@ -41,12 +41,12 @@ mul-t15 : tie.Need-mul-t15
 mul-t15 c = search needs
 
 element-set-from-t : tie.Need-element-set-from-t
-element-set-from-t c = let h = end-taken _ _ _ (none-applies _ _ (c .before .before .before .end-refusal .ensures) (c .before .before .if1 .left)) in omega arith
+element-set-from-t c = let h = end-taken _ _ _ (none-applies _ _ (c .before .before .before .end-refusal .ensures) (c .before .before .if1 .left)) .row-is in omega arith
 
 returns-2 : tie.Need-returns-2
 unfolding ended
 returns-2 c =
-    let h = end-taken _ _ _ (none-applies _ _ (c .before .before .before .end-refusal .ensures) (c .before .before .if1 .left)) in
+    let h = end-taken _ _ _ (none-applies _ _ (c .before .before .before .end-refusal .ensures) (c .before .before .if1 .left)) .row-is in
     let e = ended-row (c .before .before .before .before .args .s) (c .release .result) (rowOf (c .before .before .before .before .args .level) (c .before .before .before .before .args .number)) (c .before .one-mark .result) h (c .before .one-mark .ensures) (c .release .ensures) in
     (λ j. record { state = e j; answer = Ended }) ∙ taken _ _ _ _ (c .before .before .before .end-refusal .ensures) (c .before .before .if1 .left)
 

@@ -1,6 +1,7 @@
 use native.Mathlib.Omega.{arith}
 use Rattle.rules.specs.Calls.{lookedAt}
-use Rattle.calls.proofs.CallLaws.{refused, taken, none-applies, look-taken}
+use Rattle.rules.proofs.RefusalFacts.{look-taken}
+use Rattle.calls.proofs.CallLaws.{refused, taken, none-applies}
 use borrow.Author.Needs.{needs}
 use Rattle.calls.proofs.look.Statement.{statement}
 use Rattle.calls.proofs.look.Tie as tie
@@ -17,10 +18,10 @@ unfolding lookedAt
 returns c = refused _ _ _ _ (c .before .look-refusal .ensures) (c .if1 .taken)
 
 mul-x : tie.Need-mul-x
-mul-x c = let h = look-taken _ _ (none-applies _ _ (c .before .look-refusal .ensures) (c .if1 .left)) in omega arith
+mul-x c = let h = look-taken _ _ (none-applies _ _ (c .before .look-refusal .ensures) (c .if1 .left)) .row-is in omega arith
 
 add-x : tie.Need-add-x
-add-x c = let h = look-taken _ _ (none-applies _ _ (c .before .look-refusal .ensures) (c .if1 .left)) in omega arith
+add-x c = let h = look-taken _ _ (none-applies _ _ (c .before .look-refusal .ensures) (c .if1 .left)) .row-is in omega arith
 
 cast-x : tie.Need-cast-x
 cast-x c = search needs
@@ -29,7 +30,7 @@ mul-x-2 : tie.Need-mul-x-2
 mul-x-2 c = search needs
 
 element-copy-out-x : tie.Need-element-copy-out-x
-element-copy-out-x c = let h = look-taken _ _ (none-applies _ _ (c .before .look-refusal .ensures) (c .if1 .left)) in omega arith
+element-copy-out-x c = let h = look-taken _ _ (none-applies _ _ (c .before .look-refusal .ensures) (c .if1 .left)) .row-is in omega arith
 
 row-answer-requires : tie.Need-row-answer-requires
 row-answer-requires c κs = search needs

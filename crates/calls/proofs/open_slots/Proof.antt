@@ -4,7 +4,7 @@ use Prim.Native.Nat.{ℕ, _≤_, _-_}
 use native.Mathlib.Omega.{arith}
 use borrow.Author.Needs.{needs}
 use Rattle.seq.specs.Below.{anyBelow, countBelow}
-use Rattle.seq.proofs.AllLaws.{any-test-turn, count-turn}
+use Rattle.seq.proofs.BelowLaws.{any-test-turn, count-turn}
 use Rattle.seq.proofs.BelowLaws.{count-at-most}
 use Rattle.model.specs.Words.{seenHolder, isOpen}
 use Rattle.calls.proofs.SlotLaws.{seen-test, open-end}

@@ -20,10 +20,10 @@ unfolding unpinned
 returns c = refused _ _ _ _ (c .before .unpin-refusal .ensures) (c .if1 .taken)
 
 mul-row : tie.Need-mul-row
-mul-row c = let h = unpin-taken _ _ _ _ (none-applies _ _ (c .before .unpin-refusal .ensures) (c .if1 .left)) .row-is in omega arith
+mul-row c = let h = unpin-taken _ _ _ _ (none-applies _ _ (c .before .unpin-refusal .ensures) (c .if1 .left)) .names .row-is in omega arith
 
 add-row : tie.Need-add-row
-add-row c = let h = unpin-taken _ _ _ _ (none-applies _ _ (c .before .unpin-refusal .ensures) (c .if1 .left)) .row-is in omega arith
+add-row c = let h = unpin-taken _ _ _ _ (none-applies _ _ (c .before .unpin-refusal .ensures) (c .if1 .left)) .names .row-is in omega arith
 
 cast-row : tie.Need-cast-row
 cast-row c = search needs
@@ -43,7 +43,7 @@ returns-2 c = rw (← c .before .before .find-page .ensures, c .enum-told .given
 
 unpin-at-requires : tie.Need-unpin-at-requires
 unpin-at-requires c κs =
-    let h = unpin-taken _ _ _ _ (none-applies _ _ (c .before .before .before .before .before .unpin-refusal .ensures) (c .before .before .before .before .if1 .left)) .row-is in
+    let h = unpin-taken _ _ _ _ (none-applies _ _ (c .before .before .before .before .before .unpin-refusal .ensures) (c .before .before .before .before .if1 .left)) .names .row-is in
     let k = found-below _ _ _ _ (c .before .before .before .before .before .before .pre) (c .before .before .before .find-page .ensures) (c .before .slot .given .1) in
     (omega arith, omega arith)
 

@@ -3,7 +3,7 @@ use Prim.Native.Nat.{_≤_, _-_}
 use native.Mathlib.Omega.{arith}
 use borrow.Author.Needs.{needs}
 use Rattle.seq.specs.Below.{anyBelow, pickBelow}
-use Rattle.seq.proofs.AllLaws.{any-test-turn}
+use Rattle.seq.proofs.BelowLaws.{any-test-turn}
 use Rattle.model.specs.Words.{holds, seenHolder}
 use Rattle.calls.proofs.SlotLaws.{seen-test, bestBelow, leastBelow, best-turn, least-turn, view-end}
 use Rattle.calls.proofs.view_slot.Statement.{statement}
