@@ -7,13 +7,14 @@ use lib.Dec.{eqb}
 use lib.ListN.{getD, replicate, length-replicate, getD-replicate}
 use Rattle.seq.specs.Each.{each}
 use Rattle.seq.proofs.Tests.{eqb-sym}
+use Rattle.seq.proofs.EachLaws.{set-at}
 use Rattle.seq.proofs.BuildLaws.{build-at}
 use Rattle.model.specs.declared.Row.{Row}
 use Rattle.model.specs.declared.Cause.the-variants.{Late}
 use Rattle.model.specs.declared.State.{State}
 use Rattle.model.specs.State.{freeRow, withClock, withRows, putRow}
 use Rattle.model.specs.Changes.{marked, released, killed}
-use Rattle.model.proofs.StateLaws.{Sized, set-at}
+use Rattle.model.proofs.StateLaws.{Sized}
 use Rattle.model.proofs.SameRows.{released-same, killed-same}
 use Rattle.rules.specs.Calls.{deliveredRow, deliveredRows, isLate, lateKilled, advanced}
 use Rattle.rules.proofs.TickLaws.{later, sized-later}
