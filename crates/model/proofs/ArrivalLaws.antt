@@ -2,11 +2,11 @@
 use mathlib.Core.Path.{_≡_}
 use mathlib.Core.Bool.{Bool, true}
 use Prim.Native.Nat.{ℕ, _<_, _≤_}
-use native.Mathlib.Omega.{arith}
-use borrow.Author.Tests.{ltb-true, ltb-false, lt-ltb, le-ltb}
+use borrow.Author.Tests.{ltb-false}
 use lib.Dec.{leb, ltb}
 use Rattle.seq.proofs.Tests.{and-true}
 use Rattle.seq.proofs.BelowLaws.{any-hit}
+use Rattle.seq.proofs.OrderLaws.{ltb-strict, ltb-trans}
 use Rattle.seq.proofs.PickLaws.{pick-is, pick-some, pick-first}
 use Rattle.model.specs.declared.State.{State}
 use Rattle.model.specs.Parties.{levelOf}
@@ -29,11 +29,8 @@ least-first s level slot r b e =
     let x = pick-some (seenHolder s level slot) before 32 r b e in
     rw (x .1) (ltb-false (holdingAt s slot r .arrival) (holdingAt s slot (x .0) .arrival)
     (pick-first (seenHolder s level slot) before
-    (λ i _. le-ltb (holdingAt s slot i .arrival) (holdingAt s slot i .arrival) (omega arith))
-    (λ i j k _ _ _ u v.
-    let p = ltb-true (holdingAt s slot i .arrival) (holdingAt s slot j .arrival) u in
-    let q = ltb-true (holdingAt s slot j .arrival) (holdingAt s slot k .arrival) v in
-    lt-ltb (holdingAt s slot i .arrival) (holdingAt s slot k .arrival) (omega arith))
+    (λ i _. ltb-strict (holdingAt s slot i .arrival))
+    (λ i j k _ _ _. ltb-trans (holdingAt s slot i .arrival) (holdingAt s slot j .arrival) (holdingAt s slot k .arrival))
     32 (x .0) r (x .1) b e))
   where
     before : ℕ → ℕ → Bool

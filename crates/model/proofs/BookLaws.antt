@@ -7,13 +7,10 @@ use Rattle.seq.proofs.Tests.{both-true}
 use Rattle.seq.proofs.BelowLaws.{hit-any}
 use Rattle.model.specs.State.{emptyHolding, slotAt, holdingAt}
 use Rattle.model.specs.Words.{hasPage, dirtyIn}
-use Rattle.model.specs.Changes.{written, dirtied, dirtiedContent}
-use Rattle.model.specs.declared.Content.{Content}
-use Rattle.model.specs.declared.Content.the-variants.{Empty, Filled}
-use Rattle.model.specs.declared.Slot.{Slot}
+use Rattle.model.specs.Changes.{written, dirtied}
 use Rattle.model.specs.declared.State.{State}
 use Rattle.model.proofs.ChangeLaws.{wroteSlot}
-use Rattle.model.proofs.DirtyLaws.{dirtied-page}
+use Rattle.model.proofs.ContentLaws.{dirtied-page, dirtied-stays, dirtied-is}
 
 -- from s to t the slot keeps the page and its dirty mark, and a write pin that had arrived stays or leaves the slot dirty
 pub record Booked (k page : ℕ) (s t : State) (slot : ℕ) : Type 0 where
@@ -40,24 +37,6 @@ booked-trans {k} {page} {s} {u} {t} {slot} a b = record {
         → (written k (holdingAt t slot row) ≡ true) ⊎ (dirtyIn (slotAt t slot .content) ≡ true)
     go h row m (inl w) = b .wrote (a .has-it h) row m w
     go h row m (inr d) = inr (b .dirty d)
-
--- a slot that may become dirty
-pub dirtied-stays : (b : Bool) (x : Slot) → dirtyIn (x .content) ≡ true → dirtyIn (cond b (dirtied x) x .content) ≡ true
-unfolding dirtied
-dirtied-stays false x e = e
-dirtied-stays true x e = go (x .content) e
-  where
-    go : (c : Content) → dirtyIn c ≡ true → dirtyIn (dirtiedContent c) ≡ true
-    go Empty q = q
-    go (Filled p arrival dirty lowest) q = refl
-
-pub dirtied-is : (page : ℕ) (x : Slot) → hasPage page (x .content) ≡ true → dirtyIn (dirtied x .content) ≡ true
-unfolding dirtied
-dirtied-is page x h = go (x .content) h
-  where
-    go : (c : Content) → hasPage page c ≡ true → dirtyIn (dirtiedContent c) ≡ true
-    go Empty q = q
-    go (Filled p arrival dirty lowest) q = refl
 
 -- the holdings of some rows go
 pub booked-dropped : (page : ℕ) (some : ℕ → Bool) (s t : State) (slot : ℕ) → slotAt t slot ≡ cond (wroteSlot some s slot) (dirtied (slotAt s slot)) (slotAt s slot)

@@ -1,36 +1,16 @@
 -- What stands at a row, a slot and a holding after an elementary change.
-use mathlib.Core.Path.{_≡_, refl, sym, _∙_, ap}
-use mathlib.Core.Bool.{Bool, true, false, cond, _&&_}
-use mathlib.Core.List.{List}
-use Prim.Native.Nat.{ℕ, _+_, _*_, _/_, _%_, _<_, _≤_}
-use native.Mathlib.Omega.{arith}
-use native.Mathlib.Decide.{decLt}
+use mathlib.Core.Path.{_≡_, refl, _∙_, ap}
+use mathlib.Core.Bool.{Bool, cond, _&&_}
+use Prim.Native.Nat.{ℕ, _+_, _*_, _/_, _%_, _<_}
 use lib.Dec.{eqb}
-use lib.ListN.{length, getD, List·getD-eq-default}
 use Rattle.seq.specs.Below.{anyBelow}
-use Rattle.seq.specs.Each.{each}
-use Rattle.seq.proofs.EachLaws.{each-at, each-length}
+use Rattle.seq.proofs.Tests.{cond-same}
+use Rattle.seq.proofs.EachLaws.{each-at, each-length, each-any}
 use Rattle.model.specs.State.{freeRow, emptySlot, emptyHolding, rowAt, slotAt, holdingAt}
-use Rattle.model.specs.Changes.{written, dirtied, dirtiedContent, released, killed, killedRow, cleared}
+use Rattle.model.specs.Changes.{written, dirtied, released, killed, killedRow, cleared}
 use Rattle.model.specs.declared.Cause.{Cause}
-use Rattle.model.specs.declared.Row.{Row}
-use Rattle.model.specs.declared.Slot.{Slot}
-use Rattle.model.specs.declared.Holding.{Holding}
 use Rattle.model.specs.declared.State.{State}
 use Rattle.model.proofs.StateLaws.{Sized, place-slot, place-row}
-
--- a function that leaves the default: its element at any place, in the list or past its end
-each-any : {A : Type 0} (f : ℕ → A → A) (l : List A) (i : ℕ) (d : A) → (length l ≤ i → f i d ≡ d) → getD (each f l) i d ≡ f i (getD l i d)
-each-any f l i d still = elim (decLt i (length l)) [
-  | yes h ↦ each-at f l i d h
-  | no h ↦
-      let b : length l ≤ i = omega arith in
-      List·getD-eq-default (each f l) d {n = i} (rw (each-length f l) b) ∙ sym (still b) ∙ ap (f i) (sym (List·getD-eq-default l d {n = i} b))
-]
-
-cond-same : {A : Type 0} (b : Bool) (x : A) → cond b x x ≡ x
-cond-same true x = refl
-cond-same false x = refl
 
 -- some of the rows wrote the slot: one of them has a write pin on it that had arrived
 abbrev pub wroteSlot : (ℕ → Bool) → State → ℕ → Bool

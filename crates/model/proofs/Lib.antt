@@ -1,11 +1,12 @@
 pub mod StateLaws
-pub mod ChangeLaws
-pub mod Ranges
-pub mod Releasing
-pub mod PriorityLaws
-pub mod DirtyLaws
 pub mod PutLaws
+pub mod ChangeLaws
+pub mod ContentLaws
 pub mod PinLaws
+pub mod PriorityLaws
+pub mod SeenLaws
 pub mod ArrivalLaws
 pub mod BookLaws
+pub mod Ranges
+pub mod Releasing
 pub mod SameRows

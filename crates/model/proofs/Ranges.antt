@@ -1,9 +1,9 @@
 -- What a value's type says of it, as `.good` and `.ok` have it, read as ranges.
-use mathlib.Core.Path.{_≡_, refl, sym, _∙_}
+use mathlib.Core.Path.{sym, _∙_}
 use mathlib.Core.List.{List, [], _∷_, map}
 use Prim.Native.Nat.{ℕ, zero, suc, _<_, _^_}
 use lib.Dec.{lit<}
-use lib.ListN.{length, getD, length-map}
+use lib.ListN.{getD, length-map}
 use mir.Val.{Val}
 use denote.Laws.{Is}
 use denote.Array.{each}

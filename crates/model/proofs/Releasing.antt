@@ -1,11 +1,11 @@
 -- The loops that release rows: the state after the slots below i and the holdings below k have been passed.
-use mathlib.Core.Path.{_≡_, refl, sym, _∙_, ap}
+use mathlib.Core.Path.{_≡_, sym, _∙_, ap}
 use mathlib.Core.Bool.{Bool, cond}
 use mathlib.Core.List.{List}
 use Prim.Native.Nat.{ℕ, _+_, _*_, _%_, _<_, _≤_}
 use native.Mathlib.Omega.{arith}
-use lib.ListN.{length, getD, set}
-use Rattle.seq.specs.Each.{each, eachBelow}
+use lib.ListN.{length, set}
+use Rattle.seq.specs.Each.{eachBelow}
 use Rattle.seq.proofs.EachLaws.{each-below-none, each-below-more, each-below-all}
 use Rattle.model.specs.State.{emptySlot, emptyHolding, slotAt, holdingAt, withSlots, withHoldings}
 use Rattle.model.specs.Changes.{dirtied, released}

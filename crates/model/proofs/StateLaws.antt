@@ -1,15 +1,13 @@
--- What stands at a row, a slot and a holding of a state with one of them replaced.
-use mathlib.Core.Path.{_≡_, refl, sym, _∙_, ap}
-use mathlib.Core.Bool.{Bool, true, false, cond, _&&_}
-use mathlib.Core.List.{List}
-use Prim.Native.Nat.{ℕ, _+_, _*_, _/_, _%_, _<_, _≤_}
+-- What stands at a row, a slot and a holding of a state with one of them replaced, and of the fresh state.
+use mathlib.Core.Path.{_≡_, sym, _∙_, ap}
+use mathlib.Core.Bool.{Bool, cond, _&&_}
+use Prim.Native.Nat.{ℕ, _+_, _*_, _/_, _%_, _<_}
 use native.Mathlib.Omega.{arith}
 use native.Mathlib.Decide.{ℕ-discrete}
 use borrow.Author.Tests.{eq-eqb, ne-eqb}
 use lib.Dec.{eqb}
-use lib.ListN.{length, getD, set, length-set, length-replicate, getD-replicate}
-use lib.Seq.{getD-set-same, getD-set-other}
-use Rattle.seq.proofs.Tests.{and-false-right}
+use lib.ListN.{length, length-set, length-replicate}
+use Rattle.seq.proofs.EachLaws.{set-at, replicate-at}
 use Rattle.model.specs.State.{freeRow, emptySlot, emptyHolding, emptyHoldings, fresh, rowAt, slotAt, holdingAt, withClock, putRow, putSlot, putHolding}
 use Rattle.model.specs.declared.Row.{Row}
 use Rattle.model.specs.declared.Slot.{Slot}
@@ -21,13 +19,6 @@ pub record Sized (s : State) : Type 0 where
   pub rows : length (s .rows) ≡ 32
   pub slots : length (s .slots) ≡ 64
   pub holdings : length (s .holdings) ≡ 2048
-
--- an element of a list with one element replaced
-pub set-at : {A : Type 0} (l : List A) (k j : ℕ) (x d : A) → k < length l → getD (set l k x) j d ≡ cond (eqb j k) x (getD l j d)
-set-at l k j x d h = elim (ℕ-discrete j k) [
-  | yes e ↦ rw (e, eq-eqb k k refl) (getD-set-same l k x d h)
-  | no e ↦ rw (ne-eqb j k e) (getD-set-other l k j x d e)
-]
 
 -- the place of a holding tells its slot and its row
 pub place-slot : (slot row : ℕ) → row < 32 → (slot * 32 + row) / 32 ≡ slot
@@ -72,12 +63,6 @@ module _ (s : State) (z : Sized s) where
   sized-clock clock = record { rows = z .rows; slots = z .slots; holdings = z .holdings }
 
 -- the fresh state, at each place
-replicate-at : {A : Type 0} (n i : ℕ) (x : A) → getD (lib.ListN.replicate n x) i x ≡ x
-replicate-at n i x = elim (native.Mathlib.Decide.decLt i n) [
-  | yes h ↦ getD-replicate n i x x h
-  | no h ↦ lib.ListN.List·getD-eq-default (lib.ListN.replicate n x) x {n = i} (rw (length-replicate n x) (omega arith))
-]
-
 module _ (slots delay : ℕ) where
   pub fresh-row : (row : ℕ) → rowAt (fresh slots delay) row ≡ freeRow
   unfolding fresh

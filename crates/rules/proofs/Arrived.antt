@@ -20,11 +20,12 @@ use Rattle.rules.specs.Sound.{sound}
 use Rattle.rules.specs.Refusals.{tickRefusal, lookRefusal}
 use Rattle.rules.specs.Calls.{unless, lateKilled, ticked, looked, lookedAt}
 use Rattle.rules.specs.Run.{Call, tick, look, outcome}
-use Rattle.rules.proofs.Kept.{kept-sound}
 use Rattle.rules.proofs.SoundFacts.{Sound, facts}
-use Rattle.rules.proofs.CallCases.{Asks, isServed, named}
-use Rattle.rules.proofs.Granting.{grant-ready}
 use Rattle.rules.proofs.TickLaws.{later, ticked-clock, ticked-idle}
+use Rattle.rules.proofs.RefusalFacts.{look-taken}
+use Rattle.rules.proofs.Kept.{kept-sound}
+use Rattle.rules.proofs.CallCases.{Asks, isServed}
+use Rattle.rules.proofs.Granting.{grant-ready}
 use Rattle.rules.proofs.WaitFetch.{granted-alone}
 
 -- every holding of the row has arrived
@@ -36,7 +37,7 @@ idle-arrived s z row b e = (rw e at (z .row row b)) .arrived
 
 -- a look answers idle only where every holding of the row has arrived
 pub look-idle : (s : State) → sound s ≡ true → (level number : ℕ) → outcome s (look level number) .answer ≡ RowIdle → AllArrived s (rowOf level number)
-unfolding outcome lookedAt lookRefusal
+unfolding outcome lookedAt
 look-idle s z level number e = go (lookRefusal level number) refl e
   where
     idle : (x : Condition) → looked x ≡ RowIdle → x ≡ Idle
@@ -46,11 +47,8 @@ look-idle s z level number e = go (lookRefusal level number) refl e
     idle (Waiting page mode) k = cc
     idle (Killed cause) k = cc
 
-    row-is : lookRefusal level number ≡ 0 → rowOf level number < 32
-    row-is q = let n = named level number 0 q in omega (arith, n .0, n .1)
-
     go : (n : ℕ) → lookRefusal level number ≡ n → unless n s (record { state = s; answer = looked (rowAt s (rowOf level number) .condition) }) .answer ≡ RowIdle → AllArrived s (rowOf level number)
-    go zero q k = idle-arrived s (facts s z) (rowOf level number) (row-is q) (idle (rowAt s (rowOf level number) .condition) k)
+    go zero q k = idle-arrived s (facts s z) (rowOf level number) (look-taken level number q .row-is) (idle (rowAt s (rowOf level number) .condition) k)
     go (suc n) q k = true-false (cc)
 
 -- the row holds the slot of the page with the pin asked for or a stronger one, and holding and page have arrived

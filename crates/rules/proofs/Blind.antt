@@ -19,11 +19,11 @@ use Rattle.rules.specs.Run.{Call, start, begin, request, retry, unpin, e
 use Rattle.rules.specs.Secrecy.{isKept, keptCalls, keptAnswers, startsRefused, deliveries, isQuestion}
 use Rattle.rules.proofs.Alike.{Alike}
 use Rattle.rules.proofs.AlikeLaws.{alike-refl, alike-sym, alike-trans}
+use Rattle.rules.proofs.SameStep.{same-step}
 use Rattle.rules.proofs.Hidden.{hidden, start-still, looked-still, viewed-still, counted-still}
+use Rattle.rules.proofs.BlindRuns.{Blinding, two-runs}
 use Rattle.rules.proofs.KeptFresh.{fresh-sound}
 use Rattle.rules.proofs.Kept.{kept-sound}
-use Rattle.rules.proofs.SameStep.{same-step}
-use Rattle.rules.proofs.BlindRuns.{Blinding, two-runs}
 
 -- a call that is not kept for clearance 3 is refused: it leaves the state
 unkept-still : (s : State) (c : Call) → isKept 3 c ≡ false → startsRefused (c ∷ []) ≡ true → outcome s c .state ≡ s

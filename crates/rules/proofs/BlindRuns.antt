@@ -11,7 +11,7 @@ use Rattle.model.specs.declared.Answer.{Answer}
 use Rattle.model.specs.declared.State.{State}
 use Rattle.model.specs.Parties.{rowOf, levelOf}
 use Rattle.model.specs.State.{rowAt}
-use Rattle.rules.specs.Answers.{word, Told, told}
+use Rattle.rules.specs.Answers.{Told, told}
 use Rattle.rules.specs.Refusals.{startRefusal}
 use Rattle.rules.specs.Run.{Call, start, begin, request, retry, unpin, end, tick, look, view, count, outcome, after}
 use Rattle.rules.specs.Secrecy.{isKept, keptCalls, keptAnswers, startsRefused, isPending, isIdle, readyFor, isDelivery, deliveries, isQuestion}

@@ -16,16 +16,16 @@ use Rattle.model.specs.declared.Content.the-variants.{Filled}
 use Rattle.model.specs.declared.Holding.{Holding}
 use Rattle.model.specs.declared.Mode.{Mode}
 use Rattle.model.specs.declared.Outcome.{Outcome}
-use Rattle.model.specs.declared.Pin.{Pin}
-use Rattle.model.specs.declared.Pin.the-variants.{Absent, Unpinned, Read, Write}
 use Rattle.model.specs.declared.Slot.{Slot}
 use Rattle.model.specs.declared.State.{State}
 use Rattle.model.specs.Parties.{levelOf}
 use Rattle.model.specs.State.{freeRow, slotAt, holdingAt, putRow}
-use Rattle.model.specs.Words.{hasPage, dirtyIn, isPin, isWrite, pins, slotOf}
+use Rattle.model.specs.Words.{hasPage, dirtyIn, isWrite, pins, slotOf}
 use Rattle.model.specs.Changes.{released, killed, cleared}
 use Rattle.model.proofs.StateLaws.{Sized, slot-put}
 use Rattle.model.proofs.ChangeLaws.{released-holding, released-slot, killed-slot, killed-holding, sized-killed, cleared-holding}
+use Rattle.model.proofs.ContentLaws.{page-has}
+use Rattle.model.proofs.PinLaws.{not-written}
 use Rattle.model.proofs.BookLaws.{Booked, booked-same, booked-trans, booked-dropped}
 use Rattle.rules.specs.Answers.{pageBack, backTold}
 use Rattle.rules.specs.Choice.{chosen}
@@ -33,27 +33,19 @@ use Rattle.rules.specs.Calls.{unpinnedAt, waiting, granted, pinnersKille
 use Rattle.rules.specs.Run.{Call}
 use Rattle.rules.specs.Secrecy.{startsRefused}
 use Rattle.rules.proofs.SoundFacts.{Sound}
-use Rattle.rules.proofs.PageLaws.{page-has}
 use Rattle.rules.proofs.GrantLaws.{granted-clock}
-use Rattle.rules.proofs.GrantBooks.{granted-booked, unpinned-booked}
-use Rattle.rules.proofs.Granting.{Ground, killed-ground, filled-ground}
 use Rattle.rules.proofs.TickLaws.{later, ticked-slot, ticked-holding, ticked-clock}
+use Rattle.rules.proofs.ServeCases.{Serving, waits, waits-g, joins, fills, serving}
 use Rattle.rules.proofs.KeptChoice.{chosen-free}
 use Rattle.rules.proofs.CallCases.{Effect, stays, starts, begins, unpins, ends, ticks, serves}
-use Rattle.rules.proofs.ServeCases.{Serving, waits, waits-g, joins, fills, serving}
+use Rattle.rules.proofs.GrantBooks.{granted-booked, unpinned-booked}
+use Rattle.rules.proofs.Granting.{Ground, killed-ground, filled-ground}
 
 -- the writes to a slot's page by the clock after the call: booked there, or booked in a state u in which no write pin is left, and reported if the page is dirty in u
 pub data Writes (s : State) (o : Outcome) (page slot : ℕ) : Type 0 where
   stay : (k : ℕ) → o .state .clock ≡ k → Booked k page s (o .state) slot → Writes s o page slot
   reported : (k : ℕ) → o .state .clock ≡ k → (u : State) → Booked k page s u slot → ((q : ℕ) → q < 32 → isWrite (holdingAt u slot q .pin) ≡ false)
       → (hasPage page (slotAt u slot .content) ≡ true → dirtyIn (slotAt u slot .content) ≡ true → backTold (o .answer) ≡ page + 1) → Writes s o page slot
-
--- rows that do not pin do not write
-unpinned-unwritten : (p : Pin) → isPin p ≡ false → isWrite p ≡ false
-unpinned-unwritten Absent e = refl
-unpinned-unwritten Unpinned e = refl
-unpinned-unwritten Read e = refl
-unpinned-unwritten Write e = e
 
 -- a dirty page is reported for write-back
 back-reported : (page : ℕ) (x : Slot) → hasPage page (x .content) ≡ true → dirtyIn (x .content) ≡ true → pageBack (writeBack x) ≡ page + 1
@@ -128,7 +120,7 @@ module _ (s : State) (z : Sound s) (page slot : ℕ) (b : slot < 64) where
       none q m w true x = ap (λ (h : Holding). isWrite (h .pin)) (killed-holding (pins s i) s (z .sized) Taken slot q m) ∙ rw x
       none q m w false x =
           ap (λ (h : Holding). isWrite (h .pin)) (killed-holding (pins s i) s (z .sized) Taken slot q m)
-          ∙ rw (x, w) (unpinned-unwritten (holdingAt s i q .pin) x)
+          ∙ rw (x, w) (not-written (holdingAt s i q .pin) x)
 
   served-writes : (row p : ℕ) (mode : Mode) → row < 32 → (o : Outcome) → Serving s row p mode o → Writes s o page slot
   unfolding waiting

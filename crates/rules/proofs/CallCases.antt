@@ -1,12 +1,11 @@
--- What an accepted call does, one case for each kind of change; which calls ask for a page; how a request or retry is served.
+-- What a call does, one case for each kind of change; which calls ask for a page.
 use mathlib.Core.Path.{_≡_, refl, sym}
 use mathlib.Core.Bool.{Bool, true, false, cond}
 use mathlib.Core.List.{[], _∷_}
 use mathlib.Core.Logic.{_⊎_, inl, inr}
-use Prim.Native.Nat.{ℕ, zero, suc, _+_, _<_, _≤_}
+use Prim.Native.Nat.{ℕ, suc, _+_, _<_, _≤_}
 use native.Mathlib.Omega.{arith}
-use borrow.Author.Tests.{ltb-false}
-use lib.Dec.{ltb, eqb}
+use lib.Dec.{eqb}
 use Rattle.seq.specs.Below.{atFound}
 use Rattle.seq.specs.declared.Found.{Found}
 use Rattle.seq.specs.declared.Found.the-variants.{At, Nowhere}
@@ -73,7 +72,7 @@ use Rattle.rules.specs.Run.{Call, start, begin, request, retry, unpin, e
 use Rattle.rules.specs.Secrecy.{startsRefused}
 use Rattle.rules.proofs.SoundFacts.{Sound}
 use Rattle.rules.proofs.PageLaws.{found-slot}
-use Rattle.rules.proofs.SameRefusals.{unpin-passed}
+use Rattle.rules.proofs.RefusalFacts.{unless-is, begin-taken, request-taken, retry-taken, unpin-taken, end-taken}
 
 -- the call is a request, or a retry of the stored request, of the row for the page and mode
 pub record Asks (s : State) (c : Call) (row page : ℕ) (mode : Mode) : Type 0 where
@@ -118,17 +117,7 @@ pub data Effect (s : State) (c : Call) (o : Outcome) : Type 0 where
 
 -- a refused call
 by-refusal : (s : State) (c : Call) (n : ℕ) (o : Outcome) → (n ≡ 0 → Effect s c o) → Effect s c (unless n s o)
-by-refusal s c zero o f = f refl
-by-refusal s c (suc n) o f = stays (Refused (suc n)) refl refl
-
--- the level and number that an accepted call names
-pub named : (level number rest : ℕ) → cond (ltb 3 level) 4 (cond (ltb 7 number) 5 rest) ≡ 0 → (level ≤ 3) × (number ≤ 7)
-named level number rest e = go (ltb 3 level) (ltb 7 number) refl refl e
-  where
-    go : (a b : Bool) → ltb 3 level ≡ a → ltb 7 number ≡ b → cond a 4 (cond b 5 rest) ≡ 0 → (level ≤ 3) × (number ≤ 7)
-    go true b p q k = absurd (omega arith)
-    go false true p q k = absurd (omega arith)
-    go false false p q k = (ltb-false 3 level p, ltb-false 7 number q)
+by-refusal s c n o f = unless-is (Effect s c) n s o (λ k. stays (Refused (suc k)) refl refl) f
 
 -- questions are answered by no served answer
 looked-other : (x : Condition) → isServed (looked x) ≡ false
@@ -169,24 +158,24 @@ module _ (s : State) (z : Sound s) where
   retry-effect level number a b (Killed cause) e = stays (Refused 10) refl refl
 
   pub effect : (c : Call) → Effect s c (outcome s c)
-  unfolding outcome started begun requested retried unpinned ended ticked lookedAt viewed counted startsRefused beginRefusal requestRefusal retryRefusal unpinRefusal endRefusal
+  unfolding outcome started begun requested retried unpinned ended ticked lookedAt viewed counted startsRefused
   effect (start slots delay) = by-refusal s (start slots delay) (startRefusal slots delay) _ (λ e. starts slots delay (rw e) refl)
   effect (begin level number deadline) = by-refusal s (begin level number deadline) (beginRefusal s level number deadline) _ (λ e.
-      let n = named level number _ e in
-      begins (rowOf level number) (record { condition = Idle; deadline = deadline }) (omega (arith, n .0, n .1)) refl)
+      let n = begin-taken s level number deadline e .names in
+      begins (rowOf level number) (record { condition = Idle; deadline = deadline }) (n .row-is) refl)
   effect (request level number page mode) = by-refusal s (request level number page mode) (requestRefusal s level number page mode) _ (λ e.
-      let n = named level number _ e in
-      serves (rowOf level number) page (modeOf mode) (omega (arith, n .0, n .1))
-      (record { level = level; number = number; level-most = n .0; number-most = n .1; row-is = refl; call = inl (mode, refl, refl) }) refl)
+      let n = request-taken s level number page mode e .names in
+      serves (rowOf level number) page (modeOf mode) (n .row-is)
+      (record { level = level; number = number; level-most = n .level-is; number-most = n .number-is; row-is = refl; call = inl (mode, refl, refl) }) refl)
   effect (retry level number) = by-refusal s (retry level number) (retryRefusal s level number) _ (λ e.
-      let n = named level number _ e in
-      retry-effect level number (n .0) (n .1) (rowAt s (rowOf level number) .condition) refl)
+      let n = retry-taken s level number e in
+      retry-effect level number (n .level-is) (n .number-is) (rowAt s (rowOf level number) .condition) refl)
   effect (unpin level number page) = by-refusal s (unpin level number page) (unpinRefusal s level number page) _ (λ e.
-      let n = named level number _ e in
-      unpin-effect (unpin level number page) (rowOf level number) page (omega (arith, n .0, n .1)) (unpin-passed s level number page e .1))
+      let n = unpin-taken s level number page e in
+      unpin-effect (unpin level number page) (rowOf level number) page (n .names .row-is) (n .pinned))
   effect (end level number) = by-refusal s (end level number) (endRefusal s level number) _ (λ e.
-      let n = named level number _ e in
-      ends (rowOf level number) (omega (arith, n .0, n .1)) refl)
+      let n = end-taken s level number e in
+      ends (rowOf level number) (n .row-is) refl)
   effect tick = by-refusal s tick (tickRefusal s) _ (λ e. ticks refl)
   effect (look level number) = by-refusal s (look level number) (lookRefusal level number) _ (λ e. stays (looked (rowAt s (rowOf level number) .condition)) (looked-other (rowAt s (rowOf level number) .condition)) refl)
   effect (view level page) = by-refusal s (view level page) (viewRefusal level page) _ (λ e. stays (viewedIn (slotOf s page) s level) (viewed-other s level (slotOf s page)) refl)

@@ -1,59 +1,30 @@
 -- Where a slot is open to a clearance at or above the requester's level, the chosen slot is one that is open to it.
-use mathlib.Core.Path.{_≡_, refl, sym, _∙_, ap}
+use mathlib.Core.Path.{_≡_, refl, sym, _∙_}
 use mathlib.Core.Bool.{Bool, true, false, _&&_, not}
 use Prim.Native.Nat.{ℕ, _<_, _≤_}
 use native.Mathlib.Omega.{arith}
 use native.Mathlib.Decide.{decLt}
-use borrow.Author.Tests.{eqb-true, eq-eqb, not-true, not-false}
+use borrow.Author.Tests.{eqb-true}
 use lib.Dec.{eqb}
 use Rattle.seq.specs.Below.{anyBelow}
 use Rattle.seq.specs.declared.Found.{Found}
 use Rattle.seq.specs.declared.Found.the-variants.{At, Nowhere}
-use Rattle.seq.proofs.Tests.{true-false, not-true-false, and-true, both-true, parts}
-use Rattle.seq.proofs.BelowLaws.{any-hit, any-none}
-use Rattle.seq.proofs.PickLaws.{pick-is, pick-none}
-use Rattle.seq.proofs.PairLaws.{most-bound, most-at}
+use Rattle.seq.proofs.Tests.{true-false, not-true-false, parts}
+use Rattle.seq.proofs.BelowLaws.{any-hit}
+use Rattle.seq.proofs.PairLaws.{most-bound}
 use Rattle.model.specs.declared.State.{State}
 use Rattle.model.specs.Parties.{levelOf}
-use Rattle.model.specs.State.{slotAt}
-use Rattle.model.specs.Words.{isFilled, holds, seen, dormant}
-use Rattle.rules.specs.Choice.{orElse, stepA, stepB, beforeDormant, holderLevel, heldAbove, highestLevel, pinnedAt, inC, inD, inE, inF, beforeHeld, stepHeld, chosen}
-use Rattle.rules.proofs.SoundFacts.{Sound}
-use Rattle.rules.proofs.IntoSeen.{not-seen, none-seen}
+use Rattle.model.specs.Words.{holds, seen}
+use Rattle.model.proofs.SeenLaws.{not-seen, none-seen, seen-lower, dormant-unheld}
+use Rattle.rules.specs.Choice.{orElse, stepA, stepB, holderLevel, heldAbove, highestLevel, pinnedAt, inC, inD, inE, inF, stepHeld, chosen}
+use Rattle.rules.proofs.SoundFacts.{Sound, empty-unheld}
+use Rattle.rules.proofs.ChoiceSteps.{step-a, no-step-a, step-b, no-step-b, step-held, c-or-d}
 use Rattle.rules.proofs.ChoiceRank.{best-is, best-some, best-level, holder-level}
 
 -- what one search or else another found has a property, if what the first found has, and the second where the first found nothing
 or-found : (P : ℕ → Type 0) (f g : Found) → ((i : ℕ) → f ≡ At i → P i) → (f ≡ Nowhere → (i : ℕ) × (g ≡ At i) × P i) → (i : ℕ) × (orElse f g ≡ At i) × P i
 or-found P Nowhere g a b = b refl
 or-found P (At i) g a b = (i, refl, a i refl)
-
--- what a level does not see, no lower one sees
-pub seen-lower : (s : State) (L M i : ℕ) → M ≤ L → seen s L i ≡ false → seen s M i ≡ false
-seen-lower s L M i m e = none-seen s M i (λ r b l. not-seen s L i r e b (omega arith))
-
--- what the steps' tests say of a slot
-pub step-a : (s : State) (i : ℕ) → stepA s ≡ At i → (i < s .size) × (isFilled (slotAt s i .content) ≡ false)
-unfolding stepA
-step-a s i e =
-    let x = pick-is (λ slot. not (isFilled (slotAt s slot .content))) (λ j k. false) (s .size) i e in
-    (x .0, not-true (isFilled (slotAt s i .content)) (x .1))
-
-pub no-step-a : (s : State) (i : ℕ) → stepA s ≡ Nowhere → i < s .size → isFilled (slotAt s i .content) ≡ true
-unfolding stepA
-no-step-a s i e h = not-false (isFilled (slotAt s i .content)) (pick-none (λ slot. not (isFilled (slotAt s slot .content))) (λ j k. false) (s .size) i e h)
-
-pub step-b : (s : State) (i : ℕ) → stepB s ≡ At i → (i < s .size) × (anyBelow 32 (holds s i) ≡ false)
-unfolding stepB dormant
-step-b s i e =
-    let x = pick-is (dormant s) (beforeDormant s) (s .size) i e in
-    let y = and-true (isFilled (slotAt s i .content)) (not (anyBelow 32 (holds s i))) (x .1) in
-    (x .0, not-true (anyBelow 32 (holds s i)) (y .1))
-
-pub no-step-b : (s : State) (i : ℕ) → stepB s ≡ Nowhere → i < s .size → isFilled (slotAt s i .content) ≡ true → anyBelow 32 (holds s i) ≡ true
-unfolding stepB dormant
-no-step-b s i e h f =
-    let x = pick-none (dormant s) (beforeDormant s) (s .size) i e h in
-    not-false (anyBelow 32 (holds s i)) (rw f at x)
 
 module _ (s : State) (z : Sound s) (L me : ℕ) (low : levelOf me ≤ L) where
   OpenSlot : ℕ → Type 0
@@ -63,13 +34,13 @@ module _ (s : State) (z : Sound s) (L me : ℕ) (low : levelOf me ≤ L) where
   unfolding OpenSlot
   a-open i e =
       let x = step-a s i e in
-      (x .0, none-seen s L i (λ r b _. not-true-false (holds s i r) (λ h. true-false (sym (z .held i r (omega (arith, x .0, z .size-most)) b h .filled) ∙ x .1))))
+      (x .0, none-seen s L i (λ r b _. empty-unheld s z i r (omega (arith, x .0, z .size-most)) b (x .1)))
 
   b-open : (i : ℕ) → stepB s ≡ At i → OpenSlot i
   unfolding OpenSlot
   b-open i e =
       let x = step-b s i e in
-      (x .0, none-seen s L i (λ r b _. any-none (holds s i) 32 r (x .1) b))
+      (x .0, none-seen s L i (λ r b _. dormant-unheld s i (x .1) r b))
 
   -- a slot whose best holder is above the clearance
   above-open : (i : ℕ) → i < s .size → L < holderLevel s i → OpenSlot i
@@ -85,9 +56,8 @@ module _ (s : State) (z : Sound s) (L me : ℕ) (low : levelOf me ≤ L) where
   )
 
   held-open : (some : ℕ → Bool) (i : ℕ) → stepHeld s some ≡ At i → (some i ≡ true → L < holderLevel s i) → OpenSlot i
-  unfolding stepHeld
   held-open some i e f =
-      let x = pick-is some (beforeHeld s) (s .size) i e in
+      let x = step-held s some i e in
       above-open i (x .0) (f (x .1))
 
   -- a slot that is open and held
@@ -125,19 +95,6 @@ module _ (s : State) (z : Sound s) (L me : ℕ) (low : levelOf me ≤ L) where
     unfolding inD
     d-open i = top-open i (pinnedAt s (highestLevel s me) i)
 
-    -- c or d finds a slot
-    c-or-d : stepHeld s (inC s me) ≡ Nowhere → stepHeld s (inD s me) ≡ Nowhere → ⊥
-    unfolding stepHeld inC inD highestLevel
-    c-or-d c d =
-        let k = most-at (s .size) (heldAbove s me) (holderLevel s) x b above in
-        let u = pick-none (inC s me) (beforeHeld s) (s .size) (k .0) c (k .1) in
-        let v = pick-none (inD s me) (beforeHeld s) (s .size) (k .0) d (k .1) in
-        go (k .0) (k .2) (eq-eqb (holderLevel s (k .0)) (highestLevel s me) (k .3)) (pinnedAt s (highestLevel s me) (k .0)) refl u v
-      where
-        go : (i : ℕ) → heldAbove s me i ≡ true → eqb (holderLevel s i) (highestLevel s me) ≡ true → (p : Bool) → pinnedAt s (highestLevel s me) i ≡ p → inC s me i ≡ false → inD s me i ≡ false → ⊥
-        go i a q true w u v = true-false (sym (both-true (both-true a q) w) ∙ v)
-        go i a q false w u v = true-false (sym (both-true (both-true a q) (ap not w)) ∙ u)
-
   pub chosen-open : (x : ℕ) → x < s .size → seen s L x ≡ false → (i : ℕ) × (chosen s me ≡ At i) × ((i < s .size) × (seen s L i ≡ false))
   unfolding chosen OpenSlot
   chosen-open x b o =
@@ -147,4 +104,4 @@ module _ (s : State) (z : Sound s) (L me : ℕ) (low : levelOf me ≤ L) where
       let h = no-step-b s x eb b (no-step-a s x ea b) in
       or-found OpenSlot (stepHeld s (inC s me)) (orElse (stepHeld s (inD s me)) (orElse (stepHeld s (inE s me)) (stepHeld s (inF s me)))) (λ i e. held-open (inC s me) i e (c-open x b o h i))
       (λ ec. or-found OpenSlot (stepHeld s (inD s me)) (orElse (stepHeld s (inE s me)) (stepHeld s (inF s me))) (λ i e. held-open (inD s me) i e (d-open x b o h i))
-      (λ ed. absurd (c-or-d x b o h ec ed)))))
+      (λ ed. absurd (c-or-d s me x b (above x b o h) ec ed)))))

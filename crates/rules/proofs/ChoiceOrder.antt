@@ -9,17 +9,16 @@ use lib.Dec.{ltb}
 use Rattle.seq.specs.Below.{anyBelow}
 use Rattle.seq.specs.Order.{lexLess}
 use Rattle.seq.specs.declared.Found.the-variants.{At}
-use Rattle.seq.proofs.Tests.{true-false}
-use Rattle.seq.proofs.BoolLaws.{not-false-true}
+use Rattle.seq.proofs.Tests.{true-false, not-false-true}
 use Rattle.seq.proofs.BelowLaws.{any-hit}
 use Rattle.seq.proofs.OrderLaws.{lex-strict, lex-trans, lex-total, ltb-strict, ltb-trans, ltb-total}
 use Rattle.seq.proofs.PairLaws.{Ordered}
 use Rattle.model.specs.declared.State.{State}
 use Rattle.model.specs.State.{slotAt}
 use Rattle.model.specs.Words.{pageIn, holds, outranks, bestHolder, latestTouch}
+use Rattle.model.proofs.PriorityLaws.{outranks-strict, outranks-trans, outranks-total}
 use Rattle.rules.specs.Choice.{holderLevel, worse, beforeHeld}
 use Rattle.rules.proofs.SoundFacts.{Sound}
-use Rattle.model.proofs.PriorityLaws.{outranks-strict, outranks-trans, outranks-total}
 use Rattle.rules.proofs.ChoiceRank.{best-some}
 
 module _ (s : State) where

@@ -6,46 +6,32 @@ use native.Mathlib.Omega.{arith}
 use native.Mathlib.Decide.{decLt}
 use borrow.Author.Tests.{leb-true, eqb-true}
 use lib.Dec.{leb, eqb}
-use Rattle.seq.specs.Below.{anyBelow, allBelow}
+use Rattle.seq.specs.Below.{allBelow}
 use Rattle.seq.specs.declared.Found.the-variants.{At}
-use Rattle.seq.proofs.Tests.{and-true}
-use Rattle.seq.proofs.BoolLaws.{and-when}
-use Rattle.seq.proofs.BelowLaws.{hit-any, any-same, all-same}
+use Rattle.seq.proofs.Tests.{and-true, and-when}
+use Rattle.seq.proofs.BelowLaws.{any-same, all-same}
 use Rattle.seq.proofs.PairLaws.{most-same}
 use Rattle.model.specs.declared.Holding.{Holding}
 use Rattle.model.specs.declared.State.{State}
 use Rattle.model.specs.Parties.{levelOf}
 use Rattle.model.specs.State.{holdingAt}
 use Rattle.model.specs.Words.{isHeld, isPin, holds, pins, seenHolder, seen, outranks, bestHolder, latestTouch}
+use Rattle.model.proofs.PriorityLaws.{outranks-level}
+use Rattle.model.proofs.SeenLaws.{seen-by, seen-held}
 use Rattle.rules.specs.Choice.{holderLevel, heldAbove, pinnedAt, heldAtOwnLevel, seenPin, worse, beforeHeld}
 use Rattle.rules.proofs.Alike.{Alike}
-use Rattle.rules.proofs.IntoSeen.{SamePage, seen-by}
-use Rattle.model.proofs.PriorityLaws.{outranks-level}
-use Rattle.rules.proofs.ChoiceRank.{Best, rank-same, best-is, is-best, best-some, best-level, holder-level}
+use Rattle.rules.proofs.SamePages.{same-rank, same-holder, same-seen}
+use Rattle.rules.proofs.SameSlots.{SamePage}
+use Rattle.rules.proofs.ChoiceRank.{Best, best-is, is-best, best-some, best-level, holder-level}
 use Rattle.rules.proofs.ChoiceOrder.{touchOf, nextBefore, before-held}
 
--- a slot that a level sees is held
-pub seen-held : (s : State) (L i : ℕ) → seen s L i ≡ true → anyBelow 32 (holds s i) ≡ true
-seen-held s L i e = let x = seen-by s L i e in hit-any (holds s i) 32 (x .0) (x .1) (x .3)
-
 module _ (L : ℕ) (s t : State) (a : Alike L s t) where
-  alike-rank : (r q : ℕ) → r < 32 → q < 32 → levelOf r ≤ L → levelOf q ≤ L → outranks s r q ≡ outranks t r q
-  alike-rank r q b c l m = rank-same s t r q (a .row r b l) (a .row q c m)
-
   module _ (i j : ℕ) (w : SamePage L s t i j) where
     pub page-holds : (r : ℕ) → r < 32 → levelOf r ≤ L → holds s i r ≡ holds t j r
     page-holds r b l = ap (λ (x : Holding). isHeld (x .pin)) (w .holding r b l)
 
     pub page-pins : (r : ℕ) → r < 32 → levelOf r ≤ L → pins s i r ≡ pins t j r
     page-pins r b l = ap (λ (x : Holding). isPin (x .pin)) (w .holding r b l)
-
-    page-holder : (M : ℕ) → M ≤ L → (r : ℕ) → r < 32 → seenHolder s M i r ≡ seenHolder t M j r
-    unfolding seenHolder
-    page-holder M m r b = and-when (leb (levelOf r) M) (holds s i r) (holds t j r) (λ e. page-holds r b (let l = leb-true (levelOf r) M e in omega arith))
-
-    pub page-seen : (M : ℕ) → M ≤ L → seen s M i ≡ seen t M j
-    unfolding seen
-    page-seen M m = any-same (seenHolder s M i) (seenHolder t M j) 32 (page-holder M m)
 
     pub page-pinned : (M : ℕ) → M ≤ L → pinnedAt s M i ≡ pinnedAt t M j
     unfolding pinnedAt
@@ -69,10 +55,10 @@ module _ (L : ℕ) (s t : State) (a : Alike L s t) where
         let p : ℕ → Bool = λ o. not (seenHolder s (levelOf me) i o) || (eqb (levelOf o) (levelOf me) && not (outranks s o me)) in
         let q : ℕ → Bool = λ o. not (seenHolder t (levelOf me) j o) || (eqb (levelOf o) (levelOf me) && not (outranks t o me)) in
         let e : allBelow 32 p ≡ allBelow 32 q = all-same p q 32 (λ o c.
-        ap (λ (x : Bool). not x || (eqb (levelOf o) (levelOf me) && not (outranks s o me))) (page-holder (levelOf me) l o c)
+        ap (λ (x : Bool). not x || (eqb (levelOf o) (levelOf me) && not (outranks s o me))) (same-holder L s t a i j (w .holding) (levelOf me) l o c)
         ∙ ap (λ (x : Bool). not (seenHolder t (levelOf me) j o) || x)
-        (and-when (eqb (levelOf o) (levelOf me)) (not (outranks s o me)) (not (outranks t o me)) (λ v. ap not (alike-rank o me c b (let u = eqb-true (levelOf o) (levelOf me) v in omega arith) l)))) in
-        ap (λ (x : Bool). x && allBelow 32 p) (page-seen (levelOf me) l) ∙ ap (λ (x : Bool). seen t (levelOf me) j && x) e
+        (and-when (eqb (levelOf o) (levelOf me)) (not (outranks s o me)) (not (outranks t o me)) (λ v. ap not (same-rank L s t a o me c b (let u = eqb-true (levelOf o) (levelOf me) v in omega arith) l)))) in
+        ap (λ (x : Bool). x && allBelow 32 p) (same-seen L s t a i j (w .holding) (levelOf me) l) ∙ ap (λ (x : Bool). seen t (levelOf me) j && x) e
 
     -- the best holder is of a level up to L
     module _ (v : seen s L i ≡ true) where
@@ -92,7 +78,7 @@ module _ (L : ℕ) (s t : State) (a : Alike L s t) where
               | yes u ↦ outranks-level t b r (omega arith)
               | no u ↦
                   let lr : levelOf r ≤ L = omega arith in
-                  sym (alike-rank b r (m .below) c l lr) ∙ m .first r c (page-holds r c lr ∙ h) ne
+                  sym (same-rank L s t a b r (m .below) c l lr) ∙ m .first r c (page-holds r c lr ∙ h) ne
             ];
           }
 
@@ -107,8 +93,8 @@ module _ (L : ℕ) (s t : State) (a : Alike L s t) where
       unfolding heldAbove
       page-above me l =
           let p = seen-held s L i v in
-          let q = seen-held t L j (sym (page-seen L (omega arith)) ∙ v) in
-          rw (p, q, page-seen (levelOf me) l)
+          let q = seen-held t L j (sym (same-seen L s t a i j (w .holding) L (omega arith)) ∙ v) in
+          rw (p, q, same-seen L s t a i j (w .holding) (levelOf me) l)
 
   -- the order of two slots
   pub page-before : (i j k l : ℕ) → SamePage L s t i j → SamePage L s t k l → seen s L i ≡ true → seen s L k ≡ true → beforeHeld s i k ≡ beforeHeld t j l
@@ -120,5 +106,5 @@ module _ (L : ℕ) (s t : State) (a : Alike L s t) where
       let n : nextBefore s i k ≡ nextBefore t j l = rw (p, q, w .page, x .page) in
       before-held s i k (b .0) (c .0) (b .1) (c .1)
       ∙ ap (λ (y : Bool). worse s (At (b .0)) (At (c .0)) y) n
-      ∙ ap (λ (y : Bool). cond (eqb (b .0) (c .0)) (nextBefore t j l) y) (alike-rank (c .0) (b .0) (c .3) (b .3) (c .4) (b .4))
+      ∙ ap (λ (y : Bool). cond (eqb (b .0) (c .0)) (nextBefore t j l) y) (same-rank L s t a (c .0) (b .0) (c .3) (b .3) (c .4) (b .4))
       ∙ sym (before-held t j l (b .0) (c .0) (b .2) (c .2))

@@ -1,26 +1,17 @@
 -- The best holder of a slot.
-use mathlib.Core.Path.{_≡_, sym, _∙_, ap}
-use mathlib.Core.Bool.{true, false}
+use mathlib.Core.Path.{_≡_, sym, _∙_}
+use mathlib.Core.Bool.{true}
 use Prim.Native.Nat.{ℕ, _<_, _≤_}
 use native.Mathlib.Omega.{arith}
 use native.Mathlib.Decide.{ℕ-discrete, decLt}
 use Rattle.seq.specs.declared.Found.the-variants.{At}
-use Rattle.seq.proofs.Tests.{true-false}
-use Rattle.seq.proofs.BoolLaws.{not-false-true}
+use Rattle.seq.proofs.Tests.{true-false, not-false-true}
 use Rattle.seq.proofs.PickLaws.{pick-is, pick-some, pick-first, first-pick}
-use Rattle.model.specs.declared.Row.{Row}
 use Rattle.model.specs.declared.State.{State}
-use Rattle.model.specs.Parties.{levelOf, better}
-use Rattle.model.specs.State.{rowAt}
-use Rattle.model.proofs.PriorityLaws.{outranks-strict, outranks-trans, outranks-total, outranks-level}
+use Rattle.model.specs.Parties.{levelOf}
 use Rattle.model.specs.Words.{holds, outranks, bestHolder}
+use Rattle.model.proofs.PriorityLaws.{outranks-strict, outranks-trans, outranks-total, outranks-level}
 use Rattle.rules.specs.Choice.{holderLevel}
-
-pub rank-same : (s t : State) (r q : ℕ) → rowAt s r ≡ rowAt t r → rowAt s q ≡ rowAt t q → outranks s r q ≡ outranks t r q
-unfolding outranks
-rank-same s t r q e f =
-    ap (λ (x : Row). better r (x .deadline) q (rowAt s q .deadline)) e
-    ∙ ap (λ (x : Row). better r (rowAt t r .deadline) q (x .deadline)) f
 
 -- the row holds the slot and outranks its other holders
 pub record Best (s : State) (i b : ℕ) : Type 0 where

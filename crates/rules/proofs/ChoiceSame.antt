@@ -13,12 +13,14 @@ use Rattle.model.specs.declared.State.{State}
 use Rattle.model.specs.Parties.{levelOf}
 use Rattle.model.specs.State.{slotAt}
 use Rattle.model.specs.Words.{isFilled, holds, seen, dormant}
+use Rattle.model.proofs.SeenLaws.{seen-by, seen-held}
 use Rattle.rules.specs.Choice.{orElse, stepA, stepB, beforeDormant, holderLevel, heldAbove, highestLevel, pinnedAt, inC, inD, heldAtOwnLevel, inE, inF, beforeHeld, stepHeld, chosen}
 use Rattle.rules.proofs.SoundFacts.{Sound}
 use Rattle.rules.proofs.Alike.{Alike}
-use Rattle.rules.proofs.IntoSeen.{SamePage, same-page-back, same-page-slot, alike-back, seen-by}
+use Rattle.rules.proofs.AlikeLaws.{alike-sym}
+use Rattle.rules.proofs.SameSlots.{SamePage, same-page-back, same-page-slot}
 use Rattle.rules.proofs.ChoiceOrder.{held-order}
-use Rattle.rules.proofs.ChoicePages.{seen-held, page-pins, page-pinned, page-seen-pin, page-own, page-level, page-above, page-before}
+use Rattle.rules.proofs.ChoicePages.{page-pins, page-pinned, page-seen-pin, page-own, page-level, page-above, page-before}
 
 or-paired : (R : ℕ → ℕ → Type 0) (f g f′ g′ : Found) → Paired R f g → Paired R f′ g′ → Paired R (orElse f f′) (orElse g g′)
 or-paired R Nowhere Nowhere f′ g′ p q = q
@@ -70,7 +72,7 @@ module _ (L : ℕ) (s t : State) (z : Sound s) (y : Sound t) (a : Alike L s t) (
         (w .0, w .1 .right, w .1);
     back = λ j b.
         let x = seen-by t L j (all′ j b) in
-        let w = same-page-slot L t s y z (alike-back L s t a) j (x .0) b (x .1) (x .2) (x .3) in
+        let w = same-page-slot L t s y z (alike-sym a) j (x .0) b (x .1) (x .2) (x .3) in
         (w .0, w .1 .right, same-page-back L t s j (w .0) (w .1));
   }
 

@@ -27,12 +27,12 @@ use Rattle.rules.specs.Calls.{waiting, granted, pinnersKilled, writeBack
 use Rattle.rules.specs.Run.{Call}
 use Rattle.rules.proofs.SoundFacts.{Sound}
 use Rattle.rules.proofs.GrantLaws.{granted-row}
-use Rattle.rules.proofs.GrantBooks.{granted-holds, granted-booked, unpinned-holds}
-use Rattle.rules.proofs.Granting.{Ground, killed-ground, filled-ground}
 use Rattle.rules.proofs.TickLaws.{later, ticked-row, ticked-holding}
+use Rattle.rules.proofs.ServeCases.{Serving, waits, waits-g, joins, fills, serving}
 use Rattle.rules.proofs.KeptChoice.{chosen-free}
 use Rattle.rules.proofs.CallCases.{Asks, Effect, stays, starts, begins, unpins, ends, ticks, serves}
-use Rattle.rules.proofs.ServeCases.{Serving, waits, waits-g, joins, fills, serving}
+use Rattle.rules.proofs.GrantBooks.{granted-holds, granted-booked, unpinned-holds}
+use Rattle.rules.proofs.Granting.{Ground, killed-ground, filled-ground}
 
 -- the call gave the slot a new page, and row q had no pin there
 pub record Refilled (s : State) (c : Call) (t : State) (slot q : ℕ) : Type 0 where
@@ -47,10 +47,6 @@ pub record Refilled (s : State) (c : Call) (t : State) (slot q : ℕ) : Type 0 w
 
 abbrev pub Lost : State → Call → State → ℕ → ℕ → Type 0
 Lost s c t slot q = (isLive (rowAt t q .condition) ≡ false) ⊎ Refilled s c t slot q
-
--- a holding that stays was not dropped
-not-dropped : {P : Type 0} (h : Holding) → isHeld (h .pin) ≡ true → isHeld (h .pin) ≡ false → P
-not-dropped h a b = true-false (sym a ∙ b)
 
 -- a holding that is dropped with those of some rows is of one of them
 dropped-some : {P : Type 0} (gone : Bool) (h k : Holding) → k ≡ cond gone emptyHolding h → isHeld (h .pin) ≡ true → isHeld (k .pin) ≡ false → (gone ≡ true → P) → P

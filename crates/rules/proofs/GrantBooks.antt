@@ -8,8 +8,6 @@ use borrow.Author.Tests.{eqb-true, eq-eqb, ne-eqb}
 use lib.Dec.{leb, eqb}
 use Rattle.seq.proofs.Tests.{true-false, and-true}
 use Rattle.model.specs.declared.Back.{Back}
-use Rattle.model.specs.declared.Content.{Content}
-use Rattle.model.specs.declared.Content.the-variants.{Empty, Filled}
 use Rattle.model.specs.declared.Holding.{Holding}
 use Rattle.model.specs.declared.Mode.{Mode}
 use Rattle.model.specs.declared.Mode.the-variants as Mode
@@ -18,32 +16,25 @@ use Rattle.model.specs.declared.Pin.the-variants.{Absent, Unpinned, Read, Write
 use Rattle.model.specs.declared.Slot.{Slot}
 use Rattle.model.specs.declared.State.{State}
 use Rattle.model.specs.Parties.{levelOf}
-use Rattle.model.specs.State.{slotAt, holdingAt, putSlot}
+use Rattle.model.specs.State.{slotAt, holdingAt}
 use Rattle.model.specs.Words.{hasPage, dirtyIn, isHeld, isWrite, pinOf, stronger, holds}
-use Rattle.model.specs.Changes.{written, dirtied}
-use Rattle.model.proofs.StateLaws.{Sized, slot-put, holding-put, sized-put-slot}
-use Rattle.model.proofs.DirtyLaws.{dirtied-page}
-use Rattle.model.proofs.BookLaws.{Booked, dirtied-stays, dirtied-is}
-use Rattle.rules.specs.Calls.{heldWith, withLowest, unpinnedAt, granted}
-use Rattle.rules.proofs.GrantLaws.{grantedSlot, grantedHolding, granted-slot, granted-holding}
+use Rattle.model.specs.Changes.{written}
+use Rattle.model.proofs.StateLaws.{Sized}
+use Rattle.model.proofs.ContentLaws.{dirtied-page, dirtied-stays, dirtied-is}
+use Rattle.model.proofs.PinLaws.{write-held, stronger-is, mode-held}
+use Rattle.model.proofs.BookLaws.{Booked}
+use Rattle.rules.specs.Calls.{heldWith, unpinnedAt, granted}
+use Rattle.rules.proofs.GrantLaws.{grantedSlot, grantedHolding, granted-slot, granted-holding, lowest-page, lowest-dirty}
+use Rattle.rules.proofs.UnpinLaws.{unpinnedHolding, unpinnedSlot, unpinned-holding, unpinned-slot}
 
 -- ---- the holding that a grant puts
 
-stronger-held : (p : Pin) (mode : Mode) → isHeld (stronger p (pinOf mode)) ≡ true
-unfolding stronger
-stronger-held Absent Mode.Read = refl
-stronger-held Absent Mode.Write = refl
-stronger-held Unpinned Mode.Read = refl
-stronger-held Unpinned Mode.Write = refl
-stronger-held Read Mode.Read = refl
-stronger-held Read Mode.Write = refl
-stronger-held Write Mode.Read = refl
-stronger-held Write Mode.Write = refl
-
-put-held : (held : Bool) (own : Holding) (mode : Mode) (arrival clock : ℕ) → isHeld (heldWith held own (pinOf mode) arrival clock .pin) ≡ true
-put-held true own mode arrival clock = stronger-held (own .pin) mode
-put-held false own Mode.Read arrival clock = refl
-put-held false own Mode.Write arrival clock = refl
+put-held : (own : Holding) (mode : Mode) (arrival clock : ℕ) → isHeld (heldWith (isHeld (own .pin)) own (pinOf mode) arrival clock .pin) ≡ true
+put-held own mode arrival clock = go (isHeld (own .pin)) refl
+  where
+    go : (b : Bool) → isHeld (own .pin) ≡ b → isHeld (heldWith b own (pinOf mode) arrival clock .pin) ≡ true
+    go true e = stronger-is (λ x. isHeld x ≡ true) (own .pin) (pinOf mode) e (mode-held mode)
+    go false e = mode-held mode
 
 stronger-write : (p : Pin) (mode : Mode) → isWrite p ≡ true → isWrite (stronger p (pinOf mode)) ≡ true
 unfolding stronger
@@ -52,12 +43,6 @@ stronger-write Unpinned mode e = true-false (sym e)
 stronger-write Read mode e = true-false (sym e)
 stronger-write Write Mode.Read e = refl
 stronger-write Write Mode.Write e = refl
-
-pub write-held : (p : Pin) → isWrite p ≡ true → isHeld p ≡ true
-write-held Absent e = e
-write-held Unpinned e = refl
-write-held Read e = refl
-write-held Write e = refl
 
 put-written : (k : ℕ) (own : Holding) (mode : Mode) (arrival clock : ℕ) → written k own ≡ true → written k (heldWith (isHeld (own .pin)) own (pinOf mode) arrival clock) ≡ true
 unfolding written
@@ -72,21 +57,12 @@ put-or-old P i slot x y h f = elim (ℕ-discrete i slot) [
   | no m ↦ rw (ne-eqb i slot m) h
 ]
 
--- the lowest level changes neither the page nor the dirty mark
-lowest-page : (level page : ℕ) (c : Content) → hasPage page (withLowest level c) ≡ hasPage page c
-lowest-page level page Empty = refl
-lowest-page level page (Filled p arrival dirty lowest) = refl
-
-lowest-dirty : (level : ℕ) (c : Content) → dirtyIn (withLowest level c) ≡ dirtyIn c
-lowest-dirty level Empty = refl
-lowest-dirty level (Filled p arrival dirty lowest) = refl
-
 module _ (u : State) (z : Sized u) (row slot : ℕ) (r : row < 32) (b : slot < 64) (mode : Mode) (arrival : ℕ) (back : Back) where
   pub granted-holds : (i q : ℕ) → q < 32 → holds u i q ≡ true → holds (granted u row slot mode arrival back .state) i q ≡ true
   granted-holds i q h e = ap (λ (x : Holding). isHeld (x .pin)) (granted-holding u z row slot r b mode arrival back i q h) ∙ go (eqb i slot && eqb q row)
     where
       go : (own : Bool) → isHeld (cond own (grantedHolding u row slot mode arrival) (holdingAt u i q) .pin) ≡ true
-      go true = put-held (isHeld (holdingAt u slot row .pin)) (holdingAt u slot row) mode arrival (u .clock)
+      go true = put-held (holdingAt u slot row) mode arrival (u .clock)
       go false = e
 
   pub granted-booked : (k page i : ℕ) → Booked k page u (granted u row slot mode arrival back .state) i
@@ -107,37 +83,23 @@ module _ (u : State) (z : Sized u) (row slot : ℕ) (r : row < 32) (b : slot < 6
 -- ---- unpin
 
 module _ (s : State) (z : Sized s) (row slot : ℕ) (r : row < 32) (b : slot < 64) where
-  abbrev marked : Slot
-  marked = cond (written (s .clock) (holdingAt s slot row)) (dirtied (slotAt s slot)) (slotAt s slot)
-
-  abbrev loose : Holding
-  loose = record { pin = Unpinned; arrival = holdingAt s slot row .arrival; touch = holdingAt s slot row .touch }
-
-  unpinned-holding : (i q : ℕ) → q < 32 → holdingAt (unpinnedAt s row slot) i q ≡ cond (eqb i slot && eqb q row) loose (holdingAt s i q)
-  unfolding unpinnedAt
-  unpinned-holding i q h = holding-put (putSlot s slot marked) (sized-put-slot s z slot marked) slot row loose i q b r h
-
-  unpinned-slot : (i : ℕ) → slotAt (unpinnedAt s row slot) i ≡ cond (eqb i slot) marked (slotAt s i)
-  unfolding unpinnedAt
-  unpinned-slot i = slot-put s z slot marked i b
-
   pub unpinned-holds : (i q : ℕ) → q < 32 → holds s i q ≡ true → holds (unpinnedAt s row slot) i q ≡ true
-  unpinned-holds i q h e = ap (λ (x : Holding). isHeld (x .pin)) (unpinned-holding i q h) ∙ go (eqb i slot && eqb q row)
+  unpinned-holds i q h e = ap (λ (x : Holding). isHeld (x .pin)) (unpinned-holding s z row slot r b i q h) ∙ go (eqb i slot && eqb q row)
     where
-      go : (own : Bool) → isHeld (cond own loose (holdingAt s i q) .pin) ≡ true
+      go : (own : Bool) → isHeld (cond own (unpinnedHolding (holdingAt s slot row)) (holdingAt s i q) .pin) ≡ true
       go true = refl
       go false = e
 
   pub unpinned-booked : (page i : ℕ) → Booked (s .clock) page s (unpinnedAt s row slot) i
   unpinned-booked page i = record {
-    has-it = λ h. rw (unpinned-slot i) (put-or-old (λ x. hasPage page (x .content) ≡ true) i slot marked (slotAt s i) h (λ m. dirtied-page page (written (s .clock) (holdingAt s slot row)) (slotAt s slot) ∙ (rw m at h)));
-    dirty = λ h. rw (unpinned-slot i) (put-or-old (λ x. dirtyIn (x .content) ≡ true) i slot marked (slotAt s i) h (λ m. dirtied-stays (written (s .clock) (holdingAt s slot row)) (slotAt s slot) (rw m at h)));
+    has-it = λ h. rw (unpinned-slot s z row slot r b i) (put-or-old (λ x. hasPage page (x .content) ≡ true) i slot (unpinnedSlot s row slot) (slotAt s i) h (λ m. dirtied-page page (written (s .clock) (holdingAt s slot row)) (slotAt s slot) ∙ (rw m at h)));
+    dirty = λ h. rw (unpinned-slot s z row slot r b i) (put-or-old (λ x. dirtyIn (x .content) ≡ true) i slot (unpinnedSlot s row slot) (slotAt s i) h (λ m. dirtied-stays (written (s .clock) (holdingAt s slot row)) (slotAt s slot) (rw m at h)));
     wrote = λ h q m w. go h q m w (eqb i slot) (eqb q row) refl refl;
   }
     where
       go : hasPage page (slotAt s i .content) ≡ true → (q : ℕ) → q < 32 → written (s .clock) (holdingAt s i q) ≡ true → (a c : Bool) → eqb i slot ≡ a → eqb q row ≡ c
           → (written (s .clock) (holdingAt (unpinnedAt s row slot) i q) ≡ true) ⊎ (dirtyIn (slotAt (unpinnedAt s row slot) i .content) ≡ true)
       go h q m w true true x y =
-          inr (rw (unpinned-slot i, x) (rw (rw (eqb-true i slot x, eqb-true q row y) at w) (dirtied-is page (slotAt s slot) (rw (eqb-true i slot x) at h))))
-      go h q m w true false x y = inl (rw (unpinned-holding i q m, x, y) w)
-      go h q m w false c x y = inl (rw (unpinned-holding i q m, x) w)
+          inr (rw (unpinned-slot s z row slot r b i, x) (rw (rw (eqb-true i slot x, eqb-true q row y) at w) (dirtied-is page (slotAt s slot) (rw (eqb-true i slot x) at h))))
+      go h q m w true false x y = inl (rw (unpinned-holding s z row slot r b i q m, x, y) w)
+      go h q m w false c x y = inl (rw (unpinned-holding s z row slot r b i q m, x) w)

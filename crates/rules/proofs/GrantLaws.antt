@@ -1,15 +1,11 @@
--- What a grant leaves at each row, slot and holding, and on each page.
-use mathlib.Core.Path.{_≡_, refl, sym, _∙_, ap}
-use mathlib.Core.Bool.{Bool, true, false, cond, _&&_, _||_, not}
-use Prim.Native.Nat.{ℕ, _+_, _*_, _<_, _≤_}
-use native.Mathlib.Omega.{arith}
-use native.Mathlib.Decide.{ℕ-discrete}
-use borrow.Author.Tests.{eqb-true, eq-eqb, ne-eqb}
+-- What a grant leaves at each row, slot and holding, and on each page; the rows that it spares.
+use mathlib.Core.Path.{_≡_, refl}
+use mathlib.Core.Bool.{false, cond, _&&_, not}
+use Prim.Native.Nat.{ℕ, _<_}
+use borrow.Author.Tests.{eq-eqb}
 use lib.Dec.{leb, eqb}
-use Rattle.seq.specs.Below.{atFound}
-use Rattle.seq.specs.declared.Found.{Found}
-use Rattle.seq.specs.declared.Found.the-variants.{At, Nowhere}
-use Rattle.seq.proofs.Tests.{true-false}
+use Rattle.seq.specs.declared.Found.the-variants.{At}
+use Rattle.seq.proofs.Tests.{and-false-right}
 use Rattle.model.specs.declared.Back.{Back}
 use Rattle.model.specs.declared.Mode.{Mode}
 use Rattle.model.specs.declared.Condition.the-variants.{Idle, Fetching}
@@ -20,13 +16,23 @@ use Rattle.model.specs.declared.Slot.{Slot}
 use Rattle.model.specs.declared.Holding.{Holding}
 use Rattle.model.specs.declared.State.{State}
 use Rattle.model.specs.Parties.{levelOf}
-use Rattle.model.specs.State.{emptyHolding, rowAt, slotAt, holdingAt, putRow, putSlot, putHolding}
-use Rattle.model.specs.Words.{isFilled, pageIn, hasPage, isHeld, pinOf, slotOf}
+use Rattle.model.specs.State.{rowAt, slotAt, holdingAt}
+use Rattle.model.specs.Words.{hasPage, dirtyIn, isHeld, pinOf, conflict, holds, slotOf}
 use Rattle.model.proofs.StateLaws.{Sized, row-put, slot-put, holding-put, sized-put-row, sized-put-slot, sized-put-holding}
-use Rattle.rules.specs.Calls.{heldWith, withLowest, touched, granted}
-use Rattle.rules.proofs.SoundFacts.{Sound}
+use Rattle.model.proofs.PinLaws.{no-pin, not-pinned}
+use Rattle.rules.specs.Calls.{heldWith, withLowest, granted, conflicts}
 use Rattle.rules.proofs.Alike.{holdingOn}
-use Rattle.rules.proofs.PageLaws.{found-slot, finds, same-slot}
+use Rattle.rules.proofs.PageLaws.{put-on, put-slot-of}
+
+-- the rows with a conflicting pin are not the requester, and hold the slot
+pub own-spared : (s : State) (row slot : ℕ) (mode : Mode) → conflicts s row slot mode row ≡ false
+unfolding conflicts
+own-spared s row slot mode = rw (eq-eqb row row refl)
+
+pub unheld-spared : (s : State) (row slot : ℕ) (mode : Mode) (q : ℕ) → holds s slot q ≡ false → conflicts s row slot mode q ≡ false
+unfolding conflicts
+unheld-spared s row slot mode q e =
+    and-false-right (not (eqb q row)) (conflict (pinOf mode) (holdingAt s slot q .pin)) (no-pin (pinOf mode) (holdingAt s slot q .pin) (not-pinned (holdingAt s slot q .pin) e))
 
 -- the holding, the slot and the row that a grant puts
 abbrev pub grantedHolding : State → ℕ → ℕ → Mode → ℕ → Holding
@@ -38,9 +44,14 @@ grantedSlot s row slot = record { content = withLowest (levelOf row) (slotAt s s
 abbrev pub grantedRow : State → ℕ → ℕ → Row
 grantedRow s row arrival = record { condition = cond (leb arrival (s .clock)) Idle (Fetching arrival); deadline = rowAt s row .deadline }
 
-lowest-page : (level page : ℕ) (c : Content) → hasPage page (withLowest level c) ≡ hasPage page c
+-- the lowest level changes neither the page nor the dirty mark
+pub lowest-page : (level page : ℕ) (c : Content) → hasPage page (withLowest level c) ≡ hasPage page c
 lowest-page level page Empty = refl
 lowest-page level page (Filled p arrival dirty lowest) = refl
+
+pub lowest-dirty : (level : ℕ) (c : Content) → dirtyIn (withLowest level c) ≡ dirtyIn c
+lowest-dirty level Empty = refl
+lowest-dirty level (Filled p arrival dirty lowest) = refl
 
 module _ (s : State) (z : Sized s) (row slot : ℕ) (r : row < 32) (b : slot < 64) (mode : Mode) (arrival : ℕ) (back : Back) where
   pub granted-row : (other : ℕ) → rowAt (granted s row slot mode arrival back .state) other ≡ cond (eqb other row) (grantedRow s row arrival) (rowAt s other)
@@ -78,35 +89,12 @@ module _ (s : State) (z : Sized s) (row slot : ℕ) (r : row < 32) (b : slot < 6
 
   pub granted-slot-of : (page : ℕ) → slotOf (granted s row slot mode arrival back .state) page ≡ slotOf s page
   unfolding granted
-  granted-slot-of page = same-slot (granted s row slot mode arrival back .state) s page refl go
-    where
-      go : (i : ℕ) → i < granted s row slot mode arrival back .state .size → hasPage page (slotAt (granted s row slot mode arrival back .state) i .content) ≡ hasPage page (slotAt s i .content)
-      go i h = ap (λ (x : Slot). hasPage page (x .content)) (granted-slot i) ∙ last (eqb i slot) refl
-        where
-          last : (e : Bool) → eqb i slot ≡ e → hasPage page (cond (eqb i slot) (grantedSlot s row slot) (slotAt s i) .content) ≡ hasPage page (slotAt s i .content)
-          last true e = rw e (lowest-page (levelOf row) page (slotAt s slot .content) ∙ ap (λ (k : ℕ). hasPage page (slotAt s k .content)) (sym (eqb-true i slot e)))
-          last false e = rw e
+  granted-slot-of page =
+      put-slot-of s (granted s row slot mode arrival back .state) slot (grantedSlot s row slot) refl granted-slot page (lowest-page (levelOf row) page (slotAt s slot .content))
 
 -- the requester has the page; every other holding on a page stays
 pub granted-on : (s : State) (z : Sized s) (row slot page : ℕ) → row < 32 → slot < 64 → slotOf s page ≡ At slot → (mode : Mode) (arrival : ℕ) (back : Back) (other q : ℕ) → q < 32
     → holdingOn (granted s row slot mode arrival back .state) other q ≡ cond (eqb other page && eqb q row) (grantedHolding s row slot mode arrival) (holdingOn s other q)
-unfolding holdingOn
-granted-on s z row slot page r b found mode arrival back other q h =
-    ap (λ (f : Found). atFound f (λ i. holdingAt (granted s row slot mode arrival back .state) i q) emptyHolding) (granted-slot-of s z row slot r b mode arrival back other)
-    ∙ go (slotOf s other) refl
-  where
-    go : (f : Found) → slotOf s other ≡ f
-        → atFound f (λ i. holdingAt (granted s row slot mode arrival back .state) i q) emptyHolding ≡ cond (eqb other page && eqb q row) (grantedHolding s row slot mode arrival) (atFound f (λ i. holdingAt s i q) emptyHolding)
-    go Nowhere e = elim (ℕ-discrete other page) [
-      | yes m ↦ absurd (let k : At slot ≡ Nowhere = sym found ∙ ap (slotOf s) (sym m) ∙ e in let w : _≡_ {A = ℕ} 0 1 = cc in omega arith)
-      | no m ↦ rw (ne-eqb other page m)
-    ]
-    go (At i) e =
-        granted-holding s z row slot r b mode arrival back i q h
-        ∙ ap (λ (x : Bool). cond (x && eqb q row) (grantedHolding s row slot mode arrival) (holdingAt s i q)) (same i e)
-      where
-        same : (i : ℕ) → slotOf s other ≡ At i → eqb i slot ≡ eqb other page
-        same i e = elim (ℕ-discrete other page) [
-          | yes m ↦ eq-eqb i slot (let k : At i ≡ At slot = sym e ∙ ap (slotOf s) m ∙ found in cc) ∙ sym (eq-eqb other page m)
-          | no m ↦ ne-eqb i slot (λ w. m (sym (found-slot s other i e .2) ∙ ap (λ (k : ℕ). pageIn (slotAt s k .content)) w ∙ found-slot s page slot found .2)) ∙ sym (ne-eqb other page m)
-        ]
+granted-on s z row slot page r b found mode arrival back =
+    put-on s (granted s row slot mode arrival back .state) row slot page (grantedHolding s row slot mode arrival) found
+    (granted-slot-of s z row slot r b mode arrival back) (granted-holding s z row slot r b mode arrival back)

@@ -13,29 +13,26 @@ use Rattle.model.specs.declared.Back.{Back}
 use Rattle.model.specs.declared.Back.the-variants.{Nothing}
 use Rattle.model.specs.declared.Cause.the-variants.{Taken}
 use Rattle.model.specs.declared.Condition.the-variants.{Idle, Fetching}
-use Rattle.model.specs.declared.Content.the-variants.{Filled}
 use Rattle.model.specs.declared.Holding.{Holding}
 use Rattle.model.specs.declared.Mode.{Mode}
 use Rattle.model.specs.declared.Outcome.{Outcome}
 use Rattle.model.specs.declared.Pin.{Pin}
 use Rattle.model.specs.declared.Row.{Row}
-use Rattle.model.specs.declared.Slot.{Slot}
 use Rattle.model.specs.declared.State.{State}
 use Rattle.model.specs.Parties.{levelOf}
 use Rattle.model.specs.State.{rowAt, slotAt, holdingAt}
 use Rattle.model.specs.Words.{hasPage, isHeld, pinOf, strength, stronger, pins, slotOf}
-use Rattle.model.specs.Changes.{killed, cleared}
-use Rattle.model.proofs.StateLaws.{Sized, slot-put}
-use Rattle.model.proofs.ChangeLaws.{wroteSlot, killed-clock, killed-size, killed-slot, sized-killed}
-use Rattle.model.proofs.DirtyLaws.{dirtied-page}
+use Rattle.model.specs.Changes.{killed}
+use Rattle.model.proofs.StateLaws.{Sized}
+use Rattle.model.proofs.ChangeLaws.{killed-clock, sized-killed}
 use Rattle.rules.specs.Calls.{heldWith, waiting, granted, pinnersKilled, writeBack, filled}
 use Rattle.rules.proofs.SoundFacts.{Sound}
-use Rattle.rules.proofs.PageLaws.{has-page, found-slot}
-use Rattle.rules.proofs.HiddenFill.{sized-filled}
+use Rattle.rules.proofs.PageLaws.{found-has, killed-page}
 use Rattle.rules.proofs.GrantLaws.{grantedRow, grantedHolding, granted-row, granted-holding}
-use Rattle.rules.proofs.GrantBooks.{granted-booked}
-use Rattle.rules.proofs.KeptChoice.{chosen-free}
+use Rattle.rules.proofs.FillLaws.{sized-filled, filled-clock, filled-has, freed}
 use Rattle.rules.proofs.ServeCases.{Serving, waits, waits-g, joins, fills}
+use Rattle.rules.proofs.KeptChoice.{chosen-free}
+use Rattle.rules.proofs.GrantBooks.{granted-booked}
 
 -- the state on which a page is granted, made from s
 pub record Ground (s u : State) (page slot : ℕ) : Type 0 where
@@ -46,31 +43,25 @@ pub record Ground (s u : State) (page slot : ℕ) : Type 0 where
 
 pub killed-ground : (s : State) → Sound s → (some : ℕ → Bool) (page slot : ℕ) → slotOf s page ≡ At slot → Ground s (killed some Taken s) page slot
 killed-ground s z some page slot e =
-    let f = found-slot s page slot e in
+    let f = found-has s page slot e in
     let b : slot < 64 = omega (arith, f .0, z .size-most) in
     record {
       sized = sized-killed some s (z .sized) Taken;
       clock = killed-clock some Taken s;
       slot-is = b;
-      has-it =
-          ap (λ (x : Slot). hasPage page (x .content)) (killed-slot some s (z .sized) Taken slot b)
-          ∙ dirtied-page page (wroteSlot some s slot) (slotAt s slot) ∙ has-page page (slotAt s slot .content) (f .1) (f .2);
+      has-it = killed-page some s (z .sized) (z .size-most) Taken page slot b ∙ f .1;
     }
 
 pub filled-ground : (s : State) → Sound s → (page slot level : ℕ) → slot < s .size → Ground s (filled (pinnersKilled s slot) slot page level) page slot
-unfolding filled pinnersKilled cleared
+unfolding pinnersKilled
 filled-ground s z page slot level h =
     let k : State = killed (pins s slot) Taken s in
-    let kz : Sized k = sized-killed (pins s slot) s (z .sized) Taken in
-    let b : slot < 64 = omega (arith, z .size-most) in
-    let put : Slot = record { content = Filled page (k .clock + k .delay) false level; touch = k .clock } in
+    let f = freed s z slot h in
     record {
-      sized = sized-filled k kz (rw (killed-size (pins s slot) Taken s) (z .size-most)) slot page level (rw (killed-size (pins s slot) Taken s) h);
-      clock = killed-clock (pins s slot) Taken s;
-      slot-is = b;
-      has-it =
-          ap (λ (x : Slot). hasPage page (x .content)) (slot-put k kz slot put slot b)
-          ∙ ap (λ (c : Bool). hasPage page (cond c put (slotAt k slot) .content)) (eq-eqb slot slot refl) ∙ eq-eqb page page refl;
+      sized = sized-filled k (f .sized) (f .most) slot page level (f .there);
+      clock = filled-clock k (f .sized) (f .most) slot page level (f .there) ∙ killed-clock (pins s slot) Taken s;
+      slot-is = omega (arith, z .size-most);
+      has-it = filled-has k (f .sized) (f .most) slot page level (f .there);
     }
 
 pub record Grant (s : State) (row page : ℕ) (mode : Mode) (o : Outcome) : Type 0 where

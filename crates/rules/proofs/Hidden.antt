@@ -1,11 +1,11 @@
 -- A call that is not kept for a clearance leaves the state alike for it.
 use mathlib.Core.Path.{_≡_, refl, sym, ap}
-use mathlib.Core.Bool.{Bool, true, false, cond, not}
+use mathlib.Core.Bool.{true, false, not}
 use mathlib.Core.List.{[], _∷_}
 use Prim.Native.Nat.{ℕ, zero, suc, _<_}
 use native.Mathlib.Omega.{arith}
-use borrow.Author.Tests.{leb-false, ltb-false, ne-eqb}
-use lib.Dec.{leb, ltb, eqb}
+use borrow.Author.Tests.{leb-false, ne-eqb}
+use lib.Dec.{leb, eqb}
 use Rattle.seq.specs.Below.{atFound}
 use Rattle.seq.specs.declared.Found.{Found}
 use Rattle.seq.specs.declared.Found.the-variants.{At, Nowhere}
@@ -30,72 +30,57 @@ use Rattle.rules.proofs.SoundFacts.{Sound, facts}
 use Rattle.rules.proofs.Alike.{Alike}
 use Rattle.rules.proofs.AlikeLaws.{alike-refl, alike-trans}
 use Rattle.rules.proofs.PageLaws.{found-slot}
+use Rattle.rules.proofs.RefusalFacts.{unless-is, Named, begin-taken, request-taken, retry-taken, unpin-taken, end-taken}
 use Rattle.rules.proofs.HiddenChanges.{row-hidden, released-hidden, unpinned-hidden}
 use Rattle.rules.proofs.HiddenServed.{served-hidden}
 
 -- a refused call leaves the state; of an accepted one its effect is to be shown
 unless-hidden : (L n : ℕ) (s : State) (o : Outcome) → (n ≡ 0 → Alike L s (o .state)) → Alike L s (unless n s o .state)
-unless-hidden L zero s o f = f refl
-unless-hidden L (suc n) s o f = alike-refl L s
+unless-hidden L n s o f = unless-is (λ x. Alike L s (x .state)) n s o (λ _. alike-refl L s) f
 
--- a refusal that does not apply
-passed : (a : Bool) (n rest : ℕ) → cond a (suc n) rest ≡ 0 → (a ≡ false) × (rest ≡ 0)
-passed true n rest e = absurd (omega arith)
-passed false n rest e = (refl, e)
-
--- the row that an accepted call names
-record Named (L level number : ℕ) : Type 0 where
-  row : rowOf level number < 32
-  higher : L < levelOf (rowOf level number)
-
-named : (L level number rest : ℕ) → leb level L ≡ false → cond (ltb 3 level) 4 (cond (ltb 7 number) 5 rest) ≡ 0 → Named L level number
-named L level number rest k e =
-    let a = passed (ltb 3 level) 3 (cond (ltb 7 number) 5 rest) e in
-    let b = passed (ltb 7 number) 4 rest (a .1) in
-    let l = ltb-false 3 level (a .0) in
-    let n = ltb-false 7 number (b .0) in
-    let h = leb-false level L k in
-    record { row = omega arith; higher = omega arith }
+-- the row is above the clearance
+higher : (L level number : ℕ) → leb level L ≡ false → Named level number → L < levelOf (rowOf level number)
+higher L level number k n = omega (arith, leb-false level L k, n .own-level)
 
 module _ (L : ℕ) (s : State) (z : Sound s) (level number : ℕ) (k : leb level L ≡ false) where
   begun-hidden : (deadline : ℕ) → Alike L s (begun s level number deadline .state)
-  unfolding begun beginRefusal
+  unfolding begun
   begun-hidden deadline = unless-hidden L (beginRefusal s level number deadline) s _ (λ e.
-      let n = named L level number _ k e in
-      row-hidden L s (z .sized) (rowOf level number) (n .row) (n .higher) (record { condition = Idle; deadline = deadline }))
+      let n = begin-taken s level number deadline e .names in
+      row-hidden L s (z .sized) (rowOf level number) (n .row-is) (higher L level number k n) (record { condition = Idle; deadline = deadline }))
 
   requested-hidden : (page mode : ℕ) → Alike L s (requested s level number page mode .state)
-  unfolding requested requestRefusal
+  unfolding requested
   requested-hidden page mode = unless-hidden L (requestRefusal s level number page mode) s _ (λ e.
-      let n = named L level number _ k e in
-      served-hidden L s z (rowOf level number) (n .row) (n .higher) page (modeOf mode))
+      let n = request-taken s level number page mode e .names in
+      served-hidden L s z (rowOf level number) (n .row-is) (higher L level number k n) page (modeOf mode))
 
   retried-hidden : Alike L s (retried s level number .state)
-  unfolding retried retryRefusal
-  retried-hidden = unless-hidden L (retryRefusal s level number) s _ (λ e. go (named L level number _ k e) (rowAt s (rowOf level number) .condition))
+  unfolding retried
+  retried-hidden = unless-hidden L (retryRefusal s level number) s _ (λ e. go (retry-taken s level number e) (rowAt s (rowOf level number) .condition))
     where
-      go : Named L level number → (c : Condition) → Alike L s (servedAgain c s (rowOf level number) .state)
+      go : Named level number → (c : Condition) → Alike L s (servedAgain c s (rowOf level number) .state)
       go n Free = alike-refl L s
       go n Idle = alike-refl L s
       go n (Fetching due) = alike-refl L s
-      go n (Waiting page mode) = served-hidden L s z (rowOf level number) (n .row) (n .higher) page mode
+      go n (Waiting page mode) = served-hidden L s z (rowOf level number) (n .row-is) (higher L level number k n) page mode
       go n (Killed cause) = alike-refl L s
 
   unpin-hidden : (page : ℕ) → Alike L s (unpinned s level number page .state)
-  unfolding unpinned unpinRefusal
-  unpin-hidden page = unless-hidden L (unpinRefusal s level number page) s _ (λ e. go (named L level number _ k e) (slotOf s page) refl)
+  unfolding unpinned
+  unpin-hidden page = unless-hidden L (unpinRefusal s level number page) s _ (λ e. go (unpin-taken s level number page e .names) (slotOf s page) refl)
     where
-      go : Named L level number → (f : Found) → slotOf s page ≡ f → Alike L s (atFound f (unpinnedAt s (rowOf level number)) s)
+      go : Named level number → (f : Found) → slotOf s page ≡ f → Alike L s (atFound f (unpinnedAt s (rowOf level number)) s)
       go n Nowhere e = alike-refl L s
-      go n (At slot) e = unpinned-hidden L s (z .sized) (rowOf level number) (n .row) (n .higher) slot (omega (arith, found-slot s page slot e .0, z .size-most))
+      go n (At slot) e = unpinned-hidden L s (z .sized) (rowOf level number) (n .row-is) (higher L level number k n) slot (omega (arith, found-slot s page slot e .0, z .size-most))
 
   ended-hidden : Alike L s (ended s level number .state)
-  unfolding ended endRefusal
+  unfolding ended
   ended-hidden = unless-hidden L (endRefusal s level number) s _ (λ e.
-      let n = named L level number _ k e in
+      let n = end-taken s level number e in
       let me = rowOf level number in
-      alike-trans (released-hidden L s (z .sized) (z .size-most) (eqb me) (λ r b l. ne-eqb me r (λ q. let w : levelOf me ≡ levelOf r = ap levelOf q in omega (arith, n .higher))))
-      (row-hidden L (released (eqb me) s) (sized-released (eqb me) s (z .sized)) me (n .row) (n .higher) freeRow))
+      alike-trans (released-hidden L s (z .sized) (z .size-most) (eqb me) (λ r b l. ne-eqb me r (λ q. let w : levelOf me ≡ levelOf r = ap levelOf q in omega (arith, higher L level number k n))))
+      (row-hidden L (released (eqb me) s) (sized-released (eqb me) s (z .sized)) me (n .row-is) (higher L level number k n) freeRow))
 
 -- a refused start, and the calls that change nothing
 pub start-still : (s : State) (slots delay : ℕ) → not (eqb (startRefusal slots delay) 0) ≡ true → started s slots delay .state ≡ s

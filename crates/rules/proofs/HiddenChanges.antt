@@ -1,31 +1,28 @@
 -- Changes of rows above a level, and of what they hold, give a state alike for the level.
-use mathlib.Core.Path.{_≡_, refl, sym, _∙_, ap}
-use mathlib.Core.Bool.{Bool, true, false, cond}
+use mathlib.Core.Path.{_≡_, refl, _∙_, ap}
+use mathlib.Core.Bool.{Bool, false, cond}
 use Prim.Native.Nat.{ℕ, _<_, _≤_}
 use native.Mathlib.Omega.{arith}
-use borrow.Author.Tests.{ne-eqb, eqb-true}
+use borrow.Author.Tests.{ne-eqb}
 use lib.Dec.{eqb}
 use Rattle.seq.proofs.Tests.{and-false-right}
 use Rattle.model.specs.declared.Back.{Back}
 use Rattle.model.specs.declared.Cause.{Cause}
 use Rattle.model.specs.declared.Mode.{Mode}
-use Rattle.model.specs.declared.Pin.the-variants as Pin
-use Rattle.model.specs.declared.Holding.{Holding}
 use Rattle.model.specs.declared.Row.{Row}
-use Rattle.model.specs.declared.Slot.{Slot}
 use Rattle.model.specs.declared.State.{State}
 use Rattle.model.specs.Parties.{levelOf}
-use Rattle.model.specs.State.{emptyHolding, rowAt, slotAt, holdingAt, putRow, putSlot, putHolding}
-use Rattle.model.specs.Words.{hasPage, slotOf}
-use Rattle.model.specs.Changes.{written, dirtied, released, killed, killedRow}
-use Rattle.model.proofs.StateLaws.{Sized, row-put, slot-put, holding-put}
+use Rattle.model.specs.State.{emptyHolding, rowAt, holdingAt, putRow}
+use Rattle.model.specs.Words.{slotOf}
+use Rattle.model.specs.Changes.{released, killed, killedRow}
+use Rattle.model.proofs.StateLaws.{Sized, row-put}
 use Rattle.model.proofs.ChangeLaws.{killed-row, killed-holding, killed-clock, killed-delay, killed-size, released-holding}
-use Rattle.model.proofs.DirtyLaws.{dirtied-page}
 use Rattle.rules.specs.Calls.{granted, unpinnedAt}
 use Rattle.rules.proofs.Alike.{Alike}
 use Rattle.rules.proofs.AlikeLaws.{alike-still}
-use Rattle.rules.proofs.PageLaws.{same-slot, killed-slot-of, released-slot-of}
+use Rattle.rules.proofs.PageLaws.{killed-slot-of, released-slot-of}
 use Rattle.rules.proofs.GrantLaws.{grantedHolding, grantedRow, granted-row, granted-holding, granted-size, granted-delay, granted-clock, granted-slot-of}
+use Rattle.rules.proofs.UnpinLaws.{unpinnedHolding, unpinned-holding, unpinned-slot-of}
 
 -- rows of different levels differ
 pub other-row : (L me r : ℕ) → L < levelOf me → levelOf r ≤ L → eqb r me ≡ false
@@ -66,22 +63,9 @@ module _ (L : ℕ) (s : State) (z : Sized s) where
 
       pub unpinned-hidden : Alike L s (unpinnedAt s me slot)
       unfolding unpinnedAt
-      unpinned-hidden = alike-still L s (putHolding (putSlot s slot after) slot me rest) refl refl refl
-          (λ page. same-slot (putHolding (putSlot s slot after) slot me rest) s page refl (same page))
+      unpinned-hidden = alike-still L s (unpinnedAt s me slot) refl refl refl
+          (unpinned-slot-of s z me slot mine there)
           (λ r b l. refl)
           (λ i r b l.
-          holding-put s z slot me rest i r there mine b
-          ∙ ap (λ (e : Bool). cond e rest (holdingAt s i r)) (and-false-right (eqb i slot) (eqb r me) (other-row L me r higher l)))
-        where
-          rest : Holding
-          rest = record { pin = Pin.Unpinned; arrival = holdingAt s slot me .arrival; touch = holdingAt s slot me .touch }
-
-          after : Slot
-          after = cond (written (s .clock) (holdingAt s slot me)) (dirtied (slotAt s slot)) (slotAt s slot)
-
-          same : (page i : ℕ) → i < s .size → hasPage page (slotAt (putSlot s slot after) i .content) ≡ hasPage page (slotAt s i .content)
-          same page i b = ap (λ (x : Slot). hasPage page (x .content)) (slot-put s z slot after i there) ∙ last (eqb i slot) refl
-            where
-              last : (e : Bool) → eqb i slot ≡ e → hasPage page (cond (eqb i slot) after (slotAt s i) .content) ≡ hasPage page (slotAt s i .content)
-              last true e = rw e (dirtied-page page (written (s .clock) (holdingAt s slot me)) (slotAt s slot) ∙ ap (λ (k : ℕ). hasPage page (slotAt s k .content)) (sym (eqb-true i slot e)))
-              last false e = rw e
+          unpinned-holding s z me slot mine there i r b
+          ∙ ap (λ (e : Bool). cond e (unpinnedHolding (holdingAt s slot me)) (holdingAt s i r)) (and-false-right (eqb i slot) (eqb r me) (other-row L me r higher l)))

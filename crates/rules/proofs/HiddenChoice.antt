@@ -1,41 +1,32 @@
 -- The slot chosen for a row is held by no row of a level below its own.
-use mathlib.Core.Path.{_≡_, refl, sym, _∙_}
+use mathlib.Core.Path.{_≡_, refl, sym}
 use mathlib.Core.Bool.{Bool, true, false, _&&_, _||_, not}
 use Prim.Native.Nat.{ℕ, _<_, _≤_}
 use native.Mathlib.Omega.{arith}
 use borrow.Author.Tests.{not-true, le-leb, ne-eqb}
 use lib.Dec.{leb, eqb}
-use Rattle.seq.specs.Below.{anyBelow}
-use Rattle.seq.specs.declared.Found.{Found}
-use Rattle.seq.specs.declared.Found.the-variants.{At, Nowhere}
-use Rattle.seq.proofs.Tests.{true-false, parts, not-true-false}
-use Rattle.seq.proofs.BelowLaws.{any-none, all-each}
-use Rattle.seq.proofs.PickLaws.{pick-is}
+use Rattle.seq.specs.declared.Found.the-variants.{At}
+use Rattle.seq.proofs.Tests.{true-false, parts}
+use Rattle.seq.proofs.BelowLaws.{all-each}
 use Rattle.model.specs.declared.State.{State}
 use Rattle.model.specs.Parties.{levelOf}
 use Rattle.model.specs.State.{slotAt}
-use Rattle.model.specs.Words.{isFilled, holds, seenHolder, seen, dormant, outranks}
-use Rattle.rules.specs.Choice.{orElse, stepA, stepB, beforeDormant, heldAbove, inC, inD, heldAtOwnLevel, inE, inF, beforeHeld, stepHeld, chosen}
-use Rattle.rules.proofs.SoundFacts.{Sound}
-
--- what either of two searches found
-or-else : {P : Type 0} {i : ℕ} (f g : Found) → orElse f g ≡ At i → (f ≡ At i → P) → (g ≡ At i → P) → P
-or-else Nowhere g e a b = b e
-or-else (At j) g e a b = a e
+use Rattle.model.specs.Words.{isFilled, holds, seenHolder, seen, outranks}
+use Rattle.model.proofs.SeenLaws.{not-seen, dormant-unheld}
+use Rattle.rules.specs.Choice.{heldAbove, heldAtOwnLevel, inE, inF, chosen}
+use Rattle.rules.proofs.SoundFacts.{Sound, empty-unheld}
+use Rattle.rules.proofs.ChoiceSteps.{chosen-is}
 
 -- no row of the level or a lower one holds the slot
 abbrev pub Unheld : ℕ → State → ℕ → Type 0
 Unheld L s slot = (r : ℕ) → r < 32 → levelOf r ≤ L → holds s slot r ≡ false
 
 pub unseen-unheld : (L M : ℕ) (s : State) (slot : ℕ) → L ≤ M → seen s M slot ≡ false → Unheld L s slot
-unfolding seen seenHolder
-unseen-unheld L M s slot h e r b l =
-    let k = any-none (λ row. leb (levelOf row) M && holds s slot row) 32 r e b in
-    rw (le-leb (levelOf r) M (omega arith)) at k
+unseen-unheld L M s slot h e r b l = not-seen s M slot r e b (omega arith)
 
 module _ (L : ℕ) (s : State) (z : Sound s) (me : ℕ) (higher : L < levelOf me) where
   unfilled : (slot : ℕ) → slot < s .size → isFilled (slotAt s slot .content) ≡ false → Unheld L s slot
-  unfilled slot h e r b l = not-true-false (holds s slot r) (λ k. true-false (sym (z .held slot r (omega (arith, z .size-most)) b k .filled) ∙ e))
+  unfilled slot h e r b l = empty-unheld s z slot r (omega (arith, z .size-most)) b e
 
   above : (slot : ℕ) → heldAbove s me slot ≡ true → Unheld L s slot
   unfolding heldAbove
@@ -51,23 +42,7 @@ module _ (L : ℕ) (s : State) (z : Sound s) (me : ℕ) (higher : L < levelOf me
       last true q w = true-false (sym (rw q at w))
       last false q w = q
 
-  held : (some : ℕ → Bool) → ((slot : ℕ) → some slot ≡ true → Unheld L s slot) → (slot : ℕ) → stepHeld s some ≡ At slot → (slot < s .size) × Unheld L s slot
-  unfolding stepHeld
-  held some f slot e = let k = pick-is some (beforeHeld s) (s .size) slot e in (k .0, f slot (k .1))
-
   pub chosen-unheld : (slot : ℕ) → chosen s me ≡ At slot → (slot < s .size) × Unheld L s slot
-  unfolding chosen stepA stepB dormant inC inD inE inF
-  chosen-unheld slot e =
-      or-else (stepA s) _ e
-      (λ a.
-      let k = pick-is (λ i. not (isFilled (slotAt s i .content))) (λ i j. false) (s .size) slot a in
-      (k .0, unfilled slot (k .0) (not-true (isFilled (slotAt s slot .content)) (k .1)))) λ e1.
-      or-else (stepB s) _ e1
-      (λ a.
-      let k = pick-is (λ i. isFilled (slotAt s i .content) && not (anyBelow 32 (holds s i))) (beforeDormant s) (s .size) slot a in
-      let w = k .1 in
-      (k .0, λ r b l. any-none (holds s slot) 32 r (not-true (anyBelow 32 (holds s slot)) (search parts depth 20)) b)) λ e2.
-      or-else (stepHeld s (inC s me)) _ e2 (held (inC s me) (λ i p. above i (search parts depth 20)) slot) λ e3.
-      or-else (stepHeld s (inD s me)) _ e3 (held (inD s me) (λ i p. above i (search parts depth 20)) slot) λ e4.
-      or-else (stepHeld s (inE s me)) _ e4 (held (inE s me) (λ i p. own i (search parts depth 20)) slot)
-      (held (inF s me) (λ i p. own i (search parts depth 20)) slot)
+  unfolding inE inF
+  chosen-unheld = chosen-is s me (Unheld L s) unfilled (λ i e r b l. dormant-unheld s i e r b) above
+      (λ i e. own i (search parts depth 20)) (λ i e. own i (search parts depth 20))

@@ -1,85 +1,48 @@
 -- A request or retry of a row above a level leaves the state alike for the level.
-use mathlib.Core.Path.{_≡_, refl, sym, _∙_, ap}
-use mathlib.Core.Bool.{Bool, true, false, cond, _&&_, not}
+use mathlib.Core.Path.{_≡_, sym, _∙_}
+use mathlib.Core.Bool.{Bool, false, _&&_}
 use Prim.Native.Nat.{ℕ, _+_, _<_, _≤_}
 use native.Mathlib.Omega.{arith}
-use borrow.Author.Tests.{le-leb, ne-eqb, lt-ltb}
-use lib.Dec.{leb, eqb}
-use Rattle.seq.specs.declared.Found.{Found}
+use borrow.Author.Tests.{le-leb}
+use lib.Dec.{leb}
 use Rattle.seq.specs.declared.Found.the-variants.{At, Nowhere}
-use Rattle.seq.proofs.Tests.{true-false, both-true, not-true-false, and-false-right}
+use Rattle.seq.proofs.Tests.{true-false, both-true, not-true-false}
 use Rattle.seq.proofs.BelowLaws.{any-none}
 use Rattle.model.specs.declared.Back.{Back}
 use Rattle.model.specs.declared.Back.the-variants.{Nothing}
 use Rattle.model.specs.declared.Cause.the-variants.{Taken}
 use Rattle.model.specs.declared.Condition.the-variants.{Waiting}
 use Rattle.model.specs.declared.Mode.{Mode}
-use Rattle.model.specs.declared.Pin.{Pin}
-use Rattle.model.specs.declared.Pin.the-variants.{Absent, Unpinned, Read, Write}
-use Rattle.model.specs.declared.Slot.{Slot}
+use Rattle.model.specs.declared.Outcome.{Outcome}
 use Rattle.model.specs.declared.State.{State}
-use Rattle.model.specs.Parties.{levelOf, better}
+use Rattle.model.specs.Parties.{levelOf}
 use Rattle.model.specs.State.{rowAt, slotAt, holdingAt}
-use Rattle.model.specs.Words.{hasPage, arrivalIn, isHeld, isPin, pinOf, conflict, pins, seen, seesDormant, outranks, leastArrival, slotOf}
+use Rattle.model.specs.Words.{arrivalIn, pins, outranks, leastArrival, slotOf}
 use Rattle.model.specs.Changes.{killed}
-use Rattle.model.proofs.StateLaws.{Sized}
-use Rattle.model.proofs.ChangeLaws.{wroteSlot, killed-size, killed-slot, killed-holding, sized-killed}
-use Rattle.model.proofs.DirtyLaws.{dirtied-page}
+use Rattle.model.proofs.ChangeLaws.{killed-holding, sized-killed}
+use Rattle.model.proofs.PinLaws.{not-pinned}
+use Rattle.model.proofs.PriorityLaws.{outranks-level}
+use Rattle.model.proofs.SeenLaws.{not-seen}
 use Rattle.rules.specs.Choice.{chosen}
-use Rattle.rules.specs.Calls.{waiting, granted, conflicts, mustWait, step1, step2, step3, pinnersKilled, writeBack, filled, intoSlot, servedAt, served}
+use Rattle.rules.specs.Calls.{waiting, granted, conflicts, mustWait, pinnersKilled, writeBack, filled, served}
 use Rattle.rules.proofs.SoundFacts.{Sound}
 use Rattle.rules.proofs.Alike.{Alike}
 use Rattle.rules.proofs.AlikeLaws.{alike-trans}
-use Rattle.rules.proofs.PageLaws.{found-slot, page-has, killed-slot-of}
+use Rattle.rules.proofs.PageLaws.{found-slot, killed-slot-of}
+use Rattle.rules.proofs.GrantLaws.{unheld-spared}
+use Rattle.rules.proofs.FillLaws.{sized-filled, freed}
+use Rattle.rules.proofs.ServeCases.{Step, wait-1, grant-1, grant-2, grant-3, wait-g, fill, step}
 use Rattle.rules.proofs.HiddenChanges.{killed-hidden, row-hidden, granted-hidden}
-use Rattle.rules.proofs.HiddenFill.{OneSlot, sized-filled, filled-hidden}
-use Rattle.rules.proofs.HiddenChoice.{Unheld, unseen-unheld, chosen-unheld}
-
--- no holding, no pin and no conflict
-unheld-unpinned : (p : Pin) → isHeld p ≡ false → isPin p ≡ false
-unheld-unpinned Absent e = refl
-unheld-unpinned Unpinned e = refl
-unheld-unpinned Read e = e
-unheld-unpinned Write e = e
-
-unpinned-free : (p q : Pin) → isPin q ≡ false → conflict p q ≡ false
-unfolding conflict
-unpinned-free p q e = rw (e, and-false-right (isPin p) false refl)
-
-one-slot : (s : State) → Sound s → OneSlot s
-one-slot s z page i j a b p q =
-    let x = page-has page (slotAt s i .content) p in
-    let y = page-has page (slotAt s j .content) q in
-    z .one-slot i j (omega (arith, z .size-most)) (omega (arith, z .size-most)) (x .0) (y .0) (x .1 ∙ sym (y .1))
-
--- a kill leaves every slot's page
-killed-page : (some : ℕ → Bool) (s : State) → Sound s → (page i : ℕ) → i < s .size → hasPage page (slotAt (killed some Taken s) i .content) ≡ hasPage page (slotAt s i .content)
-killed-page some s z page i b =
-    ap (λ (x : Slot). hasPage page (x .content)) (killed-slot some s (z .sized) Taken i (omega (arith, z .size-most))) ∙ dirtied-page page (wroteSlot some s i) (slotAt s i)
-
-killed-one-slot : (some : ℕ → Bool) (s : State) → Sound s → OneSlot (killed some Taken s)
-killed-one-slot some s z page i j a b p q =
-    let a1 : i < s .size = rw (killed-size some Taken s) at a in
-    let b1 : j < s .size = rw (killed-size some Taken s) at b in
-    one-slot s z page i j a1 b1 (sym (killed-page some s z page i a1) ∙ p) (sym (killed-page some s z page j b1) ∙ q)
+use Rattle.rules.proofs.HiddenFill.{filled-hidden}
+use Rattle.rules.proofs.HiddenChoice.{chosen-unheld}
 
 module _ (L : ℕ) (s : State) (z : Sound s) (me : ℕ) (mine : me < 32) (higher : L < levelOf me) where
-  -- a row of a lower level has the better priority
-  lower-outranks : (r : ℕ) → levelOf r ≤ L → outranks s r me ≡ true
-  unfolding outranks better
-  lower-outranks r l = rw (ne-eqb (levelOf r) (levelOf me) (λ e. omega arith), lt-ltb (levelOf r) (levelOf me) (omega arith))
-
   -- where no wait is due, no conflicting pin is of the level or a lower one
   no-wait : (slot : ℕ) (mode : Mode) → mustWait s me slot mode ≡ false → (r : ℕ) → r < 32 → levelOf r ≤ L → conflicts s me slot mode r ≡ false
   unfolding mustWait
   no-wait slot mode e r b l =
       let k = any-none (λ other. leb (levelOf other) (levelOf me) && conflicts s me slot mode other && outranks s other me) 32 r e b in
-      not-true-false (conflicts s me slot mode r) (λ c. true-false (sym (both-true (both-true (le-leb (levelOf r) (levelOf me) (omega arith)) c) (lower-outranks r l)) ∙ k))
-
-  no-conflict : (slot : ℕ) (mode : Mode) → Unheld L s slot → (r : ℕ) → r < 32 → levelOf r ≤ L → conflicts s me slot mode r ≡ false
-  unfolding conflicts
-  no-conflict slot mode h r b l =
-      and-false-right (not (eqb r me)) (conflict (pinOf mode) (holdingAt s slot r .pin)) (unpinned-free (pinOf mode) (holdingAt s slot r .pin) (unheld-unpinned (holdingAt s slot r .pin) (h r b l)))
+      not-true-false (conflicts s me slot mode r) (λ c. true-false (sym (both-true (both-true (le-leb (levelOf r) (levelOf me) (omega arith)) c) (outranks-level s r me (omega arith))) ∙ k))
 
   -- a grant after a kill of rows above the level
   kill-and-grant : (some : ℕ → Bool) → ((r : ℕ) → r < 32 → levelOf r ≤ L → some r ≡ false) → (slot : ℕ) → slot < 64 → (mode : Mode) (arrival : ℕ) (back : Back)
@@ -92,55 +55,30 @@ module _ (L : ℕ) (s : State) (z : Sound s) (me : ℕ) (mine : me < 32) (higher
   unfolding waiting
   waiting-hidden page mode = row-hidden L s (z .sized) me mine higher (record { condition = Waiting page mode; deadline = rowAt s me .deadline })
 
-  step1-hidden : (slot page : ℕ) (mode : Mode) → slot < 64 → Alike L s (step1 s me slot page mode .state)
-  unfolding step1
-  step1-hidden slot page mode b = go (mustWait s me slot mode) refl
-    where
-      go : (w : Bool) → mustWait s me slot mode ≡ w
-          → Alike L s (cond (mustWait s me slot mode) (waiting s me page mode) (granted (killed (conflicts s me slot mode) Taken s) me slot mode (leastArrival s (levelOf me) slot) Nothing) .state)
-      go true e = rw e (waiting-hidden page mode)
-      go false e = rw e (kill-and-grant (conflicts s me slot mode) (no-wait slot mode e) slot b mode (leastArrival s (levelOf me) slot) Nothing)
-
-  step2-hidden : (slot : ℕ) (mode : Mode) → slot < 64 → Alike L s (step2 s me slot mode .state)
-  unfolding step2
-  step2-hidden slot mode b = granted-hidden L s (z .sized) me mine higher slot b mode (arrivalIn (slotAt s slot .content)) Nothing
-
-  step3-hidden : (slot : ℕ) (mode : Mode) → slot < 64 → seen s (levelOf me) slot ≡ false → Alike L s (step3 s me slot mode .state)
-  unfolding step3
-  step3-hidden slot mode b e = kill-and-grant (conflicts s me slot mode) (no-conflict slot mode (unseen-unheld L (levelOf me) s slot (omega arith) e)) slot b mode (s .clock + s .delay) Nothing
-
-  into-hidden : (f : Found) → chosen s me ≡ f → (page : ℕ) (mode : Mode) → slotOf s page ≡ Nowhere → Alike L s (intoSlot f s me page mode .state)
+  fill-hidden : (slot : ℕ) → chosen s me ≡ At slot → (page : ℕ) (mode : Mode) → slotOf s page ≡ Nowhere
+      → Alike L s (granted (filled (pinnersKilled s slot) slot page (levelOf me)) me slot mode (s .clock + s .delay) (writeBack (slotAt (pinnersKilled s slot) slot)) .state)
   unfolding pinnersKilled
-  into-hidden Nowhere e page mode n = waiting-hidden page mode
-  into-hidden (At slot) e page mode n =
+  fill-hidden slot e page mode n =
       let c = chosen-unheld L s z me higher slot e in
       let k : State = killed (pins s slot) Taken s in
-      let kz : Sized k = sized-killed (pins s slot) s (z .sized) Taken in
-      let km : k .size ≤ 64 = rw (killed-size (pins s slot) Taken s) (z .size-most) in
-      let kt : slot < k .size = rw (killed-size (pins s slot) Taken s) (c .0) in
+      let f = freed s z slot (c .0) in
       let b : slot < 64 = omega (arith, c .0, z .size-most) in
-      let fz = sized-filled k kz km slot page (levelOf me) kt in
-      alike-trans (killed-hidden L s (z .sized) (z .size-most) (pins s slot) (λ r h l. unheld-unpinned (holdingAt s slot r .pin) (c .1 r h l)) Taken)
+      alike-trans (killed-hidden L s (z .sized) (z .size-most) (pins s slot) (λ r h l. not-pinned (holdingAt s slot r .pin) (c .1 r h l)) Taken)
       (alike-trans
-      (filled-hidden k kz km slot page (levelOf me) kt (killed-one-slot (pins s slot) s z) (killed-slot-of (pins s slot) s (z .sized) (z .size-most) Taken page ∙ n) L
-      (λ r h l. killed-holding (pins s slot) s (z .sized) Taken slot r h ∙ rw (unheld-unpinned (holdingAt s slot r .pin) (c .1 r h l)) (z .unheld slot r b h (c .1 r h l))))
-      (granted-hidden L (filled k slot page (levelOf me)) fz me mine higher slot b mode (s .clock + s .delay) (writeBack (slotAt k slot))))
-
-  served-at-hidden : (f : Found) → (page : ℕ) (mode : Mode) → slotOf s page ≡ f → Alike L s (servedAt f s me page mode .state)
-  served-at-hidden Nowhere page mode e = into-hidden (chosen s me) refl page mode e
-  served-at-hidden (At slot) page mode e =
-      let b : slot < 64 = omega (arith, found-slot s page slot e .0, z .size-most) in
-      go b (seen s (levelOf me) slot) refl
-    where
-      unseen : slot < 64 → seen s (levelOf me) slot ≡ false → (w : Bool) → Alike L s (cond w (step2 s me slot mode) (step3 s me slot mode) .state)
-      unseen b q true = step2-hidden slot mode b
-      unseen b q false = step3-hidden slot mode b q
-
-      go : slot < 64 → (w : Bool) → seen s (levelOf me) slot ≡ w
-          → Alike L s (cond (seen s (levelOf me) slot) (step1 s me slot page mode) (cond (seesDormant s (levelOf me) slot) (step2 s me slot mode) (step3 s me slot mode)) .state)
-      go b true q = rw q (step1-hidden slot page mode b)
-      go b false q = rw q (unseen b q (seesDormant s (levelOf me) slot))
+      (filled-hidden k (f .sized) (f .most) slot page (levelOf me) (f .there) (f .one) (killed-slot-of (pins s slot) s (z .sized) (z .size-most) Taken page ∙ n) L
+      (λ r h l. killed-holding (pins s slot) s (z .sized) Taken slot r h ∙ rw (not-pinned (holdingAt s slot r .pin) (c .1 r h l)) (z .unheld slot r b h (c .1 r h l))))
+      (granted-hidden L (filled k slot page (levelOf me)) (sized-filled k (f .sized) (f .most) slot page (levelOf me) (f .there)) me mine higher slot b mode (s .clock + s .delay) (writeBack (slotAt k slot))))
 
   pub served-hidden : (page : ℕ) (mode : Mode) → Alike L s (served s me page mode .state)
-  unfolding served
-  served-hidden page mode = served-at-hidden (slotOf s page) page mode refl
+  served-hidden page mode = go (served s me page mode) (step s me page mode)
+    where
+      in-range : (slot : ℕ) → slotOf s page ≡ At slot → slot < 64
+      in-range slot e = omega (arith, found-slot s page slot e .0, z .size-most)
+
+      go : (o : Outcome) → Step s me page mode o → Alike L s (o .state)
+      go o (wait-1 slot e v w q) = rw q (waiting-hidden page mode)
+      go o (grant-1 slot e v w q) = rw q (kill-and-grant (conflicts s me slot mode) (no-wait slot mode w) slot (in-range slot e) mode (leastArrival s (levelOf me) slot) Nothing)
+      go o (grant-2 slot e d q) = rw q (granted-hidden L s (z .sized) me mine higher slot (in-range slot e) mode (arrivalIn (slotAt s slot .content)) Nothing)
+      go o (grant-3 slot e v q) = rw q (kill-and-grant (conflicts s me slot mode) (λ r h l. unheld-spared s me slot mode r (not-seen s (levelOf me) slot r v h (omega arith))) slot (in-range slot e) mode (s .clock + s .delay) Nothing)
+      go o (wait-g e c q) = rw q (waiting-hidden page mode)
+      go o (fill slot e c q) = rw q (fill-hidden slot c page mode e)

@@ -1,6 +1,6 @@
 -- What a clearance sees of a fetch: the requester's row and its new holding, beside what the rows and holdings were left as.
 use mathlib.Core.Path.{_≡_, sym, _∙_, ap}
-use mathlib.Core.Bool.{cond, _&&_, not}
+use mathlib.Core.Bool.{cond, _&&_}
 use Prim.Native.Nat.{ℕ, _+_, _<_, _≤_}
 use lib.Dec.{eqb}
 use Rattle.model.specs.declared.Mode.{Mode}
@@ -15,7 +15,7 @@ use Rattle.model.specs.Parties.{levelOf}
 use Rattle.model.specs.State.{rowAt}
 use Rattle.model.specs.Words.{pinOf}
 use Rattle.rules.specs.Answers.{told}
-use Rattle.rules.proofs.Alike.{holdingOn, Alike}
+use Rattle.rules.proofs.Alike.{holdingOn, Alike, Same}
 
 -- the tick when a page not seen arrives
 abbrev pub dueTick : State → ℕ
@@ -41,7 +41,7 @@ pub gains-same : (L : ℕ) (s t : State) (me page : ℕ) (mode : Mode) (rows row
     → ((r : ℕ) → r < 32 → levelOf r ≤ L → rows r ≡ rows′ r)
     → ((other r : ℕ) → r < 32 → levelOf r ≤ L → held other r ≡ held′ other r)
     → Gains L s me page mode rows held o → Gains L t me page mode rows′ held′ o′
-    → (told (o .answer) ≡ told (o′ .answer)) × Alike L (o .state) (o′ .state)
+    → Same L o o′
 gains-same L s t me page mode rows rows′ held held′ o o′ b low a f g x y =
     let due : dueTick s ≡ dueTick t = rw (a .clock, a .delay) in
     let new : newHolding s mode ≡ newHolding t mode = (λ j. record { pin = pinOf mode; arrival = due j; touch = a .clock j }) in (

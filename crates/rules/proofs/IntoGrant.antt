@@ -1,36 +1,33 @@
 -- A grant to a row that does not hold the slot, due after the delay; the grant of step 3 on a slot that has the page.
 use mathlib.Core.Path.{_≡_, refl, _∙_, ap}
-use mathlib.Core.Bool.{Bool, true, false, cond, _&&_, _||_, not}
+use mathlib.Core.Bool.{Bool, false, cond, _&&_}
 use Prim.Native.Nat.{ℕ, _<_, _≤_}
 use native.Mathlib.Omega.{arith}
 use borrow.Author.Tests.{lt-leb}
 use lib.Dec.{leb, eqb}
 use Rattle.seq.specs.declared.Found.the-variants.{At}
-use Rattle.seq.proofs.Tests.{true-false, and-false-right}
 use Rattle.model.specs.declared.Mode.{Mode}
 use Rattle.model.specs.declared.Cause.the-variants.{Taken}
 use Rattle.model.specs.declared.Back.{Back}
 use Rattle.model.specs.declared.Back.the-variants.{Nothing}
 use Rattle.model.specs.declared.Answer.the-variants.{Fetch}
 use Rattle.model.specs.declared.Condition.the-variants.{Idle, Fetching}
-use Rattle.model.specs.declared.Pin.{Pin}
-use Rattle.model.specs.declared.Pin.the-variants.{Absent, Unpinned, Read, Write}
 use Rattle.model.specs.declared.Holding.{Holding}
 use Rattle.model.specs.declared.State.{State}
 use Rattle.model.specs.Parties.{levelOf}
 use Rattle.model.specs.State.{emptyHolding, rowAt, holdingAt}
-use Rattle.model.specs.Words.{isHeld, isPin, isWrite, pinOf, conflict, holds, seen, slotOf}
+use Rattle.model.specs.Words.{isHeld, pinOf, holds, seen, slotOf}
 use Rattle.model.specs.Changes.{killed, killedRow}
 use Rattle.model.proofs.StateLaws.{Sized}
 use Rattle.model.proofs.ChangeLaws.{killed-row, killed-holding, sized-killed, killed-clock, killed-delay, killed-size}
+use Rattle.model.proofs.SeenLaws.{not-seen}
 use Rattle.rules.specs.Answers.{told, word, value}
 use Rattle.rules.specs.Calls.{heldWith, granted, conflicts, step3}
 use Rattle.rules.proofs.SoundFacts.{Sound}
 use Rattle.rules.proofs.Alike.{holdingOn}
 use Rattle.rules.proofs.PageLaws.{found-slot, killed-slot-of, killed-on}
-use Rattle.rules.proofs.GrantLaws.{grantedHolding, granted-row, granted-on, granted-size, granted-delay, granted-clock}
+use Rattle.rules.proofs.GrantLaws.{grantedHolding, granted-row, granted-on, granted-size, granted-delay, granted-clock, unheld-spared}
 use Rattle.rules.proofs.IntoGain.{dueTick, newHolding, Gains, gains-as}
-use Rattle.rules.proofs.IntoSeen.{not-seen}
 
 -- the slot and the page to write back are not told
 pub fetch-told : (due slot : ℕ) (back : Back) → told (Fetch due slot back) ≡ told (Fetch due 0 Nothing)
@@ -65,23 +62,10 @@ granted-gains L s u size delay clock z me slot page r b found none least mode ba
         ap (λ (x : Bool). heldWith x (holdingAt u slot me) (pinOf mode) (dueTick s) (u .clock)) none
         ∙ ap {B = Holding} (λ (n : ℕ). record { pin = pinOf mode; arrival = dueTick s; touch = n }) clock
 
--- what is not held conflicts with nothing
-pub unheld-conflict : (mode : Mode) (p : Pin) → isHeld p ≡ false → conflict (pinOf mode) p ≡ false
-unfolding conflict
-unheld-conflict mode Absent e = go (isPin (pinOf mode))
-  where
-    go : (b : Bool) → (b && false) && (isWrite (pinOf mode) || false) ≡ false
-    go true = refl
-    go false = refl
-unheld-conflict mode Unpinned e = true-false e
-unheld-conflict mode Read e = true-false e
-unheld-conflict mode Write e = true-false e
-
 -- step 3 on a slot that no row up to L holds
 module _ (L : ℕ) (s : State) (z : Sound s) (me slot page : ℕ) (r : me < 32) (low : levelOf me ≤ L) (found : slotOf s page ≡ At slot) (hidden : seen s L slot ≡ false) (mode : Mode) where
   spared : (q : ℕ) → q < 32 → levelOf q ≤ L → conflicts s me slot mode q ≡ false
-  unfolding conflicts
-  spared q h l = and-false-right (not (eqb q me)) (conflict (pinOf mode) (holdingAt s slot q .pin)) (unheld-conflict mode (holdingAt s slot q .pin) (not-seen s L slot q hidden h l))
+  spared q h l = unheld-spared s me slot mode q (not-seen s L slot q hidden h l)
 
   pub hidden-gains : Gains L s me page mode (rowAt s) (holdingOn s) (step3 s me slot mode)
   unfolding step3

@@ -1,36 +1,30 @@
 -- A request for a page that no row up to L holds, where a slot is open to L: what L sees gains the requester's holding and nothing else changes.
 use mathlib.Core.Path.{_≡_, refl, sym, _∙_, ap, subst}
-use mathlib.Core.Bool.{Bool, true, false, cond, not}
+use mathlib.Core.Bool.{Bool, true, false, cond}
 use Prim.Native.Nat.{ℕ, _<_, _≤_}
 use native.Mathlib.Omega.{arith}
 use borrow.Author.Tests.{ne-eqb}
 use Rattle.seq.specs.declared.Found.{Found}
 use Rattle.seq.specs.declared.Found.the-variants.{At, Nowhere}
 use Rattle.model.specs.declared.Mode.{Mode}
-use Rattle.model.specs.declared.Pin.{Pin}
-use Rattle.model.specs.declared.Pin.the-variants.{Absent, Unpinned, Read, Write}
 use Rattle.model.specs.declared.Outcome.{Outcome}
 use Rattle.model.specs.declared.Holding.{Holding}
 use Rattle.model.specs.declared.State.{State}
 use Rattle.model.specs.Parties.{levelOf}
 use Rattle.model.specs.State.{emptyHolding, rowAt, slotAt, holdingAt}
-use Rattle.model.specs.Words.{hasPage, isHeld, isPin, holds, pins, seen, seesDormant, slotOf}
+use Rattle.model.specs.Words.{hasPage, isHeld, pins, seen, seesDormant, slotOf}
+use Rattle.model.proofs.ContentLaws.{page-has}
+use Rattle.model.proofs.PinLaws.{not-pinned}
+use Rattle.model.proofs.SeenLaws.{none-seen, not-seen, seen-lower}
 use Rattle.rules.specs.Choice.{chosen}
 use Rattle.rules.specs.Calls.{step3, intoSlot, servedAt, served}
 use Rattle.rules.proofs.SoundFacts.{Sound}
 use Rattle.rules.proofs.Alike.{holdingOn}
-use Rattle.rules.proofs.PageLaws.{page-has, finds}
+use Rattle.rules.proofs.PageLaws.{finds, on-slot}
+use Rattle.rules.proofs.ChoiceOpen.{chosen-open}
 use Rattle.rules.proofs.IntoGain.{Gains, gains-as}
 use Rattle.rules.proofs.IntoGrant.{hidden-gains}
 use Rattle.rules.proofs.IntoFill.{leftRow, leftHolding, into-gains}
-use Rattle.rules.proofs.IntoSeen.{none-seen, not-seen, on-slot}
-use Rattle.rules.proofs.ChoiceOpen.{seen-lower, chosen-open}
-
-pub unheld-pin : (p : Pin) → isHeld p ≡ false → isPin p ≡ false
-unheld-pin Absent e = refl
-unheld-pin Unpinned e = refl
-unheld-pin Read e = e
-unheld-pin Write e = e
 
 -- no row up to L holds the page
 abbrev pub Nobody : ℕ → State → ℕ → Type 0
@@ -45,9 +39,9 @@ pub served-absent : (s : State) (me page : ℕ) (mode : Mode) → slotOf s page 
 unfolding served
 served-absent s me page mode e = ap (λ (f : Found). servedAt f s me page mode) e
 
-pub served-hidden : (s : State) (me page : ℕ) (mode : Mode) (i : ℕ) → slotOf s page ≡ At i → seen s (levelOf me) i ≡ false → levelOf me ≤ 2 → served s me page mode ≡ step3 s me i mode
+pub served-unseen : (s : State) (me page : ℕ) (mode : Mode) (i : ℕ) → slotOf s page ≡ At i → seen s (levelOf me) i ≡ false → levelOf me ≤ 2 → served s me page mode ≡ step3 s me i mode
 unfolding served seesDormant
-served-hidden s me page mode i e h l =
+served-unseen s me page mode i e h l =
     ap (λ (f : Found). servedAt f s me page mode) e
     ∙ rw (h, ne-eqb (levelOf me) 3 (λ q. omega arith))
 
@@ -55,7 +49,7 @@ module _ (L : ℕ) (s : State) (z : Sound s) (me page : ℕ) (mode : Mode) (most
   -- taking a slot that is open to L takes nothing from the rows up to L
   module _ (i : ℕ) (b : i < s .size) (o : seen s L i ≡ false) where
     no-pin : (q : ℕ) → q < 32 → levelOf q ≤ L → pins s i q ≡ false
-    no-pin q h l = unheld-pin (holdingAt s i q .pin) (not-seen s L i q o h l)
+    no-pin q h l = not-pinned (holdingAt s i q .pin) (not-seen s L i q o h l)
 
     kept-row : (q : ℕ) → q < 32 → levelOf q ≤ L → leftRow s i q ≡ rowAt s q
     kept-row q h l = rw (no-pin q h l)
@@ -88,5 +82,5 @@ module _ (L : ℕ) (s : State) (z : Sound s) (me page : ℕ) (mode : Mode) (most
           (open-into (k .0) (k .2 .0) (k .2 .1) e)
       go (At i) e =
           let h = nobody-seen L s page i nobody e in
-          by (step3 s me i mode) (served-hidden s me page mode i e (seen-lower s L (levelOf me) i low h) (omega arith))
+          by (step3 s me i mode) (served-unseen s me page mode i e (seen-lower s L (levelOf me) i low h) (omega arith))
           (hidden-gains L s z me i page r low e h mode)

@@ -4,7 +4,6 @@ use mathlib.Core.Bool.{Bool, true, false, cond, _||_}
 use Prim.Native.Nat.{ℕ, _<_, _≤_}
 use native.Mathlib.Omega.{arith}
 use borrow.Author.Tests.{not-false}
-use lib.Dec.{eqb}
 use Rattle.seq.specs.Below.{anyBelow}
 use Rattle.seq.specs.declared.Found.{Found}
 use Rattle.seq.specs.declared.Found.the-variants.{At, Nowhere}
@@ -13,66 +12,28 @@ use Rattle.seq.proofs.BelowLaws.{any-hit, any-none}
 use Rattle.seq.proofs.PairLaws.{Paired}
 use Rattle.model.specs.declared.Mode.{Mode}
 use Rattle.model.specs.declared.Cause.the-variants.{Taken}
-use Rattle.model.specs.declared.Condition.the-variants.{Waiting}
-use Rattle.model.specs.declared.Content.{Content}
-use Rattle.model.specs.declared.Content.the-variants.{Empty, Filled}
-use Rattle.model.specs.declared.Outcome.{Outcome}
 use Rattle.model.specs.declared.Row.{Row}
 use Rattle.model.specs.declared.Holding.{Holding}
 use Rattle.model.specs.declared.State.{State}
 use Rattle.model.specs.Parties.{levelOf}
 use Rattle.model.specs.State.{emptyHolding, rowAt, slotAt}
-use Rattle.model.specs.Words.{isLive, isFilled, pageIn, hasPage, isHeld, pins, seen, isOpen, slotOf}
+use Rattle.model.specs.Words.{hasPage, isHeld, pins, seen, isOpen, slotOf}
 use Rattle.model.specs.Changes.{killedRow}
-use Rattle.model.proofs.StateLaws.{Sized, row-put}
-use Rattle.rules.specs.Answers.{told}
+use Rattle.model.proofs.ContentLaws.{has-same}
+use Rattle.model.proofs.SeenLaws.{open-seen}
 use Rattle.rules.specs.Choice.{chosen}
-use Rattle.rules.specs.Calls.{waiting, intoSlot, served}
+use Rattle.rules.specs.Calls.{intoSlot, served}
 use Rattle.rules.proofs.SoundFacts.{Sound}
-use Rattle.rules.proofs.Alike.{holdingOn, Alike}
+use Rattle.rules.proofs.Alike.{holdingOn, Alike, Same}
+use Rattle.rules.proofs.AlikeLaws.{alike-sym}
 use Rattle.rules.proofs.PageLaws.{found-slot}
-use Rattle.rules.proofs.IntoSeen.{SamePage, alike-back, open-seen, open-alike}
+use Rattle.rules.proofs.SameSlots.{SamePage, same-open}
+use Rattle.rules.proofs.SameChanges.{same-waiting}
+use Rattle.rules.proofs.ChoicePages.{page-pins}
+use Rattle.rules.proofs.ChoiceSame.{SeesAll, chosen-paired}
 use Rattle.rules.proofs.IntoGain.{gains-same}
 use Rattle.rules.proofs.IntoFill.{leftRow, leftHolding, into-gains}
 use Rattle.rules.proofs.IntoOpen.{Nobody, nobody-seen, served-absent, open-gains}
-use Rattle.rules.proofs.ChoicePages.{page-pins}
-use Rattle.rules.proofs.ChoiceSame.{SeesAll, chosen-paired}
-
--- two outcomes that L cannot tell apart
-abbrev pub Same : ℕ → Outcome → Outcome → Type 0
-Same L o u = (told (o .answer) ≡ told (u .answer)) × Alike L (o .state) (u .state)
-
--- a wait alters the row alone
-waiting-row : (s : State) → Sized s → (me page : ℕ) (mode : Mode) (q : ℕ) → me < 32
-    → rowAt (waiting s me page mode .state) q ≡ cond (eqb q me) (record { condition = Waiting page mode; deadline = rowAt s me .deadline }) (rowAt s q)
-unfolding waiting
-waiting-row s z me page mode q h = row-put s z me (record { condition = Waiting page mode; deadline = rowAt s me .deadline }) q h
-
-waiting-on : (s : State) (me page : ℕ) (mode : Mode) (other q : ℕ) → holdingOn (waiting s me page mode .state) other q ≡ holdingOn s other q
-unfolding waiting holdingOn slotOf
-waiting-on s me page mode other q = refl
-
-pub waiting-same : (L : ℕ) (s t : State) → Sized s → Sized t → Alike L s t → (me page : ℕ) (mode : Mode) → me < 32 → levelOf me ≤ L → Same L (waiting s me page mode) (waiting t me page mode)
-unfolding waiting
-waiting-same L s t z y a me page mode b low = (
-  refl,
-  record {
-    size = a .size;
-    delay = a .delay;
-    clock = a .clock;
-    row = λ q h l.
-        waiting-row s z me page mode q b
-        ∙ ap (λ (x : Row). cond (eqb q me) (record { condition = Waiting page mode; deadline = x .deadline }) (rowAt s q)) (a .row me b low)
-        ∙ ap (λ (x : Row). cond (eqb q me) (record { condition = Waiting page mode; deadline = rowAt t me .deadline }) x) (a .row q h l)
-        ∙ sym (waiting-row t y me page mode q b);
-    holding = λ other q h l. waiting-on s me page mode other q ∙ a .holding other q h l ∙ sym (waiting-on t me page mode other q);
-  },
-)
-
-has-same : (other : ℕ) (c d : Content) → isFilled c ≡ true → isFilled d ≡ true → pageIn c ≡ pageIn d → hasPage other c ≡ hasPage other d
-has-same other Empty d f g e = true-false (sym f)
-has-same other (Filled p arrival dirty lowest) Empty f g e = true-false (sym g)
-has-same other (Filled p arrival dirty lowest) (Filled q arrival′ dirty′ lowest′) f g e = ap (λ (n : ℕ). eqb n other) e
 
 module _ (L : ℕ) (s t : State) (z : Sound s) (y : Sound t) (a : Alike L s t) (me page : ℕ) (mode : Mode) (r : me < 32) (low : levelOf me ≤ L) where
   -- taking the slots of one page leaves the same to the rows up to L
@@ -89,7 +50,7 @@ module _ (L : ℕ) (s t : State) (z : Sound s) (y : Sound t) (a : Alike L s t) (
         ∙ ap (λ (x : Holding). cond (pins t j q || hasPage other (slotAt t j .content)) emptyHolding x) (a .holding other q h l)
 
   into-paired : slotOf s page ≡ Nowhere → slotOf t page ≡ Nowhere → (f g : Found) → Paired (SamePage L s t) f g → Same L (intoSlot f s me page mode) (intoSlot g t me page mode)
-  into-paired e u Nowhere Nowhere p = waiting-same L s t (z .sized) (y .sized) a me page mode r low
+  into-paired e u Nowhere Nowhere p = same-waiting L s t (z .sized) (y .sized) a me page mode r low
   into-paired e u Nowhere (At j) p = absurd p
   into-paired e u (At i) Nowhere p = absurd p
   into-paired e u (At i) (At j) p =
@@ -110,10 +71,10 @@ none-open : (L : ℕ) (s : State) → anyBelow (s .size) (isOpen s L) ≡ false 
 unfolding isOpen
 none-open L s e i b = not-false (seen s L i) (any-none (isOpen s L) (s .size) i e b)
 
-pub into-same : (L : ℕ) (s t : State) (me page : ℕ) (mode : Mode) → L ≤ 2 → me < 32 → levelOf me ≤ L → Sound s → Sound t → Alike L s t → page ≤ 4095 → isLive (rowAt s me .condition) ≡ true
+pub into-same : (L : ℕ) (s t : State) (me page : ℕ) (mode : Mode) → L ≤ 2 → me < 32 → levelOf me ≤ L → Sound s → Sound t → Alike L s t
     → ((r : ℕ) → r < 32 → levelOf r ≤ L → isHeld (holdingOn s page r .pin) ≡ false)
-    → (told (served s me page mode .answer) ≡ told (served t me page mode .answer)) × Alike L (served s me page mode .state) (served t me page mode .state)
-into-same L s t me page mode most r low z y a _ _ nobody = go (anyBelow (s .size) (isOpen s L)) refl
+    → Same L (served s me page mode) (served t me page mode)
+into-same L s t me page mode most r low z y a nobody = go (anyBelow (s .size) (isOpen s L)) refl
   where
     nobody′ : Nobody L t page
     nobody′ q h l = sym (ap (λ (x : Holding). isHeld (x .pin)) (a .holding page q h l)) ∙ nobody q h l
@@ -121,13 +82,13 @@ into-same L s t me page mode most r low z y a _ _ nobody = go (anyBelow (s .size
     go : (b : Bool) → anyBelow (s .size) (isOpen s L) ≡ b → Same L (served s me page mode) (served t me page mode)
     go true e =
         let x = any-hit (isOpen s L) (s .size) e in
-        let x′ = any-hit (isOpen t L) (t .size) (open-alike L s t z y a L (omega arith) e) in
+        let x′ = any-hit (isOpen t L) (t .size) (same-open L s t z y a L (omega arith) e) in
         gains-same L s t me page mode (rowAt s) (rowAt t) (holdingOn s) (holdingOn t) (served s me page mode) (served t me page mode) r low a (a .row) (a .holding)
         (open-gains L s z me page mode most r low nobody (x .0) (x .1) (open-seen s L (x .0) (x .2)))
         (open-gains L t y me page mode most r low nobody′ (x′ .0) (x′ .1) (open-seen t L (x′ .0) (x′ .2)))
     go false e =
         let all = none-open L s e in
-        let all′ = none-open L t (not-true-false (anyBelow (t .size) (isOpen t L)) (λ q. true-false (sym (open-alike L t s y z (alike-back L s t a) L (omega arith) q) ∙ e))) in
+        let all′ = none-open L t (not-true-false (anyBelow (t .size) (isOpen t L)) (λ q. true-false (sym (same-open L t s y z (alike-sym a) L (omega arith) q) ∙ e))) in
         let absent = seen-absent L s page all nobody (λ i q. found-slot s page i q .0) in
         let absent′ = seen-absent L t page all′ nobody′ (λ i q. found-slot t page i q .0) in
         rw (served-absent s me page mode absent, served-absent t me page mode absent′)

@@ -2,19 +2,18 @@
 use mathlib.Core.Path.{_≡_, refl}
 use mathlib.Core.Bool.{true, false}
 use mathlib.Core.List.{List, [], _∷_}
-use Prim.Native.Nat.{ℕ, zero, suc, _<_}
+use Prim.Native.Nat.{ℕ, _<_}
 use native.Mathlib.Omega.{arith}
 use Rattle.seq.specs.Below.{atFound}
 use Rattle.seq.specs.declared.Found.{Found}
 use Rattle.seq.specs.declared.Found.the-variants.{At, Nowhere}
-use Rattle.seq.proofs.PickLaws.{pick-is}
 use Rattle.model.specs.declared.Condition.{Condition}
 use Rattle.model.specs.declared.Condition.the-variants.{Free, Idle, Fetching, Waiting, Killed}
 use Rattle.model.specs.declared.State.{State}
 use Rattle.model.specs.declared.Outcome.{Outcome}
 use Rattle.model.specs.Parties.{rowOf, modeOf}
-use Rattle.model.specs.State.{rowAt, slotAt, holdingAt}
-use Rattle.model.specs.Words.{hasPage, pins, slotOf}
+use Rattle.model.specs.State.{rowAt, holdingAt}
+use Rattle.model.specs.Words.{pins, slotOf}
 use Rattle.model.proofs.PinLaws.{pin-held}
 use Rattle.rules.specs.Refusals.{
   pinsPage,
@@ -33,8 +32,9 @@ use Rattle.rules.specs.Calls.{unless, started, begun, unpinnedAt, unpinn
 use Rattle.rules.specs.Run.{Call, start, begin, request, retry, unpin, end, tick, look, view, count, outcome, after}
 use Rattle.rules.specs.Sound.{sound}
 use Rattle.rules.proofs.SoundFacts.{Sound, facts}
+use Rattle.rules.proofs.PageLaws.{found-slot}
+use Rattle.rules.proofs.RefusalFacts.{start-taken, begin-taken, request-taken, retry-taken, unpin-taken, end-taken, tick-taken, unless-is}
 use Rattle.rules.proofs.SoundBack.{back}
-use Rattle.rules.proofs.RefusalFacts.{start-taken, begin-taken, request-taken, retry-taken, unpin-taken, end-taken, tick-taken}
 use Rattle.rules.proofs.KeptFresh.{fresh-facts}
 use Rattle.rules.proofs.KeptDrop.{ended-sound}
 use Rattle.rules.proofs.KeptOwn.{begun-sound, unpinned-sound}
@@ -44,8 +44,7 @@ use Rattle.rules.proofs.KeptServe.{served-sound}
 
 -- a refused call changes nothing
 unless-kept : (n : ℕ) (s : State) (o : Outcome) → Sound s → (n ≡ 0 → Sound (o .state)) → Sound (unless n s o .state)
-unless-kept zero s o h f = f refl
-unless-kept (suc n) s o h f = h
+unless-kept n s o h f = unless-is (λ x. Sound (x .state)) n s o (λ _. h) f
 
 idle-asking : (s : State) (row : ℕ) → row < 32 → Sound s → rowAt s row .condition ≡ Idle → Asking s row
 idle-asking s row b h e = record { row-is = b; live = rw e; settled = rw e at (h .row row b) }
@@ -63,14 +62,13 @@ again s row b h = go (rowAt s row .condition) refl
         served-sound s row page mode h (record { row-is = b; live = rw e; settled = w .0 }) (w .1) (w .2)
 
 unpin-kept : (s : State) (row page : ℕ) → row < 32 → Sound s → rowAt s row .condition ≡ Idle → pinsPage s row page ≡ true → Sound (atFound (slotOf s page) (unpinnedAt s row) s)
-unfolding pinsPage slotOf
+unfolding pinsPage
 unpin-kept s row page b h i p = go (slotOf s page) refl p
   where
     go : (f : Found) → slotOf s page ≡ f → atFound f (λ slot. pins s slot row) false ≡ true → Sound (atFound f (unpinnedAt s row) s)
     go Nowhere e q = h
     go (At slot) e q =
-        let x = pick-is (λ j. hasPage page (slotAt s j .content)) (λ j o. false) (s .size) slot e in
-        unpinned-sound s row slot b (omega (arith, x .0, h .size-most)) h i (pin-held (holdingAt s slot row .pin) q)
+        unpinned-sound s row slot b (omega (arith, found-slot s page slot e .0, h .size-most)) h i (pin-held (holdingAt s slot row .pin) q)
 
 pub kept-facts : (s : State) (c : Call) → Sound s → Sound (outcome s c .state)
 unfolding outcome started begun requested retried unpinned ended ticked lookedAt viewed counted
@@ -79,17 +77,17 @@ kept-facts s (start slots delay) h = unless-kept (startRefusal slots delay) s _ 
     fresh-facts slots delay (t .slots-least) (t .slots-most) (t .delay-least) (t .delay-most))
 kept-facts s (begin level number deadline) h = unless-kept (beginRefusal s level number deadline) s _ h (λ e.
     let t = begin-taken s level number deadline e in
-    begun-sound s (rowOf level number) deadline (t .row-is) h (t .free) (t .later))
+    begun-sound s (rowOf level number) deadline (t .names .row-is) h (t .free) (t .later))
 kept-facts s (request level number page mode) h = unless-kept (requestRefusal s level number page mode) s _ h (λ e.
     let t = request-taken s level number page mode e in
-    served-sound s (rowOf level number) page (modeOf mode) h (idle-asking s (rowOf level number) (t .row-is) h (t .idle)) (t .page-is) (t .allowed))
+    served-sound s (rowOf level number) page (modeOf mode) h (idle-asking s (rowOf level number) (t .names .row-is) h (t .idle)) (t .page-is) (t .allowed))
 kept-facts s (retry level number) h = unless-kept (retryRefusal s level number) s _ h (λ e.
-    again s (rowOf level number) (retry-taken s level number e) h)
+    again s (rowOf level number) (retry-taken s level number e .row-is) h)
 kept-facts s (unpin level number page) h = unless-kept (unpinRefusal s level number page) s _ h (λ e.
     let t = unpin-taken s level number page e in
-    unpin-kept s (rowOf level number) page (t .row-is) h (t .idle) (t .pinned))
+    unpin-kept s (rowOf level number) page (t .names .row-is) h (t .idle) (t .pinned))
 kept-facts s (end level number) h = unless-kept (endRefusal s level number) s _ h (λ e.
-    ended-sound s (rowOf level number) (end-taken s level number e) h)
+    ended-sound s (rowOf level number) (end-taken s level number e .row-is) h)
 kept-facts s tick h = unless-kept (tickRefusal s) s _ h (λ e. ticked-sound s h (tick-taken s e))
 kept-facts s (look level number) h = unless-kept (lookRefusal level number) s _ h (λ _. h)
 kept-facts s (view level page) h = unless-kept (viewRefusal level page) s _ h (λ _. h)

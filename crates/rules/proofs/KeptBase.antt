@@ -1,7 +1,7 @@
 -- What sound says but for the rows; and what a slot and a holding may become without harm to it.
 use mathlib.Core.Path.{_≡_, refl, sym, _∙_}
 use mathlib.Core.Bool.{Bool, true, false, cond}
-use Prim.Native.Nat.{ℕ, _<_, _≤_}
+use Prim.Native.Nat.{ℕ, _≤_}
 use native.Mathlib.Omega.{arith}
 use Rattle.seq.proofs.Tests.{true-false}
 use Rattle.model.specs.declared.Content.{Content}
@@ -10,52 +10,20 @@ use Rattle.model.specs.declared.Pin.the-variants.{Unpinned}
 use Rattle.model.specs.declared.Slot.{Slot}
 use Rattle.model.specs.declared.Holding.{Holding}
 use Rattle.model.specs.declared.State.{State}
-use Rattle.model.specs.Parties.{lastClock}
-use Rattle.model.specs.State.{emptyHolding, rowAt, slotAt, holdingAt}
-use Rattle.model.specs.Words.{isFilled, pageIn, arrivalIn, lowestIn, isHeld, holds, conflict}
+use Rattle.model.specs.State.{emptyHolding}
+use Rattle.model.specs.Words.{isFilled, pageIn, arrivalIn, lowestIn, isHeld, conflict}
 use Rattle.model.specs.Changes.{dirtied, dirtiedContent}
-use Rattle.model.proofs.StateLaws.{Sized}
 use Rattle.model.proofs.PinLaws.{no-pin}
 use Rattle.rules.specs.Sound.{pinAllowed}
 use Rattle.rules.specs.Calls.{withLowest}
-use Rattle.rules.proofs.SoundFacts.{SlotSound, RowSound, Held, Sound}
+use Rattle.rules.proofs.SoundFacts.{Sound, Facts, RowsSound}
 
 -- what sound says but for the rows
-pub record Base (s : State) : Type 0 where
-  pub sized : Sized s
-  pub size-least : 1 ≤ s .size
-  pub size-most : s .size ≤ 64
-  pub delay-least : 1 ≤ s .delay
-  pub delay-most : s .delay ≤ 255
-  pub clock-most : s .clock ≤ lastClock
-  pub slot : (i : ℕ) → i < 64 → SlotSound s i
-  pub one-slot : (i j : ℕ) → i < 64 → j < 64 → isFilled (slotAt s i .content) ≡ true → isFilled (slotAt s j .content) ≡ true
-      → pageIn (slotAt s i .content) ≡ pageIn (slotAt s j .content) → i ≡ j
-  pub held : (i r : ℕ) → i < 64 → r < 32 → holds s i r ≡ true → Held s i r
-  pub unheld : (i r : ℕ) → i < 64 → r < 32 → holds s i r ≡ false → holdingAt s i r ≡ emptyHolding
-  pub no-conflict : (i r q : ℕ) → i < 64 → r < 32 → q < 32 → (r ≡ q → ⊥) → conflict (holdingAt s i r .pin) (holdingAt s i q .pin) ≡ false
+abbrev pub Base : State → Type 0
+Base s = Facts Unit s
 
--- what it says of the rows
-abbrev pub RowsSound : State → Type 0
-RowsSound s = (r : ℕ) → r < 32 → RowSound s r (rowAt s r .condition) (rowAt s r .deadline)
-
-pub base : (s : State) → Sound s → Base s
-base s h = record {
-  sized = h .sized;
-  size-least = h .size-least;
-  size-most = h .size-most;
-  delay-least = h .delay-least;
-  delay-most = h .delay-most;
-  clock-most = h .clock-most;
-  slot = h .slot;
-  one-slot = h .one-slot;
-  held = h .held;
-  unheld = h .unheld;
-  no-conflict = h .no-conflict;
-}
-
-pub whole : (s : State) → Base s → RowsSound s → Sound s
-whole s h rows = record {
+with-rows : {R Q : Type 0} (s : State) → Facts R s → Q → Facts Q s
+with-rows s h rows = record {
   sized = h .sized;
   size-least = h .size-least;
   size-most = h .size-most;
@@ -69,6 +37,12 @@ whole s h rows = record {
   unheld = h .unheld;
   no-conflict = h .no-conflict;
 }
+
+pub base : (s : State) → Sound s → Base s
+base s h = with-rows s h tt
+
+pub whole : (s : State) → Base s → RowsSound s → Sound s
+whole s h rows = with-rows s h rows
 
 -- a slot with the same page, but for the dirty mark, a lower lowest level and a later touch
 pub record SlotKept (x y : Slot) : Type 0 where

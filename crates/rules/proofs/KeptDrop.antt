@@ -1,16 +1,16 @@
 -- Rows that lose all their holdings and are no more live, by a kill or by end, leave a sound state.
-use mathlib.Core.Path.{_≡_, refl, sym, _∙_}
-use mathlib.Core.Bool.{Bool, true, false}
+use mathlib.Core.Path.{_≡_, refl, sym, _∙_, ap}
+use mathlib.Core.Bool.{Bool, true, false, cond}
 use Prim.Native.Nat.{ℕ, _<_}
 use native.Mathlib.Omega.{arith}
 use lib.Dec.{eqb}
-use Rattle.seq.proofs.Tests.{true-false}
-use Rattle.seq.proofs.OneLaws.{eqb-sym}
+use Rattle.seq.proofs.Tests.{true-false, eqb-sym}
 use Rattle.model.specs.declared.Cause.{Cause}
+use Rattle.model.specs.declared.Row.{Row}
 use Rattle.model.specs.declared.State.{State}
 use Rattle.model.specs.State.{freeRow, emptyHolding, rowAt, slotAt, holdingAt, putRow}
 use Rattle.model.specs.Words.{isLive, holds}
-use Rattle.model.specs.Changes.{released, killed}
+use Rattle.model.specs.Changes.{dirtied, released, killed, killedRow}
 use Rattle.model.proofs.StateLaws.{Sized, row-put, sized-put-row}
 use Rattle.model.proofs.ChangeLaws.{wroteSlot, released-holding, released-slot, sized-released, killed-row, killed-slot, killed-holding, sized-killed, killed-clock, killed-delay, killed-size}
 use Rattle.rules.proofs.SoundFacts.{RowSound, Sound}
@@ -60,46 +60,42 @@ dropped-sound some s t b rows d =
         row-kept s t r (λ i h. same (d .kept-holding i r h g e)) (λ i h _. d .kept-holding i r h g e)
         (d .clock) (d .kept-row r g e) (rows r g e)
 
-module _ (some : ℕ → Bool) (s : State) (z : Sized s) where
-  killed-dropped : (cause : Cause) → Dropped some s (killed some cause s)
-  killed-dropped cause = record {
-    sized = sized-killed some s z cause;
-    size = killed-size some cause s;
-    delay = killed-delay some cause s;
-    clock = killed-clock some cause s;
-    slot = λ i h. slot-marked (wroteSlot some s i) (slotAt s i) (slotAt (killed some cause s) i) (killed-slot some s z cause i h);
-    touch = λ i h. marked-touch (wroteSlot some s i) (slotAt s i) (slotAt (killed some cause s) i) (killed-slot some s z cause i h);
-    gone-row = λ r g e. rw (killed-row some s z cause r g, e) refl;
-    gone-holding = λ i r h g e. killed-holding some s z cause i r g ∙ rw e;
-    kept-row = λ r g e. killed-row some s z cause r g ∙ rw e;
-    kept-holding = λ i r h g e. killed-holding some s z cause i r g ∙ rw e;
-  }
-
-  released-dropped : (row : ℕ) → row < 32 → ((r : ℕ) → some r ≡ eqb r row) → Dropped some s (putRow (released some s) row freeRow)
-  unfolding released
-  released-dropped row b f = record {
-    sized = sized-put-row (released some s) (sized-released some s z) row freeRow;
-    size = refl;
-    delay = refl;
-    clock = refl;
-    slot = λ i h. slot-marked (wroteSlot some s i) (slotAt s i) (slotAt (released some s) i) (released-slot some s z i h);
-    touch = λ i h. marked-touch (wroteSlot some s i) (slotAt s i) (slotAt (released some s) i) (released-slot some s z i h);
-    gone-row = λ r g e. rw (row-put (released some s) (sized-released some s z) row freeRow r b, ← f r, e) refl;
-    gone-holding = λ i r h g e. released-holding some s z i r g ∙ rw e;
-    kept-row = λ r g e. row-put (released some s) (sized-released some s z) row freeRow r b ∙ rw (← f r, e);
-    kept-holding = λ i r h g e. released-holding some s z i r g ∙ rw e;
-  }
+-- the slots and holdings as a release leaves them, and one row put in place of each of the set
+released-dropped : (some : ℕ → Bool) (s t : State) (x : Row) → Sized t → t .size ≡ s .size → t .delay ≡ s .delay → t .clock ≡ s .clock
+    → ((i : ℕ) → i < 64 → slotAt t i ≡ cond (wroteSlot some s i) (dirtied (slotAt s i)) (slotAt s i))
+    → ((i r : ℕ) → r < 32 → holdingAt t i r ≡ cond (some r) emptyHolding (holdingAt s i r))
+    → ((r : ℕ) → r < 32 → rowAt t r ≡ cond (some r) x (rowAt s r)) → ((r : ℕ) → RowSound t r (x .condition) (x .deadline)) → Dropped some s t
+released-dropped some s t x z size delay clock slots holdings rows own = record {
+  sized = z;
+  size = size;
+  delay = delay;
+  clock = clock;
+  slot = λ i h. slot-marked (wroteSlot some s i) (slotAt s i) (slotAt t i) (slots i h);
+  touch = λ i h. marked-touch (wroteSlot some s i) (slotAt s i) (slotAt t i) (slots i h);
+  gone-row = λ r g e. rw (rows r g, e) (own r);
+  gone-holding = λ i r h g e. holdings i r g ∙ rw e;
+  kept-row = λ r g e. rows r g ∙ rw e;
+  kept-holding = λ i r h g e. holdings i r g ∙ rw e;
+}
 
 -- the rows of the set need not be sound
 pub killed-rest : (some : ℕ → Bool) (cause : Cause) (s : State) → Base s → ((r : ℕ) → r < 32 → some r ≡ false → RowSound s r (rowAt s r .condition) (rowAt s r .deadline))
     → Sound (killed some cause s)
-killed-rest some cause s b rows = dropped-sound some s (killed some cause s) b rows (killed-dropped some s (b .sized) cause)
+killed-rest some cause s b rows =
+    dropped-sound some s (killed some cause s) b rows
+    (released-dropped some s (killed some cause s) (killedRow cause) (sized-killed some s (b .sized) cause) (killed-size some cause s) (killed-delay some cause s) (killed-clock some cause s)
+    (killed-slot some s (b .sized) cause) (killed-holding some s (b .sized) cause) (killed-row some s (b .sized) cause) (λ r. refl))
 
 pub killed-sound : (some : ℕ → Bool) (cause : Cause) (s : State) → Sound s → Sound (killed some cause s)
 killed-sound some cause s h = killed-rest some cause s (base s h) (λ r g _. h .row r g)
 
 -- end
 pub ended-sound : (s : State) (row : ℕ) → row < 32 → Sound s → Sound (putRow (released (eqb row) s) row freeRow)
+unfolding released
 ended-sound s row b h =
-    dropped-sound (eqb row) s (putRow (released (eqb row) s) row freeRow) (base s h) (λ r g _. h .row r g)
-    (released-dropped (eqb row) s (h .sized) row b (λ r. eqb-sym row r))
+    let u : State = released (eqb row) s in
+    let uz : Sized u = sized-released (eqb row) s (h .sized) in
+    dropped-sound (eqb row) s (putRow u row freeRow) (base s h) (λ r g _. h .row r g)
+    (released-dropped (eqb row) s (putRow u row freeRow) freeRow (sized-put-row u uz row freeRow) refl refl refl
+    (released-slot (eqb row) s (h .sized)) (released-holding (eqb row) s (h .sized))
+    (λ r g. row-put u uz row freeRow r b ∙ ap (λ (x : Bool). cond x freeRow (rowAt s r)) (eqb-sym r row)) (λ r. refl))

@@ -1,56 +1,42 @@
 -- A page put into a slot that no row pins, whose holders lose it, keeps a state sound.
 use mathlib.Core.Path.{_≡_, refl, sym, _∙_, ap}
 use mathlib.Core.Bool.{true, false}
-use Prim.Native.Nat.{ℕ, _+_, _<_, _≤_}
+use Prim.Native.Nat.{ℕ, _<_, _≤_}
 use native.Mathlib.Omega.{arith}
 use native.Mathlib.Decide.{ℕ-discrete}
-use borrow.Author.Tests.{eq-eqb, ne-eqb}
+use borrow.Author.Tests.{ne-eqb}
 use Rattle.seq.proofs.Tests.{true-false}
-use Rattle.model.specs.declared.Content.the-variants.{Filled}
-use Rattle.model.specs.declared.Slot.{Slot}
 use Rattle.model.specs.declared.State.{State}
 use Rattle.model.specs.State.{emptyHolding, rowAt, slotAt, holdingAt}
 use Rattle.model.specs.Words.{isFilled, pageIn, pins}
 use Rattle.model.specs.Changes.{cleared}
-use Rattle.model.proofs.StateLaws.{sized-put-slot}
-use Rattle.model.proofs.PutLaws.{slot-same, slot-other}
-use Rattle.model.proofs.ChangeLaws.{cleared-holding, sized-cleared}
 use Rattle.rules.specs.Calls.{filled}
 use Rattle.rules.proofs.SoundFacts.{Sound}
+use Rattle.rules.proofs.FillLaws.{filledSlot, sized-filled, filled-slot, filled-at, filled-holding, filled-empty}
 use Rattle.rules.proofs.KeptBase.{base, whole, slot-kept, HoldingKept, same, gone}
 use Rattle.rules.proofs.KeptChange.{SlotChange, kept-slot, new-slot, kept-holding, base-change}
 use Rattle.rules.proofs.KeptRows.{settled-kept, row-kept}
 use Rattle.rules.proofs.KeptNew.{Asking}
 
 module _ (s : State) (slot page level : ℕ) (h : Sound s) (b : slot < s .size) where
-  abbrev put : Slot
-  put = record { content = Filled page (s .clock + s .delay) false level; touch = s .clock }
-
   abbrev t : State
   t = filled s slot page level
 
-  below : slot < 64
-  below = omega (arith, h .size-most)
+  new-at : slotAt t slot ≡ filledSlot s page level
+  new-at = filled-at s (h .sized) (h .size-most) slot page level b
 
-  pub filled-slot : slotAt t slot ≡ put
-  unfolding filled cleared
-  filled-slot = slot-same s (h .sized) slot put below
+  empty-at : (r : ℕ) → r < 32 → holdingAt t slot r ≡ emptyHolding
+  empty-at = filled-empty s (h .sized) (h .size-most) slot page level b
 
   other-slot : (i : ℕ) → (i ≡ slot → ⊥) → slotAt t i ≡ slotAt s i
-  unfolding filled cleared
-  other-slot i e = slot-other s (h .sized) slot put i e
-
-  pub filled-holding : (r : ℕ) → r < 32 → holdingAt t slot r ≡ emptyHolding
-  unfolding filled
-  filled-holding r g = cleared-holding slot s (h .sized) slot r g ∙ rw (eq-eqb slot slot refl)
+  other-slot i e = filled-slot s (h .sized) (h .size-most) slot page level b i ∙ rw (ne-eqb i slot e)
 
   other-holding : (i r : ℕ) → r < 32 → (i ≡ slot → ⊥) → holdingAt t i r ≡ holdingAt s i r
-  unfolding filled
-  other-holding i r g e = cleared-holding slot s (h .sized) i r g ∙ rw (ne-eqb i slot e)
+  other-holding i r g e = filled-holding s (h .sized) (h .size-most) slot page level b i r g ∙ rw (ne-eqb i slot e)
 
   holdings : (i r : ℕ) → r < 32 → HoldingKept (holdingAt s i r) (holdingAt t i r)
   holdings i r g = elim (ℕ-discrete i slot) [
-    | yes e ↦ rw e (gone (filled-holding r g))
+    | yes e ↦ rw e (gone (empty-at r g))
     | no e ↦ same (other-holding i r g e)
   ]
 
@@ -69,17 +55,17 @@ module _ (s : State) (slot page level : ℕ) (h : Sound s) (b : slot < s .size) 
     slots i g = elim (ℕ-discrete i slot) [
       | yes e ↦ rw e (new-slot
           (record {
-            empty = λ w. true-false (rw filled-slot at w);
-            page = λ _. rw filled-slot p;
-            lowest = λ _. rw filled-slot l;
-            touch = rw filled-slot (omega arith);
-            arrival = λ _. rw filled-slot (omega arith);
+            empty = λ w. true-false (rw new-at at w);
+            page = λ _. rw new-at p;
+            lowest = λ _. rw new-at l;
+            touch = rw new-at (omega arith);
+            arrival = λ _. rw new-at (omega arith);
             started = λ _. b;
           })
-          (λ r f. rw (filled-holding r f))
+          (λ r f. rw (empty-at r f))
           (λ j f u w. elim (ℕ-discrete j slot) [
             | yes q ↦ sym q
-            | no q ↦ absurd (absent j f (rw (other-slot j q) at u) (sym (rw (filled-slot, other-slot j q) at w)))
+            | no q ↦ absurd (absent j f (rw (other-slot j q) at u) (sym (rw (new-at, other-slot j q) at w)))
           ]))
       | no e ↦ kept-slot (slot-kept (slotAt s i) (slotAt t i) (other-slot i e)) (rw (other-slot i e) (h .slot i g .touch))
     ]
@@ -88,7 +74,7 @@ module _ (s : State) (slot page level : ℕ) (h : Sound s) (b : slot < s .size) 
     unfolding filled cleared
     filled-sound =
         whole t (base-change s t (base s h) (record {
-          sized = sized-put-slot (cleared slot s) (sized-cleared slot s (h .sized)) slot put;
+          sized = sized-filled s (h .sized) (h .size-most) slot page level b;
           size = refl;
           delay = refl;
           clock = omega arith;
@@ -96,7 +82,7 @@ module _ (s : State) (slot page level : ℕ) (h : Sound s) (b : slot < s .size) 
           slot = slots;
           holding = λ i r _ g. kept-holding (holdings i r g);
           live = λ i r f g w. elim (ℕ-discrete i slot) [
-            | yes e ↦ true-false (sym (rw (e, filled-holding r g) at w))
+            | yes e ↦ true-false (sym (rw (e, empty-at r g) at w))
             | no e ↦ h .held i r f g (rw (other-holding i r g e) at w) .live
           ];
         }))

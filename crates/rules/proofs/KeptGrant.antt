@@ -20,23 +20,24 @@ use Rattle.model.proofs.StateLaws.{Sized, sized-put-slot, sized-put-holding}
 use Rattle.model.proofs.PutLaws.{slot-same, slot-other, holding-same, holding-other-slot, holding-other-row}
 use Rattle.model.proofs.PinLaws.{pin-held}
 use Rattle.rules.specs.Sound.{awaits}
-use Rattle.rules.specs.Calls.{withLowest, touched, granted}
+use Rattle.rules.specs.Calls.{touched, granted}
 use Rattle.rules.proofs.SoundFacts.{RowSound, Held, Sound}
+use Rattle.rules.proofs.GrantLaws.{grantedHolding, grantedSlot, grantedRow}
 use Rattle.rules.proofs.KeptBase.{Base, base, SlotKept, slot-kept, slot-touched, same}
 use Rattle.rules.proofs.KeptChange.{kept-slot, HoldingChange, kept-holding, new-holding, base-change}
 use Rattle.rules.proofs.KeptRows.{row-kept}
 use Rattle.rules.proofs.KeptOwn.{put-row-sound}
-use Rattle.rules.proofs.KeptNew.{Grantable, New, new, new-is, lowest-least}
+use Rattle.rules.proofs.KeptNew.{Grantable, New, new-is, lowest-least}
 
 module _ (s : State) (row slot : ℕ) (mode : Mode) (arrival : ℕ) (h : Sound s) (g : Grantable s row slot mode arrival) where
   abbrev k : Holding
-  k = new s row slot mode arrival h g
+  k = grantedHolding s row slot mode arrival
 
   abbrev kn : New s row slot arrival k
   kn = new-is s row slot mode arrival h g
 
   abbrev y : Slot
-  y = record { content = withLowest (levelOf row) (slotAt s slot .content); touch = s .clock }
+  y = grantedSlot s row slot
 
   -- the state with the slot touched, and then with the holding put
   abbrev u : State
@@ -155,7 +156,7 @@ module _ (s : State) (row slot : ℕ) (mode : Mode) (arrival : ℕ) (h : Sound s
   pub granted-sound : (back : Back) → Sound (granted s row slot mode arrival back .state)
   unfolding granted
   granted-sound back =
-      put-row-sound t row (record { condition = cond (leb arrival (s .clock)) Idle (Fetching arrival); deadline = rowAt s row .deadline }) (g .asking .row-is) held-base
+      put-row-sound t row (grantedRow s row arrival) (g .asking .row-is) held-base
       (live (leb arrival (s .clock))) own-row
       (λ r b m. row-kept s t r (λ i _. same (at-other-row i r b m)) (λ i _ _. at-other-row i r b m) refl refl (h .row r b))
     where

@@ -1,4 +1,4 @@
--- The holding that a grant puts.
+-- When a row may be granted a page, and what the holding is that a grant puts.
 use mathlib.Core.Path.{_≡_, refl, sym}
 use mathlib.Core.Bool.{Bool, true, false}
 use Prim.Native.Nat.{ℕ, _+_, _<_, _≤_}
@@ -17,6 +17,7 @@ use Rattle.model.proofs.PinLaws.{mode-held, mode-pin, stronger-is}
 use Rattle.rules.specs.Sound.{pinAllowed}
 use Rattle.rules.specs.Calls.{heldWith, withLowest}
 use Rattle.rules.proofs.SoundFacts.{Settled, Sound}
+use Rattle.rules.proofs.GrantLaws.{grantedHolding}
 
 -- a row that may ask for a page: idle or waiting
 pub record Asking (s : State) (row : ℕ) : Type 0 where
@@ -55,10 +56,7 @@ pub record New (s : State) (row slot arrival : ℕ) (k : Holding) : Type 0 where
   pub coming : s .clock < arrival → (isPin (k .pin) ≡ true) × (k .arrival ≡ arrival)
 
 module _ (s : State) (row slot : ℕ) (mode : Mode) (arrival : ℕ) (h : Sound s) (g : Grantable s row slot mode arrival) where
-  abbrev pub new : Holding
-  new = heldWith (holds s slot row) (holdingAt s slot row) (pinOf mode) arrival (s .clock)
-
-  pub new-is : New s row slot arrival new
+  pub new-is : New s row slot arrival (grantedHolding s row slot mode arrival)
   new-is = go (holds s slot row) refl
     where
       go : (b : Bool) → holds s slot row ≡ b → New s row slot arrival (heldWith b (holdingAt s slot row) (pinOf mode) arrival (s .clock))

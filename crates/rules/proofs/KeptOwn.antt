@@ -1,13 +1,12 @@
 -- A call that changes one row's condition, or takes the pin of one of its holdings, keeps a state sound: begin, a wait, unpin.
 use mathlib.Core.Path.{_≡_, refl, sym, ap}
-use mathlib.Core.Bool.{true, cond}
+use mathlib.Core.Bool.{true}
 use Prim.Native.Nat.{ℕ, _<_, _≤_}
 use native.Mathlib.Omega.{arith}
 use native.Mathlib.Decide.{ℕ-discrete}
 use Rattle.seq.proofs.Tests.{true-false}
 use Rattle.model.specs.declared.Mode.{Mode}
 use Rattle.model.specs.declared.Condition.the-variants.{Free, Idle, Waiting}
-use Rattle.model.specs.declared.Pin.the-variants.{Unpinned}
 use Rattle.model.specs.declared.Row.{Row}
 use Rattle.model.specs.declared.Slot.{Slot}
 use Rattle.model.specs.declared.Holding.{Holding}
@@ -15,11 +14,12 @@ use Rattle.model.specs.declared.State.{State}
 use Rattle.model.specs.Parties.{levelOf, mayAccess}
 use Rattle.model.specs.State.{rowAt, slotAt, holdingAt, putRow, putSlot, putHolding}
 use Rattle.model.specs.Words.{isLive, holds}
-use Rattle.model.specs.Changes.{written, dirtied}
+use Rattle.model.specs.Changes.{written}
 use Rattle.model.proofs.StateLaws.{Sized, sized-put-row, sized-put-slot, sized-put-holding}
 use Rattle.model.proofs.PutLaws.{row-same, row-other, slot-same, slot-other, holding-same, holding-other-slot, holding-other-row}
 use Rattle.rules.specs.Calls.{unpinnedAt, waiting}
 use Rattle.rules.proofs.SoundFacts.{Settled, RowSound, Sound}
+use Rattle.rules.proofs.UnpinLaws.{unpinnedHolding, unpinnedSlot}
 use Rattle.rules.proofs.KeptBase.{Base, base, whole, SlotKept, slot-kept, slot-marked, marked-touch, HoldingKept, same, loose}
 use Rattle.rules.proofs.KeptChange.{kept-slot, kept-holding, base-change}
 use Rattle.rules.proofs.KeptRows.{settled-kept, condition-kept, row-kept}
@@ -87,10 +87,10 @@ unpinned-sound s row slot b c h idle own =
     ])
   where
     y : Slot
-    y = cond (written (s .clock) (holdingAt s slot row)) (dirtied (slotAt s slot)) (slotAt s slot)
+    y = unpinnedSlot s row slot
 
     k : Holding
-    k = record { pin = Unpinned; arrival = holdingAt s slot row .arrival; touch = holdingAt s slot row .touch }
+    k = unpinnedHolding (holdingAt s slot row)
 
     u : State
     u = putSlot s slot y

@@ -3,63 +3,57 @@ use mathlib.Core.Path.{_≡_, refl, sym, _∙_}
 use mathlib.Core.Bool.{Bool, true, false, cond}
 use Prim.Native.Nat.{ℕ, _+_, _<_, _≤_}
 use native.Mathlib.Omega.{arith}
-use borrow.Author.Tests.{le-leb, eq-eqb}
+use borrow.Author.Tests.{le-leb}
 use lib.Dec.{eqb}
-use Rattle.seq.specs.declared.Found.{Found}
 use Rattle.seq.specs.declared.Found.the-variants.{At, Nowhere}
 use Rattle.seq.proofs.Tests.{true-false, and-true, both-true}
-use Rattle.seq.proofs.PickLaws.{pick-is, pick-none}
 use Rattle.model.specs.declared.Back.the-variants.{Nothing}
 use Rattle.model.specs.declared.Cause.the-variants.{Taken}
-use Rattle.model.specs.declared.Content.{Content}
-use Rattle.model.specs.declared.Content.the-variants.{Empty, Filled}
 use Rattle.model.specs.declared.Mode.{Mode}
+use Rattle.model.specs.declared.Outcome.{Outcome}
 use Rattle.model.specs.declared.State.{State}
 use Rattle.model.specs.Parties.{levelOf, mayAccess}
 use Rattle.model.specs.State.{emptyHolding, slotAt, holdingAt}
-use Rattle.model.specs.Words.{isFilled, pageIn, arrivalIn, hasPage, isPin, pinOf, pins, seenHolder, seen, dormant, seesDormant, leastArrival, slotOf}
+use Rattle.model.specs.Words.{isFilled, pageIn, arrivalIn, isPin, pinOf, pins, seenHolder, seen, dormant, seesDormant, leastArrival, slotOf}
 use Rattle.model.specs.Changes.{released, killed, cleared}
 use Rattle.model.proofs.ChangeLaws.{wroteSlot, killed-slot, killed-holding}
-use Rattle.model.proofs.ArrivalLaws.{least-is, least-first}
+use Rattle.model.proofs.ContentLaws.{has-page}
 use Rattle.model.proofs.PinLaws.{no-pin, not-pinned}
-use Rattle.rules.specs.Calls.{waiting, granted, conflicts, mustWait, step1, step2, step3, pinnersKilled, writeBack, filled, intoSlot, servedAt, served}
+use Rattle.model.proofs.SeenLaws.{dormant-unheld, not-seen}
+use Rattle.model.proofs.ArrivalLaws.{least-is, least-first}
+use Rattle.rules.specs.Calls.{waiting, granted, conflicts, pinnersKilled, writeBack, filled, served}
 use Rattle.rules.specs.Choice.{chosen}
 use Rattle.rules.proofs.SoundFacts.{Sound}
-use Rattle.rules.proofs.SoundBack.{page-there}
+use Rattle.rules.proofs.PageLaws.{found-slot, not-found}
+use Rattle.rules.proofs.FillLaws.{filled-at, filled-empty}
+use Rattle.rules.proofs.ServeCases.{Step, wait-1, grant-1, grant-2, grant-3, wait-g, fill, step}
 use Rattle.rules.proofs.KeptBase.{slot-marked}
 use Rattle.rules.proofs.KeptDrop.{killed-sound}
 use Rattle.rules.proofs.KeptOwn.{waiting-sound}
 use Rattle.rules.proofs.KeptNew.{Asking}
 use Rattle.rules.proofs.KeptGrant.{granted-sound}
-use Rattle.rules.proofs.KeptFill.{filled-slot, filled-holding, asking-filled, filled-sound}
-use Rattle.rules.proofs.KeptChoice.{own-unheld, dormant-unheld, chosen-free}
+use Rattle.rules.proofs.KeptFill.{asking-filled, filled-sound}
+use Rattle.rules.proofs.KeptChoice.{chosen-free}
 use Rattle.rules.proofs.KeptTaken.{asking-killed, killed-granted}
-
-has-page : (page : ℕ) (c : Content) → isFilled c ≡ true → pageIn c ≡ page → hasPage page c ≡ true
-has-page page Empty f e = f
-has-page page (Filled p a d l) f e = eq-eqb p page e
 
 module _ (s : State) (row page : ℕ) (mode : Mode) (h : Sound s) (a : Asking s row) (p : page ≤ 4095) (m : mayAccess (levelOf row) page mode ≡ true) where
   wait-sound : Sound (waiting s row page mode .state)
   wait-sound = waiting-sound s row page mode (a .row-is) h (a .settled) p m
 
   module _ (slot : ℕ) (b : slot < 64) (f : isFilled (slotAt s slot .content) ≡ true) (e : pageIn (slotAt s slot .content) ≡ page) where
-    step1-sound : seen s (levelOf row) slot ≡ true → Sound (step1 s row slot page mode .state)
-    unfolding step1 seenHolder
-    step1-sound v = go (mustWait s row slot mode)
-      where
-        go : (x : Bool) → Sound (cond x (waiting s row page mode) (granted (killed (conflicts s row slot mode) Taken s) row slot mode (leastArrival s (levelOf row) slot) Nothing) .state)
-        go true = wait-sound
-        go false =
-            let x = least-is s (levelOf row) slot v in
-            let y = h .held slot (x .0) b (x .1) (x .2) in
-            killed-granted s row mode h a slot (leastArrival s (levelOf row) slot) b f (rw e m)
-            (omega (arith, x .3, y .after)) (omega (arith, x .3, y .arrival))
-            (λ w. omega (arith, a .settled .arrived slot b w, least-first s (levelOf row) slot row (a .row-is) (both-true (le-leb (levelOf row) (levelOf row) (omega arith)) w)))
+    -- granted by each of the steps 1 to 3
+    sound-1 : seen s (levelOf row) slot ≡ true → Sound (granted (killed (conflicts s row slot mode) Taken s) row slot mode (leastArrival s (levelOf row) slot) Nothing .state)
+    unfolding seenHolder
+    sound-1 v =
+        let x = least-is s (levelOf row) slot v in
+        let y = h .held slot (x .0) b (x .1) (x .2) in
+        killed-granted s row mode h a slot (leastArrival s (levelOf row) slot) b f (rw e m)
+        (omega (arith, x .3, y .after)) (omega (arith, x .3, y .arrival))
+        (λ w. omega (arith, a .settled .arrived slot b w, least-first s (levelOf row) slot row (a .row-is) (both-true (le-leb (levelOf row) (levelOf row) (omega arith)) w)))
 
-    step2-sound : seesDormant s (levelOf row) slot ≡ true → Sound (step2 s row slot mode .state)
-    unfolding step2 seesDormant
-    step2-sound v =
+    sound-2 : seesDormant s (levelOf row) slot ≡ true → Sound (granted s row slot mode (arrivalIn (slotAt s slot .content)) Nothing .state)
+    unfolding seesDormant
+    sound-2 v =
         let d = dormant-unheld s slot (and-true (eqb (levelOf row) 3) (dormant s slot) v .1) in
         granted-sound s row slot mode (arrivalIn (slotAt s slot .content)) h
         (record {
@@ -74,23 +68,10 @@ module _ (s : State) (row page : ℕ) (mode : Mode) (h : Sound s) (a : Asking s 
         })
         Nothing
 
-    step3-sound : seen s (levelOf row) slot ≡ false → Sound (step3 s row slot mode .state)
-    unfolding step3
-    step3-sound v =
+    sound-3 : seen s (levelOf row) slot ≡ false → Sound (granted (killed (conflicts s row slot mode) Taken s) row slot mode (s .clock + s .delay) Nothing .state)
+    sound-3 v =
         killed-granted s row mode h a slot (s .clock + s .delay) b f (rw e m) (h .slot slot b .arrival f) (omega arith)
-        (λ w. true-false (sym w ∙ own-unheld s row slot (a .row-is) v))
-
-    here-sound : Sound (servedAt (At slot) s row page mode .state)
-    here-sound = go (seen s (levelOf row) slot) refl
-      where
-        last : seen s (levelOf row) slot ≡ false → (x : Bool) → seesDormant s (levelOf row) slot ≡ x → Sound (cond x (step2 s row slot mode) (step3 s row slot mode) .state)
-        last v true w = step2-sound w
-        last v false w = step3-sound v
-
-        go : (x : Bool) → seen s (levelOf row) slot ≡ x
-            → Sound (cond x (step1 s row slot page mode) (cond (seesDormant s (levelOf row) slot) (step2 s row slot mode) (step3 s row slot mode)) .state)
-        go true v = step1-sound v
-        go false v = last v (seesDormant s (levelOf row) slot) refl
+        (λ w. true-false (sym w ∙ not-seen s (levelOf row) slot row v (a .row-is) (omega arith)))
 
   module _ (none : slotOf s page ≡ Nowhere) (slot : ℕ) (c : chosen s row ≡ At slot) where
     -- the rows that pin the slot have been killed
@@ -105,16 +86,15 @@ module _ (s : State) (row page : ℕ) (mode : Mode) (h : Sound s) (a : Asking s 
         go false e = e
 
     absent : (j : ℕ) → j < 64 → isFilled (slotAt n j .content) ≡ true → pageIn (slotAt n j .content) ≡ page → ⊥
-    unfolding slotOf
     absent j b f e =
         let k = slot-marked (wroteSlot (pins s slot) s j) (slotAt s j) (slotAt n j) (killed-slot (pins s slot) s (h .sized) Taken j b) in
         let g = sym (k .filled) ∙ f in
         true-false (sym (has-page page (slotAt s j .content) g (sym (k .page) ∙ e))
-        ∙ pick-none (λ i. hasPage page (slotAt s i .content)) (λ i o. false) (s .size) j none (h .slot j b .started g))
+        ∙ not-found s page j none (h .slot j b .started g))
 
-    into-sound : Sound (intoSlot (At slot) s row page mode .state)
+    fill-sound : Sound (granted (filled (pinnersKilled s slot) slot page (levelOf row)) row slot mode (s .clock + s .delay) (writeBack (slotAt (pinnersKilled s slot) slot)) .state)
     unfolding pinnersKilled killed released filled cleared
-    into-sound =
+    fill-sound =
         let x = chosen-free s row (a .row-is) h slot c in
         let k = killed-sound (pins s slot) Taken s h in
         let y = asking-killed (pins s slot) Taken s row h (x .1) a in
@@ -123,26 +103,25 @@ module _ (s : State) (row page : ℕ) (mode : Mode) (h : Sound s) (a : Asking s 
         (record {
           asking = asking-filled n slot page (levelOf row) k (x .0) row y;
           slot-is = omega (arith, x .0, h .size-most);
-          filled = rw (filled-slot n slot page (levelOf row) k (x .0)) refl;
-          allowed = rw (filled-slot n slot page (levelOf row) k (x .0)) m;
-          least = rw (filled-slot n slot page (levelOf row) k (x .0)) (omega arith);
+          filled = rw (filled-at n (k .sized) (k .size-most) slot page (levelOf row) (x .0)) refl;
+          allowed = rw (filled-at n (k .sized) (k .size-most) slot page (levelOf row) (x .0)) m;
+          least = rw (filled-at n (k .sized) (k .size-most) slot page (levelOf row) (x .0)) (omega arith);
           most = omega arith;
-          own = λ w. true-false (sym (rw (filled-holding n slot page (levelOf row) k (x .0) row (a .row-is)) at w));
-          alone = λ q b _. rw (filled-holding n slot page (levelOf row) k (x .0) q b) (no-pin (pinOf mode) (emptyHolding .pin) refl);
+          own = λ w. true-false (sym (rw (filled-empty n (k .sized) (k .size-most) slot page (levelOf row) (x .0) row (a .row-is)) at w));
+          alone = λ q b _. rw (filled-empty n (k .sized) (k .size-most) slot page (levelOf row) (x .0) q b) (no-pin (pinOf mode) (emptyHolding .pin) refl);
         })
         (writeBack (slotAt n slot))
 
   pub served-sound : Sound (served s row page mode .state)
-  unfolding served slotOf
-  served-sound = go (slotOf s page) refl
+  served-sound = go (served s row page mode) (step s row page mode)
     where
-      into : slotOf s page ≡ Nowhere → (f : Found) → chosen s row ≡ f → Sound (intoSlot f s row page mode .state)
-      into e Nowhere c = wait-sound
-      into e (At slot) c = into-sound e slot c
+      at : {P : Type 0} (slot : ℕ) → slotOf s page ≡ At slot → (slot < 64 → isFilled (slotAt s slot .content) ≡ true → pageIn (slotAt s slot .content) ≡ page → P) → P
+      at slot e k = let x = found-slot s page slot e in k (omega (arith, x .0, h .size-most)) (x .1) (x .2)
 
-      go : (f : Found) → slotOf s page ≡ f → Sound (servedAt f s row page mode .state)
-      go Nowhere e = into e (chosen s row) refl
-      go (At slot) e =
-          let x = pick-is (λ i. hasPage page (slotAt s i .content)) (λ i o. false) (s .size) slot e in
-          let y = page-there page (slotAt s slot .content) (x .1) in
-          here-sound slot (omega (arith, x .0, h .size-most)) (y .0) (y .1)
+      go : (o : Outcome) → Step s row page mode o → Sound (o .state)
+      go o (wait-1 slot e v w q) = rw q wait-sound
+      go o (grant-1 slot e v w q) = rw q (at slot e (λ b f i. sound-1 slot b f i v))
+      go o (grant-2 slot e d q) = rw q (at slot e (λ b f i. sound-2 slot b f i d))
+      go o (grant-3 slot e v q) = rw q (at slot e (λ b f i. sound-3 slot b f i v))
+      go o (wait-g e c q) = rw q wait-sound
+      go o (fill slot e c q) = rw q (fill-sound e slot c)

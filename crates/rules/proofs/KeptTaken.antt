@@ -3,7 +3,7 @@ use mathlib.Core.Path.{_≡_, refl, sym, _∙_}
 use mathlib.Core.Bool.{Bool, true, false, cond}
 use Prim.Native.Nat.{ℕ, _+_, _<_, _≤_}
 use native.Mathlib.Omega.{arith}
-use borrow.Author.Tests.{eq-eqb, ne-eqb}
+use borrow.Author.Tests.{ne-eqb}
 use Rattle.model.specs.declared.Back.the-variants.{Nothing}
 use Rattle.model.specs.declared.Cause.{Cause}
 use Rattle.model.specs.declared.Cause.the-variants.{Taken}
@@ -17,6 +17,7 @@ use Rattle.model.proofs.ChangeLaws.{wroteSlot, killed-row, killed-slot, killed-
 use Rattle.model.proofs.PinLaws.{no-pin}
 use Rattle.rules.specs.Calls.{granted, conflicts}
 use Rattle.rules.proofs.SoundFacts.{Sound}
+use Rattle.rules.proofs.GrantLaws.{own-spared}
 use Rattle.rules.proofs.KeptBase.{slot-marked, same}
 use Rattle.rules.proofs.KeptRows.{settled-kept}
 use Rattle.rules.proofs.KeptDrop.{killed-sound}
@@ -35,10 +36,6 @@ asking-killed some cause s row h e a =
     }
 
 module _ (s : State) (row : ℕ) (mode : Mode) (h : Sound s) (a : Asking s row) where
-  own-spared : (slot : ℕ) → conflicts s row slot mode row ≡ false
-  unfolding conflicts
-  own-spared slot = rw (eq-eqb row row refl)
-
   -- after the kill no pin conflicts
   alone : (slot q : ℕ) → q < 32 → (row ≡ q → ⊥) → conflict (pinOf mode) (holdingAt (killed (conflicts s row slot mode) Taken s) slot q .pin) ≡ false
   unfolding conflicts
@@ -55,10 +52,10 @@ module _ (s : State) (row : ℕ) (mode : Mode) (h : Sound s) (a : Asking s row) 
   killed-granted slot arrival b f m l n o =
       let some = conflicts s row slot mode in
       let k = slot-marked (wroteSlot some s slot) (slotAt s slot) (slotAt (killed some Taken s) slot) (killed-slot some s (h .sized) Taken slot b) in
-      let own : holdingAt (killed some Taken s) slot row ≡ holdingAt s slot row = killed-holding some s (h .sized) Taken slot row (a .row-is) ∙ rw (own-spared slot) in
+      let own : holdingAt (killed some Taken s) slot row ≡ holdingAt s slot row = killed-holding some s (h .sized) Taken slot row (a .row-is) ∙ rw (own-spared s row slot mode) in
       granted-sound (killed some Taken s) row slot mode arrival (killed-sound some Taken s h)
       (record {
-        asking = asking-killed some Taken s row h (own-spared slot) a;
+        asking = asking-killed some Taken s row h (own-spared s row slot mode) a;
         slot-is = b;
         filled = k .filled ∙ f;
         allowed = rw (k .page) m;

@@ -1,22 +1,22 @@
 -- A tick keeps a state sound. Between its steps a live row's deadline may be reached; such rows are killed last.
-use mathlib.Core.Path.{_≡_, refl, _∙_}
+use mathlib.Core.Path.{_≡_, refl}
 use mathlib.Core.Bool.{Bool, true, false, cond, _&&_}
 use Prim.Native.Nat.{ℕ, _+_, _<_, _≤_}
 use native.Mathlib.Omega.{arith}
 use borrow.Author.Tests.{leb-true, leb-false, eqb-true}
 use lib.Dec.{leb, eqb}
 use Rattle.seq.proofs.Tests.{and-true}
-use Rattle.seq.proofs.EachLaws.{each-at, each-length}
 use Rattle.model.specs.declared.Cause.the-variants.{Late}
 use Rattle.model.specs.declared.Condition.{Condition}
 use Rattle.model.specs.declared.Condition.the-variants.{Free, Idle, Fetching, Waiting, Killed}
 use Rattle.model.specs.declared.State.{State}
 use Rattle.model.specs.Parties.{lastClock, isPast}
-use Rattle.model.specs.State.{freeRow, rowAt, slotAt, holdingAt}
+use Rattle.model.specs.State.{rowAt, slotAt, holdingAt}
 use Rattle.model.specs.Words.{isLive, holds, pins}
 use Rattle.rules.specs.Sound.{awaits}
 use Rattle.rules.specs.Calls.{delivered, deliveredRow, deliveredRows, isLate, lateKilled, advanced}
 use Rattle.rules.proofs.SoundFacts.{RowSound, Sound}
+use Rattle.rules.proofs.TickLaws.{later, sized-later, later-row}
 use Rattle.rules.proofs.KeptBase.{Base, base, slot-kept, same}
 use Rattle.rules.proofs.KeptChange.{kept-slot, kept-holding, base-change}
 use Rattle.rules.proofs.KeptRows.{settled-kept, awaiting-kept}
@@ -34,50 +34,43 @@ delivered-live clock (Fetching due) = go (leb due clock)
     go false = refl
 
 module _ (s : State) (h : Sound s) where
-  next : State
-  next = deliveredRows (advanced s)
-
-  delivered-at : (r : ℕ) → r < 32 → rowAt next r ≡ deliveredRow (s .clock + 1) (rowAt s r)
-  unfolding next deliveredRows advanced
-  delivered-at r b = each-at (λ row x. deliveredRow (s .clock + 1) x) (s .rows) r freeRow (rw (h .sized .rows) b)
-
-  next-base : s .clock < lastClock → Base next
-  unfolding next deliveredRows advanced deliveredRow
-  next-base early = base-change s next (base s h) (record {
-    sized = record { rows = each-length _ (s .rows) ∙ h .sized .rows; slots = h .sized .slots; holdings = h .sized .holdings };
+  next-base : s .clock < lastClock → Base (later s)
+  unfolding deliveredRows advanced deliveredRow
+  next-base early = base-change s (later s) (base s h) (record {
+    sized = sized-later s (h .sized);
     size = refl;
     delay = refl;
     clock = omega arith;
     clock-most = omega arith;
     slot = λ i g. kept-slot (slot-kept (slotAt s i) (slotAt s i) refl) (omega (arith, h .slot i g .touch));
     holding = λ i r _ _. kept-holding (same refl);
-    live = λ i r g f w. rw (delivered-at r f, delivered-live (s .clock + 1) (rowAt s r .condition)) (h .held i r g f w .live);
+    live = λ i r g f w. rw (later-row s (h .sized) r f, delivered-live (s .clock + 1) (rowAt s r .condition)) (h .held i r g f w .live);
   })
 
   -- a delivered row, if its deadline is not reached
-  delivered-sound : (r : ℕ) (x : Condition) (d : ℕ) → RowSound s r x d → isLive (delivered (s .clock + 1) x) && isPast (s .clock + 1) d ≡ false → RowSound next r (delivered (s .clock + 1) x) d
-  unfolding next deliveredRows advanced awaits
+  delivered-sound : (r : ℕ) (x : Condition) (d : ℕ) → RowSound s r x d → isLive (delivered (s .clock + 1) x) && isPast (s .clock + 1) d ≡ false → RowSound (later s) r (delivered (s .clock + 1) x) d
+  unfolding deliveredRows advanced awaits
   delivered-sound r Free d f e = f
   delivered-sound r (Killed cause) d f e = f
-  delivered-sound r Idle d f e = settled-kept s next r (λ i _. same refl) d d (omega arith) (leb-false d (s .clock + 1) e) f
-  delivered-sound r (Waiting page mode) d f e = (settled-kept s next r (λ i _. same refl) d d (omega arith) (leb-false d (s .clock + 1) e) (f .0), f .1, f .2)
+  delivered-sound r Idle d f e = settled-kept s (later s) r (λ i _. same refl) d d (omega arith) (leb-false d (s .clock + 1) e) f
+  delivered-sound r (Waiting page mode) d f e = (settled-kept s (later s) r (λ i _. same refl) d d (omega arith) (leb-false d (s .clock + 1) e) (f .0), f .1, f .2)
   delivered-sound r (Fetching due) d f e = go (leb due (s .clock + 1)) refl
     where
       arrived : due ≤ s .clock + 1 → (i : ℕ) → i < 64 → holds s i r ≡ true → (b : Bool) → awaits s r due i ≡ b → holdingAt s i r .arrival ≤ s .clock + 1
       arrived b i g w true q = omega (arith, eqb-true (holdingAt s i r .arrival) due (and-true (pins s i r) (eqb (holdingAt s i r .arrival) due) q .1))
       arrived b i g w false q = omega (arith, f .others i g w q)
 
-      go : (b : Bool) → leb due (s .clock + 1) ≡ b → RowSound next r (cond (leb due (s .clock + 1)) Idle (Fetching due)) d
+      go : (b : Bool) → leb due (s .clock + 1) ≡ b → RowSound (later s) r (cond (leb due (s .clock + 1)) Idle (Fetching due)) d
       go true q = rw q (record {
         deadline = leb-false d (s .clock + 1) (rw q at e);
         arrived = λ i g w. arrived (leb-true due (s .clock + 1) q) i g w (awaits s r due i) refl;
       })
-      go false q = rw q (awaiting-kept s next r (λ i _. same refl) (λ i _ _. refl) due d (omega arith) (leb-false d (s .clock + 1) (rw q at e)) (leb-false due (s .clock + 1) q) f)
+      go false q = rw q (awaiting-kept s (later s) r (λ i _. same refl) (λ i _ _. refl) due d (omega arith) (leb-false d (s .clock + 1) (rw q at e)) (leb-false due (s .clock + 1) q) f)
 
-  next-rows : (r : ℕ) → r < 32 → isLate next r ≡ false → RowSound next r (rowAt next r .condition) (rowAt next r .deadline)
-  unfolding isLate next deliveredRows advanced deliveredRow
-  next-rows r b e = rw (delivered-at r b) (delivered-sound r (rowAt s r .condition) (rowAt s r .deadline) (h .row r b) (rw (delivered-at r b) at e))
+  next-rows : (r : ℕ) → r < 32 → isLate (later s) r ≡ false → RowSound (later s) r (rowAt (later s) r .condition) (rowAt (later s) r .deadline)
+  unfolding isLate deliveredRows advanced deliveredRow
+  next-rows r b e = rw (later-row s (h .sized) r b) (delivered-sound r (rowAt s r .condition) (rowAt s r .deadline) (h .row r b) (rw (later-row s (h .sized) r b) at e))
 
-  pub ticked-sound : s .clock < lastClock → Sound (lateKilled (deliveredRows (advanced s)))
-  unfolding next lateKilled
-  ticked-sound early = killed-rest (isLate next) Late next (next-base early) next-rows
+  pub ticked-sound : s .clock < lastClock → Sound (lateKilled (later s))
+  unfolding lateKilled
+  ticked-sound early = killed-rest (isLate (later s)) Late (later s) (next-base early) next-rows

@@ -15,16 +15,16 @@ use Rattle.model.specs.declared.State.{State}
 use Rattle.model.specs.State.{emptyHolding, rowAt, slotAt, holdingAt}
 use Rattle.model.specs.Words.{isLive, isFilled, pageIn, dirtyIn, hasPage, isWrite, holds}
 use Rattle.model.specs.Changes.{written}
+use Rattle.model.proofs.ContentLaws.{has-page}
+use Rattle.model.proofs.PinLaws.{write-held}
 use Rattle.model.proofs.BookLaws.{Booked}
 use Rattle.rules.specs.Sound.{sound}
 use Rattle.rules.specs.Answers.{backTold}
 use Rattle.rules.specs.Run.{Call, outcome}
 use Rattle.rules.specs.Secrecy.{startsRefused}
-use Rattle.rules.proofs.Kept.{kept-sound}
 use Rattle.rules.proofs.SoundFacts.{facts}
-use Rattle.rules.proofs.PageLaws.{has-page}
+use Rattle.rules.proofs.Kept.{kept-sound}
 use Rattle.rules.proofs.CallCases.{effect}
-use Rattle.rules.proofs.GrantBooks.{write-held}
 use Rattle.rules.proofs.Drops.{Refilled, drop}
 use Rattle.rules.proofs.Booking.{Writes, stay, reported, writes}
 

@@ -1,5 +1,5 @@
 -- A page is in at most one slot: in every sound state, and after every list of calls from a fresh start.
-use mathlib.Core.Path.{_≡_, sym, _∙_}
+use mathlib.Core.Path.{_≡_}
 use mathlib.Core.Bool.{true}
 use mathlib.Core.List.{List}
 use Prim.Native.Nat.{ℕ, _<_, _≤_}
@@ -9,17 +9,14 @@ use Rattle.model.specs.Words.{hasPage}
 use Rattle.rules.specs.Sound.{sound}
 use Rattle.rules.specs.Run.{Call, after}
 use Rattle.rules.proofs.SoundFacts.{facts}
-use Rattle.rules.proofs.PageLaws.{page-has}
+use Rattle.rules.proofs.PageLaws.{one-place}
 use Rattle.rules.proofs.KeptFresh.{fresh-sound}
 use Rattle.rules.proofs.Kept.{run-sound}
 
 -- no page in two slots
 pub one-slot : (s : State) → sound s ≡ true → (page i j : ℕ) → i < 64 → j < 64
     → hasPage page (slotAt s i .content) ≡ true → hasPage page (slotAt s j .content) ≡ true → i ≡ j
-one-slot s z page i j a b p q =
-    let x = page-has page (slotAt s i .content) p in
-    let y = page-has page (slotAt s j .content) q in
-    facts s z .one-slot i j a b (x .0) (y .0) (x .1 ∙ sym (y .1))
+one-slot s z = one-place s (facts s z)
 
 -- no page in two slots after any list of calls, starts among them, from a fresh start
 pub one-slot-ever : (slots delay : ℕ) → 1 ≤ slots → slots ≤ 64 → 1 ≤ delay → delay ≤ 255 → (cs : List Call) (page i j : ℕ) → i < 64 → j < 64

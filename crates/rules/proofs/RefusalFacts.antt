@@ -1,17 +1,25 @@
--- What it says of a call that no refusal applies.
+-- What it says of a call and its numbers that no refusal applies; what holds of a call, refused or not.
 use mathlib.Core.Path.{_≡_, refl, sym}
 use mathlib.Core.Bool.{Bool, true, false, _&&_, not}
 use mathlib.Core.List.{List, [], _∷_}
-use Prim.Native.Nat.{ℕ, _<_, _≤_}
+use Prim.Native.Nat.{ℕ, zero, suc, _<_, _≤_}
 use native.Mathlib.Omega.{arith}
 use borrow.Author.Tests.{ltb-false, leb-false, leb-true, not-false}
 use lib.Dec.{leb, ltb}
 use Rattle.seq.proofs.Tests.{true-false, and-true}
 use Rattle.model.specs.declared.Condition.{Condition}
 use Rattle.model.specs.declared.Condition.the-variants.{Free, Idle, Fetching, Waiting, Killed}
+use Rattle.model.specs.declared.Answer.the-variants.{Refused}
+use Rattle.model.specs.declared.Outcome.{Outcome}
 use Rattle.model.specs.declared.State.{State}
 use Rattle.model.specs.Parties.{rowOf, levelOf, modeOf, mayAccess, lastClock, isPast}
-use Rattle.rules.specs.Refusals.{firstToApply, isFree, isKilled, isBusy, isWaiting, isRead, conditionAt, pinsPage, startRefusal, beginRefusal, requestRefusal, retryRefusal, unpinRefusal, endRefusal, tickRefusal}
+use Rattle.rules.specs.Calls.{unless}
+use Rattle.rules.specs.Refusals.{firstToApply, isFree, isKilled, isBusy, isWaiting, isRead, conditionAt, pinsPage, startRefusal, beginRefusal, requestRefusal, retryRefusal, unpinRefusal, endRefusal, tickRefusal, lookRefusal}
+
+-- what holds of a refused call and of an accepted one
+pub unless-is : (P : Outcome → Type 0) (n : ℕ) (s : State) (o : Outcome) → ((k : ℕ) → P (record { state = s; answer = Refused (suc k) })) → (n ≡ 0 → P o) → P (unless n s o)
+unless-is P zero s o f g = g refl
+unless-is P (suc k) s o f g = f k
 
 abbrev NoneApply : List (ℕ × Bool) → Type 0
 NoneApply [] = Unit
@@ -48,11 +56,18 @@ no-breach : (reading may : Bool) → reading && not may ≡ false → not readin
 no-breach true may e f = not-false may e
 no-breach false may e f = not-false may f
 
-pub row-below : (level number : ℕ) → ltb 3 level ≡ false → ltb 7 number ≡ false → (rowOf level number < 32) × (levelOf (rowOf level number) ≡ level)
-row-below level number e f =
+-- the row that an accepted call names
+pub record Named (level number : ℕ) : Type 0 where
+  pub level-is : level ≤ 3
+  pub number-is : number ≤ 7
+  pub row-is : rowOf level number < 32
+  pub own-level : levelOf (rowOf level number) ≡ level
+
+named : (level number : ℕ) → ltb 3 level ≡ false → ltb 7 number ≡ false → Named level number
+named level number e f =
     let a = ltb-false 3 level e in
     let b = ltb-false 7 number f in
-    (omega arith, omega arith)
+    record { level-is = a; number-is = b; row-is = omega arith; own-level = omega arith }
 
 pub record StartTaken (slots delay : ℕ) : Type 0 where
   pub slots-least : 1 ≤ slots
@@ -74,7 +89,7 @@ start-taken slots delay e =
     }
 
 pub record BeginTaken (s : State) (level number deadline : ℕ) : Type 0 where
-  pub row-is : rowOf level number < 32
+  pub names : Named level number
   pub free : conditionAt s level number ≡ Free
   pub later : s .clock < deadline
 
@@ -84,13 +99,13 @@ begin-taken s level number deadline e =
     let n = none-apply (
     (4, ltb 3 level) ∷ (5, ltb 7 number) ∷ (8, not (isFree (conditionAt s level number))) ∷ (12, isPast (s .clock) deadline) ∷ []) (omega arith) e in
     record {
-      row-is = row-below level number (n .0) (n .1 .0) .0;
+      names = named level number (n .0) (n .1 .0);
       free = is-free (conditionAt s level number) (not-false (isFree (conditionAt s level number)) (n .1 .1 .0));
       later = leb-false deadline (s .clock) (n .1 .1 .1 .0);
     }
 
 pub record RequestTaken (s : State) (level number page mode : ℕ) : Type 0 where
-  pub row-is : rowOf level number < 32
+  pub names : Named level number
   pub page-is : page ≤ 4095
   pub idle : conditionAt s level number ≡ Idle
   pub allowed : mayAccess (levelOf (rowOf level number)) page (modeOf mode) ≡ true
@@ -104,25 +119,25 @@ request-taken s level number page mode e =
     let n = none-apply (
     (4, ltb 3 level) ∷ (5, ltb 7 number) ∷ (6, ltb 4095 page) ∷ (7, ltb 1 mode) ∷ (9, isFree x) ∷ (10, isKilled x) ∷ (11, isBusy x)
     ∷ (13, reading && not may) ∷ (14, not reading && not may) ∷ []) (omega arith) e in
-    let r = row-below level number (n .0) (n .1 .0) in
+    let r = named level number (n .0) (n .1 .0) in
     let busy = n .1 .1 .1 .1 in
     record {
-      row-is = r .0;
+      names = r;
       page-is = ltb-false 4095 page (n .1 .1 .0);
       idle = is-idle x (busy .0) (busy .1 .0) (busy .1 .1 .0);
-      allowed = rw (r .1) (no-breach reading may (busy .1 .1 .1 .0) (busy .1 .1 .1 .1 .0));
+      allowed = rw (r .own-level) (no-breach reading may (busy .1 .1 .1 .0) (busy .1 .1 .1 .1 .0));
     }
 
-pub retry-taken : (s : State) (level number : ℕ) → retryRefusal s level number ≡ 0 → rowOf level number < 32
+pub retry-taken : (s : State) (level number : ℕ) → retryRefusal s level number ≡ 0 → Named level number
 unfolding retryRefusal
 retry-taken s level number e =
     let n = none-apply (
     (4, ltb 3 level) ∷ (5, ltb 7 number) ∷ (9, isFree (conditionAt s level number)) ∷ (10, isKilled (conditionAt s level number))
     ∷ (16, not (isWaiting (conditionAt s level number))) ∷ []) (omega arith) e in
-    row-below level number (n .0) (n .1 .0) .0
+    named level number (n .0) (n .1 .0)
 
 pub record UnpinTaken (s : State) (level number page : ℕ) : Type 0 where
-  pub row-is : rowOf level number < 32
+  pub names : Named level number
   pub idle : conditionAt s level number ≡ Idle
   pub pinned : pinsPage s (rowOf level number) page ≡ true
 
@@ -135,16 +150,22 @@ unpin-taken s level number page e =
     ∷ (15, not (pinsPage s (rowOf level number) page)) ∷ []) (omega arith) e in
     let busy = n .1 .1 .1 in
     record {
-      row-is = row-below level number (n .0) (n .1 .0) .0;
+      names = named level number (n .0) (n .1 .0);
       idle = is-idle x (busy .0) (busy .1 .0) (busy .1 .1 .0);
       pinned = not-false (pinsPage s (rowOf level number) page) (busy .1 .1 .1 .0);
     }
 
-pub end-taken : (s : State) (level number : ℕ) → endRefusal s level number ≡ 0 → rowOf level number < 32
+pub end-taken : (s : State) (level number : ℕ) → endRefusal s level number ≡ 0 → Named level number
 unfolding endRefusal
 end-taken s level number e =
     let n = none-apply ((4, ltb 3 level) ∷ (5, ltb 7 number) ∷ (9, isFree (conditionAt s level number)) ∷ []) (omega arith) e in
-    row-below level number (n .0) (n .1 .0) .0
+    named level number (n .0) (n .1 .0)
+
+pub look-taken : (level number : ℕ) → lookRefusal level number ≡ 0 → Named level number
+unfolding lookRefusal
+look-taken level number e =
+    let n = none-apply ((4, ltb 3 level) ∷ (5, ltb 7 number) ∷ []) (omega arith) e in
+    named level number (n .0) (n .1 .0)
 
 pub tick-taken : (s : State) → tickRefusal s ≡ 0 → s .clock < lastClock
 unfolding tickRefusal

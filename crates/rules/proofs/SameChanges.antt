@@ -20,14 +20,10 @@ use Rattle.model.proofs.StateLaws.{Sized, row-put}
 use Rattle.model.proofs.ChangeLaws.{killed-row}
 use Rattle.rules.specs.Answers.{word, value, told}
 use Rattle.rules.specs.Calls.{unless, waiting, granted}
-use Rattle.rules.proofs.Alike.{holdingOn, Alike}
+use Rattle.rules.proofs.Alike.{holdingOn, Alike, Same}
 use Rattle.rules.proofs.PageLaws.{killed-on, released-on}
 use Rattle.rules.proofs.GrantLaws.{granted-row, granted-on, granted-size, granted-delay, granted-clock}
 use Rattle.rules.proofs.SamePages.{same-holding}
-
--- two outcomes that L cannot tell apart
-abbrev pub Same : ℕ → Outcome → Outcome → Type 0
-Same L o p = (told (o .answer) ≡ told (p .answer)) × Alike L (o .state) (p .state)
 
 -- a call that is refused in both states, or accepted in both
 pub same-unless : (L : ℕ) (s t : State) (m n : ℕ) (o p : Outcome) → Alike L s t → m ≡ n → (m ≡ 0 → Same L o p) → Same L (unless m s o) (unless n t p)

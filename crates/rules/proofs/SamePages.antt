@@ -5,51 +5,39 @@ use Prim.Native.Nat.{ℕ, _<_, _≤_}
 use native.Mathlib.Omega.{arith}
 use borrow.Author.Tests.{leb-true}
 use lib.Dec.{leb, ltb}
-use Rattle.seq.specs.declared.Found.{Found}
-use Rattle.seq.specs.declared.Found.the-variants.{At, Nowhere}
-use Rattle.seq.proofs.Tests.{true-false, and-left}
+use Rattle.seq.specs.declared.Found.the-variants.{At}
+use Rattle.seq.proofs.Tests.{and-left, and-when}
 use Rattle.seq.proofs.BelowLaws.{any-same}
-use Rattle.seq.proofs.PickedLaws.{and-same, picked-same}
+use Rattle.seq.proofs.PickLaws.{picked-same}
 use Rattle.model.specs.declared.Mode.{Mode}
 use Rattle.model.specs.declared.Pin.the-variants.{Absent}
 use Rattle.model.specs.declared.State.{State}
 use Rattle.model.specs.Parties.{levelOf}
 use Rattle.model.specs.State.{holdingAt}
-use Rattle.model.specs.Words.{isHeld, holds, strength, seenHolder, seen, outranks, strongestPin, leastArrival, slotOf}
+use Rattle.model.specs.Words.{holds, strength, seenHolder, seen, outranks, strongestPin, leastArrival, slotOf}
 use Rattle.rules.specs.Calls.{conflicts, mustWait}
-use Rattle.rules.proofs.Alike.{holdingOn, Alike}
-
--- a page that a row holds is in a slot
-pub held-found : (s : State) (page r : ℕ) → isHeld (holdingOn s page r .pin) ≡ true → (i : ℕ) × (slotOf s page ≡ At i)
-unfolding holdingOn
-held-found s page r h = go (slotOf s page) refl
-  where
-    go : (f : Found) → slotOf s page ≡ f → (i : ℕ) × (slotOf s page ≡ At i)
-    go Nowhere e = true-false (sym (rw e at h))
-    go (At i) e = (i, e)
-
-pub on-slot : (s : State) (page i r : ℕ) → slotOf s page ≡ At i → holdingOn s page r ≡ holdingAt s i r
-unfolding holdingOn
-on-slot s page i r e = rw e
+use Rattle.rules.proofs.Alike.{Alike}
+use Rattle.rules.proofs.PageLaws.{on-slot}
 
 module _ (L : ℕ) (s t : State) (alike : Alike L s t) where
   pub same-rank : (r q : ℕ) → r < 32 → q < 32 → levelOf r ≤ L → levelOf q ≤ L → outranks s r q ≡ outranks t r q
   unfolding outranks
   same-rank r q h k l m = rw (alike .row r h l, alike .row q k m)
 
-  module _ (page i j : ℕ) (at-s : slotOf s page ≡ At i) (at-t : slotOf t page ≡ At j) where
-    pub same-holding : (r : ℕ) → r < 32 → levelOf r ≤ L → holdingAt s i r ≡ holdingAt t j r
-    same-holding r h l = sym (on-slot s page i r at-s) ∙ alike .holding page r h l ∙ on-slot t page j r at-t
+  pub same-holding : (page i j : ℕ) → slotOf s page ≡ At i → slotOf t page ≡ At j → (r : ℕ) → r < 32 → levelOf r ≤ L → holdingAt s i r ≡ holdingAt t j r
+  same-holding page i j at-s at-t r h l = sym (on-slot s page i r at-s) ∙ alike .holding page r h l ∙ on-slot t page j r at-t
 
+  -- slots on which the rows up to L have the same holdings
+  module _ (i j : ℕ) (same : (r : ℕ) → r < 32 → levelOf r ≤ L → holdingAt s i r ≡ holdingAt t j r) where
     pub same-conflicts : (me : ℕ) (mode : Mode) (r : ℕ) → r < 32 → levelOf r ≤ L → conflicts s me i mode r ≡ conflicts t me j mode r
     unfolding conflicts
-    same-conflicts me mode r h l = rw (same-holding r h l)
+    same-conflicts me mode r h l = rw (same r h l)
 
     module _ (level : ℕ) (up : level ≤ L) where
-      same-holder : (r : ℕ) → r < 32 → seenHolder s level i r ≡ seenHolder t level j r
+      pub same-holder : (r : ℕ) → r < 32 → seenHolder s level i r ≡ seenHolder t level j r
       unfolding seenHolder
-      same-holder r h = and-same (leb (levelOf r) level) (holds s i r) (holds t j r)
-          (λ e. rw (same-holding r h (omega (arith, leb-true (levelOf r) level e))))
+      same-holder r h = and-when (leb (levelOf r) level) (holds s i r) (holds t j r)
+          (λ e. rw (same r h (omega (arith, leb-true (levelOf r) level e))))
 
       pub same-seen : seen s level i ≡ seen t level j
       unfolding seen
@@ -57,7 +45,7 @@ module _ (L : ℕ) (s t : State) (alike : Alike L s t) where
 
       seen-holding : (r : ℕ) → r < 32 → seenHolder s level i r ≡ true → holdingAt s i r ≡ holdingAt t j r
       unfolding seenHolder
-      seen-holding r h e = same-holding r h (omega (arith, leb-true (levelOf r) level (and-left (leb (levelOf r) level) (holds s i r) e)))
+      seen-holding r h e = same r h (omega (arith, leb-true (levelOf r) level (and-left (leb (levelOf r) level) (holds s i r) e)))
 
       pub same-strongest : strongestPin s level i ≡ strongestPin t level j
       unfolding strongestPin

@@ -1,35 +1,19 @@
--- Two states alike for L refuse the same calls of a level up to L; and what an accepted call says of its numbers.
-use mathlib.Core.Path.{_≡_, refl, sym, ap}
-use mathlib.Core.Bool.{Bool, true, false, cond, not}
+-- Two states alike for L refuse the same calls of a level up to L.
+use mathlib.Core.Path.{_≡_, refl, ap}
+use mathlib.Core.Bool.{Bool, true, false}
 use Prim.Native.Nat.{ℕ, _≤_}
 use native.Mathlib.Omega.{arith}
-use borrow.Author.Tests.{ltb-false, not-false}
+use borrow.Author.Tests.{ltb-false}
 use lib.Dec.{ltb}
 use Rattle.seq.specs.Below.{atFound}
 use Rattle.seq.specs.declared.Found.{Found}
 use Rattle.seq.specs.declared.Found.the-variants.{At, Nowhere}
-use Rattle.model.specs.declared.Condition.{Condition}
-use Rattle.model.specs.declared.Condition.the-variants.{Free, Idle, Fetching, Waiting, Killed}
 use Rattle.model.specs.declared.Row.{Row}
 use Rattle.model.specs.declared.State.{State}
 use Rattle.model.specs.Parties.{rowOf}
 use Rattle.model.specs.State.{emptyHolding, rowAt, holdingAt}
-use Rattle.model.specs.Words.{isLive, isPin, pins, slotOf}
-use Rattle.rules.specs.Refusals.{
-  conditionAt,
-  isFree,
-  isBusy,
-  isKilled,
-  isWaiting,
-  pinsPage,
-  beginRefusal,
-  requestRefusal,
-  retryRefusal,
-  unpinRefusal,
-  endRefusal,
-  tickRefusal,
-  lookRefusal,
-}
+use Rattle.model.specs.Words.{isPin, pins, slotOf}
+use Rattle.rules.specs.Refusals.{conditionAt, pinsPage, beginRefusal, requestRefusal, retryRefusal, unpinRefusal, endRefusal, tickRefusal}
 use Rattle.rules.proofs.Alike.{holdingOn, Alike}
 
 pub pins-on : (s : State) (row page : ℕ) → pinsPage s row page ≡ isPin (holdingOn s page row .pin)
@@ -80,67 +64,3 @@ module _ (L : ℕ) (s t : State) (alike : Alike L s t) where
     unfolding unpinRefusal
     same-unpin-refusal page = by-row (λ x. unpinRefusal x level number page) (λ e. rw e)
         (λ h. rw (pins-on s (rowOf level number) page, pins-on t (rowOf level number) page, alike .holding page (rowOf level number) (omega arith) (omega arith), own-condition h))
-
--- ---- what an accepted call says
-
-passes : (k : ℕ) (b : Bool) (rest : ℕ) → 1 ≤ k → cond b k rest ≡ 0 → (b ≡ false) × (rest ≡ 0)
-passes k true rest h e = absurd (omega arith)
-passes k false rest h e = (refl, e)
-
-row-passed : (level number rest : ℕ) → cond (ltb 3 level) 4 (cond (ltb 7 number) 5 rest) ≡ 0 → (number ≤ 7) × (rest ≡ 0)
-row-passed level number rest e =
-    let a = passes 4 (ltb 3 level) (cond (ltb 7 number) 5 rest) (omega arith) e in
-    let b = passes 5 (ltb 7 number) rest (omega arith) (a .1) in
-    (ltb-false 7 number (b .0), b .1)
-
-pub begin-passed : (s : State) (level number deadline : ℕ) → beginRefusal s level number deadline ≡ 0 → number ≤ 7
-unfolding beginRefusal
-begin-passed s level number deadline e = row-passed level number _ e .0
-
-pub end-passed : (s : State) (level number : ℕ) → endRefusal s level number ≡ 0 → number ≤ 7
-unfolding endRefusal
-end-passed s level number e = row-passed level number _ e .0
-
-pub look-passed : (level number : ℕ) → lookRefusal level number ≡ 0 → number ≤ 7
-unfolding lookRefusal
-look-passed level number e = row-passed level number _ e .0
-
-pub unpin-passed : (s : State) (level number page : ℕ) → unpinRefusal s level number page ≡ 0 → (number ≤ 7) × (pinsPage s (rowOf level number) page ≡ true)
-unfolding unpinRefusal
-unpin-passed s level number page e =
-    let b = row-passed level number _ e in
-    let c = passes 6 (ltb 4095 page) _ (omega arith) (b .1) in
-    let d = passes 9 (isFree (conditionAt s level number)) _ (omega arith) (c .1) in
-    let f = passes 10 (isKilled (conditionAt s level number)) _ (omega arith) (d .1) in
-    let g = passes 11 (isBusy (conditionAt s level number)) _ (omega arith) (f .1) in
-    let h = passes 15 (not (pinsPage s (rowOf level number) page)) 0 (omega arith) (g .1) in
-    (b .0, not-false (pinsPage s (rowOf level number) page) (h .0))
-
--- a row that is neither free nor killed is live
-live : (c : Condition) → isFree c ≡ false → isKilled c ≡ false → isLive c ≡ true
-live Free f k = sym f
-live Idle f k = refl
-live (Fetching due) f k = refl
-live (Waiting page mode) f k = refl
-live (Killed cause) f k = sym k
-
-pub request-passed : (s : State) (level number page mode : ℕ) → requestRefusal s level number page mode ≡ 0
-    → (number ≤ 7) × (page ≤ 4095) × (isLive (rowAt s (rowOf level number) .condition) ≡ true)
-unfolding requestRefusal
-request-passed s level number page mode e =
-    let b = row-passed level number _ e in
-    let c = passes 6 (ltb 4095 page) _ (omega arith) (b .1) in
-    let d = passes 7 (ltb 1 mode) _ (omega arith) (c .1) in
-    let f = passes 9 (isFree (conditionAt s level number)) _ (omega arith) (d .1) in
-    let g = passes 10 (isKilled (conditionAt s level number)) _ (omega arith) (f .1) in
-    (b .0, ltb-false 4095 page (c .0), live (rowAt s (rowOf level number) .condition) (f .0) (g .0))
-
-pub retry-passed : (s : State) (level number : ℕ) → retryRefusal s level number ≡ 0
-    → (number ≤ 7) × (isWaiting (rowAt s (rowOf level number) .condition) ≡ true)
-unfolding retryRefusal
-retry-passed s level number e =
-    let b = row-passed level number _ e in
-    let f = passes 9 (isFree (conditionAt s level number)) _ (omega arith) (b .1) in
-    let g = passes 10 (isKilled (conditionAt s level number)) _ (omega arith) (f .1) in
-    let h = passes 16 (not (isWaiting (conditionAt s level number))) 0 (omega arith) (g .1) in
-    (b .0, not-false (isWaiting (conditionAt s level number)) (h .0))

@@ -9,19 +9,23 @@ use Rattle.model.specs.declared.Cause.the-variants.{Taken}
 use Rattle.model.specs.declared.Mode.{Mode}
 use Rattle.model.specs.declared.State.{State}
 use Rattle.model.specs.Parties.{levelOf}
+use Rattle.model.specs.State.{holdingAt}
 use Rattle.model.specs.Words.{isHeld, seen, leastArrival, slotOf}
 use Rattle.model.specs.Changes.{killed}
 use Rattle.model.proofs.ChangeLaws.{sized-killed}
+use Rattle.model.proofs.SeenLaws.{no-dormant}
 use Rattle.rules.specs.Calls.{conflicts, mustWait, waiting, granted, step1, step3, servedAt, served}
 use Rattle.rules.proofs.SoundFacts.{Sound}
-use Rattle.rules.proofs.Alike.{holdingOn, Alike}
-use Rattle.rules.proofs.PageLaws.{found-slot, killed-slot-of}
-use Rattle.rules.proofs.SamePages.{held-found, same-conflicts, same-seen, same-least, same-must-wait}
-use Rattle.rules.proofs.SameChanges.{Same, same-waiting, same-granted, same-killed}
-use Rattle.rules.proofs.SameCalls.{no-dormant}
+use Rattle.rules.proofs.Alike.{holdingOn, Alike, Same}
+use Rattle.rules.proofs.PageLaws.{found-slot, killed-slot-of, on-held}
+use Rattle.rules.proofs.SamePages.{same-conflicts, same-seen, same-least, same-must-wait, same-holding}
+use Rattle.rules.proofs.SameChanges.{same-waiting, same-granted, same-killed}
 
 module _ (L : ℕ) (s t : State) (y : Sound s) (z : Sound t) (alike : Alike L s t) (me page : ℕ) (mode : Mode) (h : me < 32) (l : levelOf me ≤ L) where
   module _ (i j : ℕ) (at-s : slotOf s page ≡ At i) (at-t : slotOf t page ≡ At j) where
+    same : (r : ℕ) → r < 32 → levelOf r ≤ L → holdingAt s i r ≡ holdingAt t j r
+    same = same-holding L s t alike page i j at-s at-t
+
     -- the other rows with a conflicting pin are killed, and the page is granted
     same-taken : (arrival arrival′ : ℕ) → arrival ≡ arrival′
         → Same L (granted (killed (conflicts s me i mode) Taken s) me i mode arrival Nothing) (granted (killed (conflicts t me j mode) Taken t) me j mode arrival′ Nothing)
@@ -29,7 +33,7 @@ module _ (L : ℕ) (s t : State) (y : Sound s) (z : Sound t) (alike : Alike L s 
         rw e
         (same-granted L (killed (conflicts s me i mode) Taken s) (killed (conflicts t me j mode) Taken t)
         (sized-killed (conflicts s me i mode) s (y .sized) Taken) (sized-killed (conflicts t me j mode) t (z .sized) Taken)
-        (same-killed L s t (y .sized) (z .sized) alike (y .size-most) (z .size-most) (conflicts s me i mode) (conflicts t me j mode) (same-conflicts L s t alike page i j at-s at-t me mode) Taken)
+        (same-killed L s t (y .sized) (z .sized) alike (y .size-most) (z .size-most) (conflicts s me i mode) (conflicts t me j mode) (same-conflicts L s t alike i j same me mode) Taken)
         me page i j h l (omega (arith, found-slot s page i at-s .0, y .size-most)) (omega (arith, found-slot t page j at-t .0, z .size-most))
         (killed-slot-of (conflicts s me i mode) s (y .sized) (y .size-most) Taken page ∙ at-s)
         (killed-slot-of (conflicts t me j mode) t (z .sized) (z .size-most) Taken page ∙ at-t)
@@ -37,13 +41,13 @@ module _ (L : ℕ) (s t : State) (y : Sound s) (z : Sound t) (alike : Alike L s 
 
     same-step1 : Same L (step1 s me i page mode) (step1 t me j page mode)
     unfolding step1
-    same-step1 = rw (same-must-wait L s t alike page i j at-s at-t me mode h l) (go (mustWait t me j mode))
+    same-step1 = rw (same-must-wait L s t alike i j same me mode h l) (go (mustWait t me j mode))
       where
         go : (b : Bool)
             → Same L (cond b (waiting s me page mode) (granted (killed (conflicts s me i mode) Taken s) me i mode (leastArrival s (levelOf me) i) Nothing))
             (cond b (waiting t me page mode) (granted (killed (conflicts t me j mode) Taken t) me j mode (leastArrival t (levelOf me) j) Nothing))
         go true = same-waiting L s t (y .sized) (z .sized) alike me page mode h l
-        go false = same-taken (leastArrival s (levelOf me) i) (leastArrival t (levelOf me) j) (same-least L s t alike page i j at-s at-t (levelOf me) l)
+        go false = same-taken (leastArrival s (levelOf me) i) (leastArrival t (levelOf me) j) (same-least L s t alike i j same (levelOf me) l)
 
     same-step3 : Same L (step3 s me i mode) (step3 t me j mode)
     unfolding step3
@@ -51,7 +55,7 @@ module _ (L : ℕ) (s t : State) (y : Sound s) (z : Sound t) (alike : Alike L s 
 
     same-served-at : L ≤ 2 → Same L (servedAt (At i) s me page mode) (servedAt (At j) t me page mode)
     same-served-at two =
-        rw (same-seen L s t alike page i j at-s at-t (levelOf me) l, no-dormant s (levelOf me) i (omega arith), no-dormant t (levelOf me) j (omega arith))
+        rw (same-seen L s t alike i j same (levelOf me) l, no-dormant s (levelOf me) i (omega arith), no-dormant t (levelOf me) j (omega arith))
         (go (seen t (levelOf me) j))
       where
         go : (b : Bool) → Same L (cond b (step1 s me i page mode) (step3 s me i mode)) (cond b (step1 t me j page mode) (step3 t me j mode))
@@ -61,6 +65,6 @@ module _ (L : ℕ) (s t : State) (y : Sound s) (z : Sound t) (alike : Alike L s 
   pub same-served : L ≤ 2 → (r : ℕ) → r < 32 → levelOf r ≤ L → isHeld (holdingOn s page r .pin) ≡ true → Same L (served s me page mode) (served t me page mode)
   unfolding served
   same-served two r k m e =
-      let fs = held-found s page r e in
-      let ft = held-found t page r (rw (alike .holding page r k m) at e) in
+      let fs = on-held s page r e in
+      let ft = on-held t page r (rw (alike .holding page r k m) at e) in
       rw (fs .1, ft .1) (same-served-at (fs .0) (ft .0) (fs .1) (ft .1) two)

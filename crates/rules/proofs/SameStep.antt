@@ -5,7 +5,7 @@ use Prim.Native.Nat.{ℕ, _<_, _≤_}
 use native.Mathlib.Omega.{arith}
 use borrow.Author.Tests.{leb-true, le-leb}
 use lib.Dec.{leb}
-use Rattle.seq.specs.Below.{anyBelow, countBelow}
+use Rattle.seq.specs.Below.{anyBelow}
 use Rattle.seq.proofs.Tests.{true-false, and-true, not-true-false, both-true}
 use Rattle.seq.proofs.BelowLaws.{any-none, any-hit}
 use Rattle.model.specs.declared.Condition.{Condition}
@@ -14,33 +14,32 @@ use Rattle.model.specs.declared.Mode.{Mode}
 use Rattle.model.specs.declared.State.{State}
 use Rattle.model.specs.Parties.{rowOf, levelOf, modeOf}
 use Rattle.model.specs.State.{rowAt}
-use Rattle.model.specs.Words.{isLive, isHeld, isOpen}
-use Rattle.rules.specs.Answers.{told}
+use Rattle.model.specs.Words.{isHeld}
 use Rattle.rules.specs.Calls.{served, requested, servedAgain, retried}
-use Rattle.rules.specs.Refusals.{isWaiting, requestRefusal, retryRefusal}
+use Rattle.rules.specs.Refusals.{requestRefusal, retryRefusal}
 use Rattle.rules.specs.Run.{Call, start, begin, request, retry, unpin, end, tick, look, view, count, outcome}
 use Rattle.rules.specs.Secrecy.{isKept}
 use Rattle.rules.specs.Sound.{sound}
-use Rattle.rules.proofs.SoundFacts.{Sound, RowSound, facts}
-use Rattle.rules.proofs.Alike.{holdingOn, Alike}
-use Rattle.rules.proofs.SameChanges.{Same, same-unless}
-use Rattle.rules.proofs.SameRefusals.{own-condition, same-request-refusal, same-retry-refusal, request-passed, retry-passed}
+use Rattle.rules.proofs.SoundFacts.{Sound, facts}
+use Rattle.rules.proofs.Alike.{holdingOn, Alike, Same}
+use Rattle.rules.proofs.RefusalFacts.{Named, request-taken, retry-taken}
+use Rattle.rules.proofs.SameSlots.{same-open-count}
+use Rattle.rules.proofs.SameChanges.{same-unless}
+use Rattle.rules.proofs.IntoSame.{into-same}
+use Rattle.rules.proofs.SameRefusals.{own-condition, same-request-refusal, same-retry-refusal}
 use Rattle.rules.proofs.SameCalls.{same-begun, same-ended, same-ticked, same-looked, same-viewed, same-counted}
 use Rattle.rules.proofs.SameUnpin.{same-unpinned}
 use Rattle.rules.proofs.SameServed.{same-served}
-use Rattle.rules.proofs.IntoSeen.{count-same}
-use Rattle.rules.proofs.IntoSame.{into-same}
 
-same-request : (L : ℕ) (s t : State) (me page : ℕ) (mode : Mode) → L ≤ 2 → me < 32 → levelOf me ≤ L → Sound s → Sound t → Alike L s t → page ≤ 4095
-    → isLive (rowAt s me .condition) ≡ true → Same L (served s me page mode) (served t me page mode)
-same-request L s t me page mode two h l y z alike p live = go (anyBelow 32 (λ r. leb (levelOf r) L && isHeld (holdingOn s page r .pin))) refl
+same-request : (L : ℕ) (s t : State) (me page : ℕ) (mode : Mode) → L ≤ 2 → me < 32 → levelOf me ≤ L → Sound s → Sound t → Alike L s t → Same L (served s me page mode) (served t me page mode)
+same-request L s t me page mode two h l y z alike = go (anyBelow 32 (λ r. leb (levelOf r) L && isHeld (holdingOn s page r .pin))) refl
   where
     go : (b : Bool) → anyBelow 32 (λ r. leb (levelOf r) L && isHeld (holdingOn s page r .pin)) ≡ b → Same L (served s me page mode) (served t me page mode)
     go true e =
         let x = any-hit (λ r. leb (levelOf r) L && isHeld (holdingOn s page r .pin)) 32 e in
         let q = and-true (leb (levelOf (x .0)) L) (isHeld (holdingOn s page (x .0) .pin)) (x .2) in
         same-served L s t y z alike me page mode h l two (x .0) (x .1) (leb-true (levelOf (x .0)) L (q .0)) (q .1)
-    go false e = into-same L s t me page mode two h l y z alike p live
+    go false e = into-same L s t me page mode two h l y z alike
         (λ r k m. not-true-false (isHeld (holdingOn s page r .pin))
         (λ w. true-false (sym (both-true (le-leb (levelOf r) L m) w) ∙ any-none (λ r. leb (levelOf r) L && isHeld (holdingOn s page r .pin)) 32 r e k)))
 
@@ -52,20 +51,15 @@ module _ (L : ℕ) (s t : State) (two : L ≤ 2) (y : Sound s) (z : Sound t) (al
       (served s (rowOf level number) page (modeOf mode)) (served t (rowOf level number) page (modeOf mode))
       alike (same-request-refusal L s t alike two level number low page mode)
       (λ e.
-      let p = request-passed s level number page mode e in
-      same-request L s t (rowOf level number) page (modeOf mode) two (omega (arith, p .0)) (omega (arith, p .0)) y z alike (p .1) (p .2))
+      let n = request-taken s level number page mode e .names in
+      same-request L s t (rowOf level number) page (modeOf mode) two (n .row-is) (omega (arith, n .own-level)) y z alike)
 
-  -- a waiting row's request is in range
-  again : (c : Condition) → number ≤ 7 → rowAt s (rowOf level number) .condition ≡ c → isWaiting c ≡ true
-      → Same L (servedAgain c s (rowOf level number)) (servedAgain c t (rowOf level number))
-  again Free n e w = true-false (sym w)
-  again Idle n e w = true-false (sym w)
-  again (Fetching due) n e w = true-false (sym w)
-  again (Killed cause) n e w = true-false (sym w)
-  again (Waiting page mode) n e w =
-      let h : rowOf level number < 32 = omega arith in
-      let q : RowSound s (rowOf level number) (Waiting page mode) (rowAt s (rowOf level number) .deadline) = rw e at (y .row (rowOf level number) h) in
-      same-request L s t (rowOf level number) page mode two h (omega arith) y z alike (q .1) (rw e)
+  again : Named level number → (c : Condition) → Same L (servedAgain c s (rowOf level number)) (servedAgain c t (rowOf level number))
+  again n Free = (refl, alike)
+  again n Idle = (refl, alike)
+  again n (Fetching due) = (refl, alike)
+  again n (Killed cause) = (refl, alike)
+  again n (Waiting page mode) = same-request L s t (rowOf level number) page mode two (n .row-is) (omega (arith, n .own-level)) y z alike
 
   same-retried : Same L (retried s level number) (retried t level number)
   unfolding retried
@@ -74,11 +68,11 @@ module _ (L : ℕ) (s t : State) (two : L ≤ 2) (y : Sound s) (z : Sound t) (al
       (servedAgain (rowAt s (rowOf level number) .condition) s (rowOf level number)) (servedAgain (rowAt t (rowOf level number) .condition) t (rowOf level number))
       alike (same-retry-refusal L s t alike two level number low)
       (λ e.
-      let p = retry-passed s level number e in
-      rw (← own-condition L s t alike two level number low (p .0)) (again (rowAt s (rowOf level number) .condition) (p .0) refl (p .1)))
+      let n = retry-taken s level number e in
+      rw (← own-condition L s t alike two level number low (n .number-is)) (again n (rowAt s (rowOf level number) .condition)))
 
 pub same-step : (L : ℕ) (s t : State) (c : Call) → L ≤ 2 → sound s ≡ true → sound t ≡ true → Alike L s t → isKept L c ≡ true
-    → (told (outcome s c .answer) ≡ told (outcome t c .answer)) × Alike L (outcome s c .state) (outcome t c .state)
+    → Same L (outcome s c) (outcome t c)
 unfolding outcome isKept
 same-step L s t (start slots delay) two y z a k = true-false (sym k)
 same-step L s t (begin level number deadline) two y z a k = same-begun L s t (facts s y) (facts t z) a two level (leb-true level L k) number deadline
@@ -89,4 +83,4 @@ same-step L s t (end level number) two y z a k = same-ended L s t (facts s y) (f
 same-step L s t tick two y z a k = same-ticked L s t (facts s y) (facts t z) a
 same-step L s t (look level number) two y z a k = same-looked L s t (facts s y) (facts t z) a two level (leb-true level L k) number
 same-step L s t (view level page) two y z a k = same-viewed L s t (facts s y) (facts t z) a two level (leb-true level L k) page
-same-step L s t (count level) two y z a k = same-counted L s t (facts s y) (facts t z) a two level (leb-true level L k) (count-same L s t (facts s y) (facts t z) a level (leb-true level L k))
+same-step L s t (count level) two y z a k = same-counted L s t (facts s y) (facts t z) a two level (leb-true level L k) (same-open-count L s t (facts s y) (facts t z) a level (leb-true level L k))

@@ -1,8 +1,7 @@
--- How a request or retry is served: a wait by step 1 or g, a page that a slot has, or a chosen slot filled.
-use mathlib.Core.Path.{_≡_, refl, sym, ap}
+-- How a request or retry is served: by which step, and whether it waits, joins a slot that has the page, or fills a chosen slot.
+use mathlib.Core.Path.{_≡_, refl, sym, _∙_, ap}
 use mathlib.Core.Bool.{Bool, true, false, cond, _&&_}
 use Prim.Native.Nat.{ℕ, _+_}
-use borrow.Author.Tests.{eq-eqb}
 use Rattle.seq.specs.declared.Found.{Found}
 use Rattle.seq.specs.declared.Found.the-variants.{At, Nowhere}
 use Rattle.seq.proofs.BelowLaws.{none-any}
@@ -19,6 +18,44 @@ use Rattle.model.specs.Changes.{written, dirtied, released, killed}
 use Rattle.model.proofs.ChangeLaws.{wroteSlot}
 use Rattle.rules.specs.Choice.{chosen}
 use Rattle.rules.specs.Calls.{waiting, granted, conflicts, mustWait, step1, step2, step3, pinnersKilled, writeBack, filled, intoSlot, servedAt, served}
+use Rattle.rules.proofs.GrantLaws.{own-spared}
+
+-- the step that serves it
+pub data Step (s : State) (row page : ℕ) (mode : Mode) (o : Outcome) : Type 0 where
+  wait-1 : (slot : ℕ) → slotOf s page ≡ At slot → seen s (levelOf row) slot ≡ true → mustWait s row slot mode ≡ true → o ≡ waiting s row page mode → Step s row page mode o
+  grant-1 : (slot : ℕ) → slotOf s page ≡ At slot → seen s (levelOf row) slot ≡ true → mustWait s row slot mode ≡ false
+      → o ≡ granted (killed (conflicts s row slot mode) Taken s) row slot mode (leastArrival s (levelOf row) slot) Nothing → Step s row page mode o
+  grant-2 : (slot : ℕ) → slotOf s page ≡ At slot → seesDormant s (levelOf row) slot ≡ true
+      → o ≡ granted s row slot mode (arrivalIn (slotAt s slot .content)) Nothing → Step s row page mode o
+  grant-3 : (slot : ℕ) → slotOf s page ≡ At slot → seen s (levelOf row) slot ≡ false
+      → o ≡ granted (killed (conflicts s row slot mode) Taken s) row slot mode (s .clock + s .delay) Nothing → Step s row page mode o
+  wait-g : slotOf s page ≡ Nowhere → chosen s row ≡ Nowhere → o ≡ waiting s row page mode → Step s row page mode o
+  fill : (slot : ℕ) → slotOf s page ≡ Nowhere → chosen s row ≡ At slot
+      → o ≡ granted (filled (pinnersKilled s slot) slot page (levelOf row)) row slot mode (s .clock + s .delay) (writeBack (slotAt (pinnersKilled s slot) slot)) → Step s row page mode o
+
+module _ (s : State) (row page : ℕ) (mode : Mode) where
+  there : (slot : ℕ) → slotOf s page ≡ At slot → (v w d : Bool) → seen s (levelOf row) slot ≡ v → mustWait s row slot mode ≡ w → seesDormant s (levelOf row) slot ≡ d
+      → Step s row page mode (cond v
+      (cond w (waiting s row page mode) (granted (killed (conflicts s row slot mode) Taken s) row slot mode (leastArrival s (levelOf row) slot) Nothing))
+      (cond d (granted s row slot mode (arrivalIn (slotAt s slot .content)) Nothing) (granted (killed (conflicts s row slot mode) Taken s) row slot mode (s .clock + s .delay) Nothing)))
+  there slot e true true d p q r = wait-1 slot e p q refl
+  there slot e true false d p q r = grant-1 slot e p q refl
+  there slot e false w true p q r = grant-2 slot e r refl
+  there slot e false w false p q r = grant-3 slot e p refl
+
+  absent : slotOf s page ≡ Nowhere → (f : Found) → chosen s row ≡ f → Step s row page mode (intoSlot f s row page mode)
+  absent e Nowhere q = wait-g e q refl
+  absent e (At slot) q = fill slot e q refl
+
+  pub step : Step s row page mode (served s row page mode)
+  unfolding served step1 step2 step3
+  step = go (slotOf s page) refl
+    where
+      go : (f : Found) → slotOf s page ≡ f → Step s row page mode (servedAt f s row page mode)
+      go Nowhere e = absent e (chosen s row) refl
+      go (At slot) e = there slot e (seen s (levelOf row) slot) (mustWait s row slot mode) (seesDormant s (levelOf row) slot) refl refl refl
+
+-- ---- the same without the order of the steps
 
 -- a kill of no row
 killed-none : (s : State) → killed (λ _. false) Taken s ≡ s
@@ -29,11 +66,6 @@ killed-none s = λ j.
     (each-still (λ k h. h) (s .holdings) emptyHolding (λ i h. refl) j))
     (each-still (λ row x. x) (s .rows) freeRow (λ i h. refl) j)
 
--- the rows killed for a page that a slot has are not the requester
-conflicts-other : (s : State) (row slot : ℕ) (mode : Mode) → conflicts s row slot mode row ≡ false
-unfolding conflicts
-conflicts-other s row slot mode = rw (eq-eqb row row refl)
-
 pub data Serving (s : State) (row page : ℕ) (mode : Mode) (o : Outcome) : Type 0 where
   waits : (slot : ℕ) → slotOf s page ≡ At slot → seen s (levelOf row) slot ≡ true → mustWait s row slot mode ≡ true → o ≡ waiting s row page mode → Serving s row page mode o
   waits-g : slotOf s page ≡ Nowhere → chosen s row ≡ Nowhere → o ≡ waiting s row page mode → Serving s row page mode o
@@ -41,39 +73,15 @@ pub data Serving (s : State) (row page : ℕ) (mode : Mode) (o : Outcome) : Type
   fills : (slot : ℕ) → slotOf s page ≡ Nowhere → chosen s row ≡ At slot
       → o ≡ granted (filled (pinnersKilled s slot) slot page (levelOf row)) row slot mode (s .clock + s .delay) (writeBack (slotAt (pinnersKilled s slot) slot)) → Serving s row page mode o
 
-module _ (s : State) (row page : ℕ) (mode : Mode) where
-  step1-how : (slot : ℕ) → slotOf s page ≡ At slot → seen s (levelOf row) slot ≡ true → Serving s row page mode (step1 s row slot page mode)
-  unfolding step1
-  step1-how slot e v = go (mustWait s row slot mode) refl
-    where
-      go : (w : Bool) → mustWait s row slot mode ≡ w
-          → Serving s row page mode (cond w (waiting s row page mode) (granted (killed (conflicts s row slot mode) Taken s) row slot mode (leastArrival s (levelOf row) slot) Nothing))
-      go true q = waits slot e v q refl
-      go false q = joins slot (leastArrival s (levelOf row) slot) (conflicts s row slot mode) e (conflicts-other s row slot mode) refl
-
-  step2-how : (slot : ℕ) → slotOf s page ≡ At slot → Serving s row page mode (step2 s row slot mode)
-  unfolding step2
-  step2-how slot e =
-      joins slot (arrivalIn (slotAt s slot .content)) (λ _. false) e refl
-      (ap (λ (u : State). granted u row slot mode (arrivalIn (slotAt s slot .content)) Nothing) (sym (killed-none s)))
-
-  step3-how : (slot : ℕ) → slotOf s page ≡ At slot → Serving s row page mode (step3 s row slot mode)
-  unfolding step3
-  step3-how slot e = joins slot (s .clock + s .delay) (conflicts s row slot mode) e (conflicts-other s row slot mode) refl
-
-  into-how : slotOf s page ≡ Nowhere → (f : Found) → chosen s row ≡ f → Serving s row page mode (intoSlot f s row page mode)
-  into-how e Nowhere q = waits-g e q refl
-  into-how e (At slot) q = fills slot e q refl
-
-  at-how : (f : Found) → slotOf s page ≡ f → Serving s row page mode (servedAt f s row page mode)
-  at-how Nowhere e = into-how e (chosen s row) refl
-  at-how (At slot) e = go (seen s (levelOf row) slot) (seesDormant s (levelOf row) slot) refl
-    where
-      go : (v d : Bool) → seen s (levelOf row) slot ≡ v → Serving s row page mode (cond v (step1 s row slot page mode) (cond d (step2 s row slot mode) (step3 s row slot mode)))
-      go true d q = step1-how slot e q
-      go false true q = step2-how slot e
-      go false false q = step3-how slot e
-
-  pub serving : Serving s row page mode (served s row page mode)
-  unfolding served
-  serving = at-how (slotOf s page) refl
+pub serving : (s : State) (row page : ℕ) (mode : Mode) → Serving s row page mode (served s row page mode)
+serving s row page mode = go (served s row page mode) (step s row page mode)
+  where
+    go : (o : Outcome) → Step s row page mode o → Serving s row page mode o
+    go o (wait-1 slot e v w q) = waits slot e v w q
+    go o (grant-1 slot e v w q) = joins slot (leastArrival s (levelOf row) slot) (conflicts s row slot mode) e (own-spared s row slot mode) q
+    go o (grant-2 slot e d q) =
+        joins slot (arrivalIn (slotAt s slot .content)) (λ _. false) e refl
+        (q ∙ ap (λ (u : State). granted u row slot mode (arrivalIn (slotAt s slot .content)) Nothing) (sym (killed-none s)))
+    go o (grant-3 slot e v q) = joins slot (s .clock + s .delay) (conflicts s row slot mode) e (own-spared s row slot mode) q
+    go o (wait-g e c q) = waits-g e c q
+    go o (fill slot e c q) = fills slot e c q

@@ -3,12 +3,12 @@ use mathlib.Core.Path.{_≡_, refl, sym}
 use mathlib.Core.Bool.{Bool, true, false, _&&_, _||_, not}
 use Prim.Native.Nat.{ℕ, _+_, _<_, _≤_}
 use native.Mathlib.Omega.{arith}
-use borrow.Author.Tests.{eqb-true, lt-ltb, le-leb, eq-eqb, lt-leb}
+use borrow.Author.Tests.{lt-ltb, le-leb, eq-eqb, lt-leb}
 use lib.Dec.{leb, ltb}
 use lib.ListN.{length}
 use Rattle.seq.specs.Below.{allBelow, countBelow}
-use Rattle.seq.proofs.Tests.{true-false, and-true, both-true, not-true-false, or-true-right}
-use Rattle.seq.proofs.BelowLaws.{each-all, one-count}
+use Rattle.seq.proofs.Tests.{and-true, both-true, not-true-false, or-true-right}
+use Rattle.seq.proofs.BelowLaws.{each-all, one-count, each-pairs}
 use Rattle.model.specs.declared.Condition.{Condition}
 use Rattle.model.specs.declared.Condition.the-variants.{Free, Idle, Fetching, Waiting, Killed}
 use Rattle.model.specs.declared.Content.{Content}
@@ -17,16 +17,12 @@ use Rattle.model.specs.declared.State.{State}
 use Rattle.model.specs.Parties.{levelOf, lastClock, isPast}
 use Rattle.model.specs.State.{rowAt, slotAt, holdingAt}
 use Rattle.model.specs.Words.{isFilled, pageIn, arrivalIn, lowestIn, hasPage, holds, conflict}
+use Rattle.model.proofs.ContentLaws.{page-has}
 use Rattle.rules.specs.Sound.{soundNumbers, arrived, awaits, soundContent, soundSlot, samePage, soundPages, soundCondition, soundRow, soundHolding, soundPins, sound}
 use Rattle.rules.proofs.SoundFacts.{SlotSound, Settled, RowSound, Sound}
 
 false-not : (b : Bool) → b ≡ false → not b ≡ true
 false-not b e = rw e
-
--- a content with the page is filled, and the page is its page
-pub page-there : (page : ℕ) (c : Content) → hasPage page c ≡ true → (isFilled c ≡ true) × (pageIn c ≡ page)
-page-there page Empty e = true-false (sym e)
-page-there page (Filled p a x l) e = (refl, eqb-true p page e)
 
 slot-back : (s : State) (i : ℕ) → SlotSound s i → soundSlot s i ≡ true
 unfolding soundSlot
@@ -48,13 +44,12 @@ slot-back s i h = both-true (go (slotAt s i .content) refl) (last (isFilled (slo
 pages-back : (s : State) → Sound s → soundPages s ≡ true
 unfolding soundPages samePage
 pages-back s h =
-    each-all (λ slot. allBelow slot (λ other. not (isFilled (slotAt s slot .content) && hasPage (pageIn (slotAt s slot .content)) (slotAt s other .content)))) 64
-    (λ i a. each-all (λ other. not (isFilled (slotAt s i .content) && hasPage (pageIn (slotAt s i .content)) (slotAt s other .content))) i
-    (λ j b. false-not (isFilled (slotAt s i .content) && hasPage (pageIn (slotAt s i .content)) (slotAt s j .content))
+    each-pairs (λ slot other. not (isFilled (slotAt s slot .content) && hasPage (pageIn (slotAt s slot .content)) (slotAt s other .content))) 64
+    (λ i j a b. false-not (isFilled (slotAt s i .content) && hasPage (pageIn (slotAt s i .content)) (slotAt s j .content))
     (not-true-false (isFilled (slotAt s i .content) && hasPage (pageIn (slotAt s i .content)) (slotAt s j .content)) (λ e.
     let f = and-true (isFilled (slotAt s i .content)) (hasPage (pageIn (slotAt s i .content)) (slotAt s j .content)) e in
-    let g = page-there (pageIn (slotAt s i .content)) (slotAt s j .content) (f .1) in
-    omega (arith, h .one-slot i j a (omega arith) (f .0) (g .0) (sym (g .1)))))))
+    let g = page-has (pageIn (slotAt s i .content)) (slotAt s j .content) (f .1) in
+    omega (arith, h .one-slot i j a (omega arith) (f .0) (g .0) (sym (g .1))))))
 
 arrived-back : (s : State) (i r : ℕ) → (holds s i r ≡ true → holdingAt s i r .arrival ≤ s .clock) → arrived s i r ≡ true
 unfolding arrived
@@ -103,9 +98,8 @@ holding-back s i r a b h = go (holds s i r) refl
 pins-back : (s : State) (i : ℕ) → i < 64 → Sound s → soundPins s i ≡ true
 unfolding soundPins
 pins-back s i a h =
-    each-all (λ row. allBelow row (λ other. not (conflict (holdingAt s i row .pin) (holdingAt s i other .pin)))) 32
-    (λ r b. each-all (λ other. not (conflict (holdingAt s i r .pin) (holdingAt s i other .pin))) r
-    (λ q c. false-not (conflict (holdingAt s i r .pin) (holdingAt s i q .pin)) (h .no-conflict i r q a b (omega arith) (λ e. omega arith))))
+    each-pairs (λ row other. not (conflict (holdingAt s i row .pin) (holdingAt s i other .pin))) 32
+    (λ r q b c. false-not (conflict (holdingAt s i r .pin) (holdingAt s i q .pin)) (h .no-conflict i r q a b (omega arith) (λ e. omega arith)))
 
 pub back : (s : State) → Sound s → sound s ≡ true
 unfolding sound soundNumbers soundRow

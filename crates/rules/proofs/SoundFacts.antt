@@ -1,15 +1,15 @@
--- What sound says of a state, as facts; and that these facts are all that it says.
-use mathlib.Core.Path.{_≡_, refl, sym, _∙_, ap, subst}
-use mathlib.Core.Bool.{Bool, true, false, cond, _&&_, _||_, not}
-use Prim.Native.Nat.{ℕ, zero, suc, _+_, _<_, _≤_}
+-- What sound says of a state, as facts.
+use mathlib.Core.Path.{_≡_, refl, sym, _∙_}
+use mathlib.Core.Bool.{Bool, true, false, _&&_, _||_, not}
+use Prim.Native.Nat.{ℕ, _+_, _<_, _≤_}
 use native.Mathlib.Omega.{arith}
-use native.Mathlib.Decide.{ℕ-discrete, decLt}
-use borrow.Author.Tests.{ltb-true, leb-true, eqb-true, ltb-false, leb-false, lt-ltb, le-leb, eq-eqb, lt-leb, le-ltb, not-true, not-false}
-use lib.Dec.{leb, ltb, eqb}
+use native.Mathlib.Decide.{ℕ-discrete}
+use borrow.Author.Tests.{ltb-true, leb-true, eqb-true, leb-false, not-true}
+use lib.Dec.{ltb, eqb}
 use lib.ListN.{length}
 use Rattle.seq.specs.Below.{allBelow, countBelow}
-use Rattle.seq.proofs.Tests.{true-false, parts, and-true, both-true, not-true-false, or-true-right}
-use Rattle.seq.proofs.BelowLaws.{all-each, each-all, One, count-one, one-count}
+use Rattle.seq.proofs.Tests.{true-false, parts, and-true, both-true, not-true-false}
+use Rattle.seq.proofs.BelowLaws.{all-each, One, count-one, pairs-each, by-larger}
 use Rattle.model.specs.declared.Condition.{Condition}
 use Rattle.model.specs.declared.Condition.the-variants.{Free, Idle, Fetching, Waiting, Killed}
 use Rattle.model.specs.declared.Content.{Content}
@@ -19,9 +19,11 @@ use Rattle.model.specs.declared.Pin.the-variants.{Absent, Unpinned, Read, Write
 use Rattle.model.specs.declared.Holding.{Holding}
 use Rattle.model.specs.declared.State.{State}
 use Rattle.model.specs.Parties.{levelOf, mayAccess, lastClock, isPast}
-use Rattle.model.specs.State.{emptySlot, emptyHolding, rowAt, slotAt, holdingAt}
-use Rattle.model.specs.Words.{isLive, isFilled, pageIn, arrivalIn, lowestIn, hasPage, isHeld, holds, pins, conflict}
+use Rattle.model.specs.State.{emptyHolding, rowAt, slotAt, holdingAt}
+use Rattle.model.specs.Words.{isLive, isFilled, pageIn, arrivalIn, lowestIn, hasPage, isHeld, holds, conflict}
 use Rattle.model.proofs.StateLaws.{Sized}
+use Rattle.model.proofs.ContentLaws.{has-page}
+use Rattle.model.proofs.PinLaws.{conflict-comm}
 use Rattle.rules.specs.Sound.{soundNumbers, pinAllowed, arrived, awaits, soundContent, soundSlot, samePage, soundPages, soundCondition, soundRow, soundHolding, soundPins, sound}
 
 -- a slot
@@ -61,7 +63,12 @@ pub record Held (s : State) (slot row : ℕ) : Type 0 where
   pub touch : holdingAt s slot row .touch ≤ slotAt s slot .touch
   pub lowest : lowestIn (slotAt s slot .content) ≤ levelOf row
 
-pub record Sound (s : State) : Type 0 where
+-- what it says of the rows
+abbrev pub RowsSound : State → Type 0
+RowsSound s = (r : ℕ) → r < 32 → RowSound s r (rowAt s r .condition) (rowAt s r .deadline)
+
+-- what it says of a state, with a given part for the rows
+pub record Facts (Rows : Type 0) (s : State) : Type 0 where
   pub sized : Sized s
   pub size-least : 1 ≤ s .size
   pub size-most : s .size ≤ 64
@@ -71,31 +78,15 @@ pub record Sound (s : State) : Type 0 where
   pub slot : (i : ℕ) → i < 64 → SlotSound s i
   pub one-slot : (i j : ℕ) → i < 64 → j < 64 → isFilled (slotAt s i .content) ≡ true → isFilled (slotAt s j .content) ≡ true
       → pageIn (slotAt s i .content) ≡ pageIn (slotAt s j .content) → i ≡ j
-  pub row : (r : ℕ) → r < 32 → RowSound s r (rowAt s r .condition) (rowAt s r .deadline)
+  pub row : Rows
   pub held : (i r : ℕ) → i < 64 → r < 32 → holds s i r ≡ true → Held s i r
   pub unheld : (i r : ℕ) → i < 64 → r < 32 → holds s i r ≡ false → holdingAt s i r ≡ emptyHolding
   pub no-conflict : (i r q : ℕ) → i < 64 → r < 32 → q < 32 → (r ≡ q → ⊥) → conflict (holdingAt s i r .pin) (holdingAt s i q .pin) ≡ false
 
--- ---- from the test to the facts
+abbrev pub Sound : State → Type 0
+Sound s = Facts (RowsSound s) s
 
-conflict-sym : (p q : Pin) → conflict p q ≡ conflict q p
-unfolding conflict
-conflict-sym Absent Absent = refl
-conflict-sym Absent Unpinned = refl
-conflict-sym Absent Read = refl
-conflict-sym Absent Write = refl
-conflict-sym Unpinned Absent = refl
-conflict-sym Unpinned Unpinned = refl
-conflict-sym Unpinned Read = refl
-conflict-sym Unpinned Write = refl
-conflict-sym Read Absent = refl
-conflict-sym Read Unpinned = refl
-conflict-sym Read Read = refl
-conflict-sym Read Write = refl
-conflict-sym Write Absent = refl
-conflict-sym Write Unpinned = refl
-conflict-sym Write Read = refl
-conflict-sym Write Write = refl
+-- ---- from the test to the facts
 
 slot-facts : (s : State) (i : ℕ) → soundSlot s i ≡ true → SlotSound s i
 unfolding soundSlot
@@ -189,42 +180,25 @@ unheld-facts s i r e h =
     let k = and-true (eqb (holdingAt s i r .arrival) 0) (eqb (holdingAt s i r .touch) 0) (rw h at e) in
     no-holding (holdingAt s i r) h (eqb-true (holdingAt s i r .arrival) 0 (k .0)) (eqb-true (holdingAt s i r .touch) 0 (k .1))
 
--- what holds of each pair of different numbers by the larger first, holds of each pair
-pairs : (P : ℕ → ℕ → Type 0) → ((i j : ℕ) → P i j → P j i) → (n : ℕ) → ((i j : ℕ) → i < n → j < i → P i j) → (i j : ℕ) → i < n → j < n → (i ≡ j → ⊥) → P i j
-pairs P sy n f i j a b m = elim (decLt j i) [
-  | yes h ↦ f i j a h
-  | no h ↦ sy j i (f j i b (let k = m in elim (ℕ-discrete i j) [ yes e ↦ absurd (k e) | no e ↦ omega arith ]))
-]
-
-has-page : (c d : Content) → isFilled d ≡ true → pageIn c ≡ pageIn d → hasPage (pageIn c) d ≡ true
-has-page c Empty f e = true-false (sym f)
-has-page c (Filled p a x l) f e = eq-eqb p (pageIn c) (sym e)
-
-has-page-back : (n : ℕ) (d : Content) → hasPage n d ≡ true → (isFilled d ≡ true) × (pageIn d ≡ n)
-has-page-back n Empty e = true-false (sym e)
-has-page-back n (Filled p a x l) e = (refl, eqb-true p n e)
-
 pages-facts : (s : State) → soundPages s ≡ true → (i j : ℕ) → i < 64 → j < 64 → isFilled (slotAt s i .content) ≡ true → isFilled (slotAt s j .content) ≡ true
     → pageIn (slotAt s i .content) ≡ pageIn (slotAt s j .content) → i ≡ j
 unfolding soundPages samePage
 pages-facts s e i j a b f g q = elim (ℕ-discrete i j) [
   | yes m ↦ m
-  | no m ↦ absurd (pairs (λ x y. isFilled (slotAt s x .content) ≡ true → isFilled (slotAt s y .content) ≡ true → pageIn (slotAt s x .content) ≡ pageIn (slotAt s y .content) → ⊥)
+  | no m ↦ absurd (by-larger (λ x y. isFilled (slotAt s x .content) ≡ true → isFilled (slotAt s y .content) ≡ true → pageIn (slotAt s x .content) ≡ pageIn (slotAt s y .content) → ⊥)
       (λ x y h u v w. h v u (sym w)) 64
       (λ x y c d u v w.
-      let k = all-each (λ other. not (isFilled (slotAt s x .content) && hasPage (pageIn (slotAt s x .content)) (slotAt s other .content))) x y
-      (all-each (λ slot. allBelow slot (λ other. not (isFilled (slotAt s slot .content) && hasPage (pageIn (slotAt s slot .content)) (slotAt s other .content)))) 64 x e c) d in
-      true-false (sym (both-true u (has-page (slotAt s x .content) (slotAt s y .content) v w)) ∙ not-true (isFilled (slotAt s x .content) && hasPage (pageIn (slotAt s x .content)) (slotAt s y .content)) k))
+      let k = pairs-each (λ slot other. not (isFilled (slotAt s slot .content) && hasPage (pageIn (slotAt s slot .content)) (slotAt s other .content))) 64 x y e c d in
+      true-false (sym (both-true u (has-page (pageIn (slotAt s x .content)) (slotAt s y .content) v (sym w))) ∙ not-true (isFilled (slotAt s x .content) && hasPage (pageIn (slotAt s x .content)) (slotAt s y .content)) k))
       i j a b m f g q)
 ]
 
 pins-facts : (s : State) (i : ℕ) → soundPins s i ≡ true → (r q : ℕ) → r < 32 → q < 32 → (r ≡ q → ⊥) → conflict (holdingAt s i r .pin) (holdingAt s i q .pin) ≡ false
 unfolding soundPins
 pins-facts s i e r q a b m =
-    pairs (λ x y. conflict (holdingAt s i x .pin) (holdingAt s i y .pin) ≡ false)
-    (λ x y h. conflict-sym (holdingAt s i y .pin) (holdingAt s i x .pin) ∙ h) 32
-    (λ x y c d. not-true (conflict (holdingAt s i x .pin) (holdingAt s i y .pin)) (all-each (λ other. not (conflict (holdingAt s i x .pin) (holdingAt s i other .pin))) x y
-    (all-each (λ row. allBelow row (λ other. not (conflict (holdingAt s i row .pin) (holdingAt s i other .pin)))) 32 x e c) d))
+    by-larger (λ x y. conflict (holdingAt s i x .pin) (holdingAt s i y .pin) ≡ false)
+    (λ x y h. conflict-comm (holdingAt s i y .pin) (holdingAt s i x .pin) ∙ h) 32
+    (λ x y c d. not-true (conflict (holdingAt s i x .pin) (holdingAt s i y .pin)) (pairs-each (λ row other. not (conflict (holdingAt s i row .pin) (holdingAt s i other .pin))) 32 x y e c d))
     r q a b m
 
 pub facts : (s : State) → sound s ≡ true → Sound s
@@ -247,3 +221,7 @@ facts s e = record {
   unheld = λ i q a b. unheld-facts s i q (all-each (soundHolding s i) 32 q (all-each (λ slot. allBelow 32 (soundHolding s slot)) 64 i (search parts depth 20) a) b);
   no-conflict = λ i q o a. pins-facts s i (all-each (soundPins s) 64 i (search parts depth 20) a) q o;
 }
+
+-- an empty slot has no holder
+pub empty-unheld : (s : State) → Sound s → (i r : ℕ) → i < 64 → r < 32 → isFilled (slotAt s i .content) ≡ false → holds s i r ≡ false
+empty-unheld s z i r a b e = not-true-false (holds s i r) (λ h. true-false (sym (z .held i r a b h .filled) ∙ e))

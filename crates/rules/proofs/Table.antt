@@ -1,20 +1,19 @@
 -- Session S of document 01 and its examples M1 to M11, as one table: the definitions give each call's line.
 use mathlib.Core.Path.{_≡_, refl}
 use mathlib.Core.List.{List, [], _∷_, map}
-use Prim.Native.Nat.{ℕ, _+_, _*_}
+use Prim.Native.Nat.{ℕ, _+_}
 use Rattle.seq.specs.Below.{anyBelow, allBelow, countBelow, pickBelow}
 use Rattle.seq.specs.Each.{each, eachFrom}
 use Rattle.model.specs.Parties.{allowed, better}
 use Rattle.model.specs.State.{fresh, emptyHoldings}
 use Rattle.model.specs.Words.{conflict, stronger, seenHolder, seen, isOpen, dormant, seesDormant, outranks, bestHolder, strongestPin, leastArrival, latestTouch, slotOf}
 use Rattle.model.specs.Changes.{written, dirtied, released, killed, cleared}
-use Rattle.model.specs.declared.State.{State}
 use Rattle.model.specs.declared.Answer.{Answer}
 use Rattle.rules.specs.Answers.{word, value, slotTold, backTold}
 use Rattle.rules.specs.Choice.{stepA, beforeDormant, stepB, holderLevel, heldAbove, highestLevel, pinnedAt, inC, inD, heldAtOwnLevel, seenPin, inE, inF, beforeHeld, stepHeld, chosen}
 use Rattle.rules.specs.Refusals.{pinsPage, startRefusal, beginRefusal, requestRefusal, retryRefusal, unpinRefusal, endRefusal, tickRefusal, lookRefusal, viewRefusal, countRefusal}
 use Rattle.rules.specs.Calls.{started, begun, unpinnedAt, unpinned, ended, deliveredRow, isLate, deliveredRows, lateKilled, advanced, ticked, waiting, granted, conflicts, mustWait, step1, step2, step3, pinnersKilled, writeBack, filled, served, requested, retried, lookedAt, viewed, counted}
-use Rattle.rules.specs.Run.{Call, start, begin, request, retry, unpin, end, tick, look, view, count, outcome, answers}
+use Rattle.rules.specs.Run.{Call, start, begin, request, unpin, end, tick, look, view, count, outcome, answers}
 
 -- an output line: word, value, slot plus one or 0, page to write back plus one or 0
 record Line : Type 0 where

@@ -25,7 +25,7 @@ module _ (s : State) (z : Sized s) where
   unfolding deliveredRows advanced
   sized-later = record { rows = each-length _ (s .rows) ∙ z .rows; slots = z .slots; holdings = z .holdings }
 
-  later-row : (row : ℕ) → row < 32 → rowAt (later s) row ≡ deliveredRow (s .clock + 1) (rowAt s row)
+  pub later-row : (row : ℕ) → row < 32 → rowAt (later s) row ≡ deliveredRow (s .clock + 1) (rowAt s row)
   unfolding deliveredRows advanced
   later-row row b = each-at (λ _ x. deliveredRow (s .clock + 1) x) (s .rows) row freeRow (rw (z .rows) b)
 

@@ -1,17 +1,15 @@
--- What an answer wait or fetch says of the state before: wait comes only by steps 1 and g.
+-- What an answer wait or fetch says: wait comes only by steps 1 and g; a fetch is due after the clock, and its row is fetching until then.
 use mathlib.Core.Path.{_≡_, refl, sym, _∙_, ap}
 use mathlib.Core.Bool.{Bool, true, false, _&&_, not}
 use mathlib.Core.Logic.{_⊎_, inl, inr}
 use Prim.Native.Nat.{ℕ, _<_, _≤_}
 use native.Mathlib.Omega.{arith}
-use borrow.Author.Tests.{leb-true, eqb-false, eq-eqb, not-true, not-false}
-use lib.Dec.{leb, ltb, eqb}
-use Rattle.seq.specs.Below.{anyBelow, pickBelow}
-use Rattle.seq.specs.declared.Found.{Found}
+use borrow.Author.Tests.{leb-true, eqb-false, not-true}
+use lib.Dec.{leb, eqb}
+use Rattle.seq.specs.Below.{anyBelow}
 use Rattle.seq.specs.declared.Found.the-variants.{At, Nowhere}
 use Rattle.seq.proofs.Tests.{true-false, parts, both-true, not-true-false}
 use Rattle.seq.proofs.BelowLaws.{any-hit}
-use Rattle.seq.proofs.PickLaws.{pick-is, pick-none, pick-some, at-nowhere}
 use Rattle.model.specs.declared.Answer.the-variants.{Fetch, Wait}
 use Rattle.model.specs.declared.Back.{Back}
 use Rattle.model.specs.declared.Condition.the-variants.{Fetching}
@@ -20,22 +18,21 @@ use Rattle.model.specs.declared.Outcome.{Outcome}
 use Rattle.model.specs.declared.State.{State}
 use Rattle.model.specs.Parties.{levelOf}
 use Rattle.model.specs.State.{rowAt, slotAt, holdingAt}
-use Rattle.model.specs.Words.{isFilled, hasPage, pinOf, conflict, holds, seenHolder, seen, dormant, outranks, slotOf}
+use Rattle.model.specs.Words.{isFilled, hasPage, pinOf, conflict, holds, seen, outranks, slotOf}
+use Rattle.model.proofs.ContentLaws.{has-page, page-has}
+use Rattle.model.proofs.SeenLaws.{seen-by}
 use Rattle.rules.specs.Sound.{sound}
-use Rattle.rules.specs.Choice.{orElse, stepA, stepB, beforeDormant, heldAbove, holderLevel, highestLevel, pinnedAt, inC, inD, beforeHeld, stepHeld, chosen}
+use Rattle.rules.specs.Choice.{stepA, stepB, heldAbove, inC, inD, stepHeld, chosen}
 use Rattle.rules.specs.Calls.{granted, conflicts, mustWait, served}
 use Rattle.rules.specs.Run.{Call, outcome}
 use Rattle.rules.proofs.SoundFacts.{Sound, facts}
-use Rattle.rules.proofs.PageLaws.{has-page, page-has, found-slot, not-found}
-use Rattle.rules.proofs.CallCases.{Asks, isServed, Effect, stays, starts, begins, unpins, ends, ticks, serves, effect}
+use Rattle.rules.proofs.PageLaws.{found-slot, not-found}
 use Rattle.rules.proofs.ServeCases.{Serving, waits, waits-g, joins, fills, serving}
+use Rattle.rules.proofs.ChoiceSteps.{or-none, no-step-a, no-step-b, c-or-d}
+use Rattle.rules.proofs.CallCases.{Asks, isServed, Effect, stays, starts, begins, unpins, ends, ticks, serves, effect}
 use Rattle.rules.proofs.Granting.{Grant, grant, granted-answer, grant-fetch}
 
 -- ---- the slots where none is chosen
-
-or-none : {P : Type 0} (f g : Found) → orElse f g ≡ Nowhere → (f ≡ Nowhere → g ≡ Nowhere → P) → P
-or-none Nowhere g e k = k refl e
-or-none (At i) g e k = at-nowhere e
 
 -- the slot is filled and held by a row of the level or a lower one
 pub record HeldUpTo (s : State) (level slot : ℕ) : Type 0 where
@@ -45,44 +42,27 @@ pub record HeldUpTo (s : State) (level slot : ℕ) : Type 0 where
   pub holder-level : levelOf holder ≤ level
   pub holds-it : holds s slot holder ≡ true
 
--- where slots are held only above the requester's level, steps c and d find one
-none-above : (s : State) (row slot : ℕ) → slot < s .size → heldAbove s row slot ≡ true → stepHeld s (inC s row) ≡ Nowhere → stepHeld s (inD s row) ≡ Nowhere → ⊥
-unfolding stepHeld inC inD highestLevel
-none-above s row slot b h c d =
-    let higher : ℕ → ℕ → Bool = λ i j. ltb (holderLevel s j) (holderLevel s i) in
-    let x = pick-some (heldAbove s row) higher (s .size) slot b h in
-    let y = pick-is (heldAbove s row) higher (s .size) (x .0) (x .1) in
-    go (x .0) (x .1) (y .0) (y .1) (pinnedAt s (highestLevel s row) (x .0)) refl
-  where
-    go : (i : ℕ) → pickBelow (s .size) (heldAbove s row) (λ i j. ltb (holderLevel s j) (holderLevel s i)) ≡ At i → i < s .size → heldAbove s row i ≡ true
-        → (p : Bool) → pinnedAt s (highestLevel s row) i ≡ p → ⊥
-    go i e k u true p = true-false (sym (both-true (both-true u (rw e (eq-eqb (holderLevel s i) (holderLevel s i) refl))) p) ∙ pick-none (inD s row) (beforeHeld s) (s .size) i d k)
-    go i e k u false p = true-false (sym (both-true (both-true u (rw e (eq-eqb (holderLevel s i) (holderLevel s i) refl))) (rw p)) ∙ pick-none (inC s row) (beforeHeld s) (s .size) i c k)
-
 held-up-to : (s : State) (level slot : ℕ) → isFilled (slotAt s slot .content) ≡ true → seen s level slot ≡ true → HeldUpTo s level slot
-unfolding seen seenHolder
 held-up-to s level slot f e =
-    let x = any-hit (λ row. leb (levelOf row) level && holds s slot row) 32 e in
-    let k = x .2 in
-    record { filled = f; holder = x .0; holder-row = x .1; holder-level = leb-true (levelOf (x .0)) level (search parts depth 20); holds-it = search parts depth 20 }
+    let x = seen-by s level slot e in
+    record { filled = f; holder = x .0; holder-row = x .1; holder-level = x .2; holds-it = x .3 }
 
 -- g. none: every slot is held by a row of the requester's level or a lower one
 pub none-chosen : (s : State) (row : ℕ) → chosen s row ≡ Nowhere → (slot : ℕ) → slot < s .size → HeldUpTo s (levelOf row) slot
-unfolding chosen stepA stepB dormant heldAbove
+unfolding chosen heldAbove
 none-chosen s row e slot b =
     or-none (stepA s) _ e λ a e1.
     or-none (stepB s) _ e1 λ p e2.
     or-none (stepHeld s (inC s row)) _ e2 λ c e3.
     or-none (stepHeld s (inD s row)) _ e3 λ d _.
-    let f = not-false (isFilled (slotAt s slot .content)) (pick-none (λ i. not (isFilled (slotAt s i .content))) (λ i j. false) (s .size) slot a b) in
-    let k = pick-none (λ i. isFilled (slotAt s i .content) && not (anyBelow 32 (holds s i))) (beforeDormant s) (s .size) slot p b in
-    let h = not-false (anyBelow 32 (holds s slot)) (rw f at k) in
+    let f = no-step-a s slot a b in
+    let h = no-step-b s slot p b f in
     go f h c d (seen s (levelOf row) slot) refl
   where
     go : isFilled (slotAt s slot .content) ≡ true → anyBelow 32 (holds s slot) ≡ true → stepHeld s (inC s row) ≡ Nowhere → stepHeld s (inD s row) ≡ Nowhere
         → (v : Bool) → seen s (levelOf row) slot ≡ v → HeldUpTo s (levelOf row) slot
     go f h c d true q = held-up-to s (levelOf row) slot f q
-    go f h c d false q = absurd (none-above s row slot b (both-true h (rw q)) c d)
+    go f h c d false q = absurd (c-or-d s row slot b (both-true h (rw q)) c d)
 
 -- ---- the calls that are served
 

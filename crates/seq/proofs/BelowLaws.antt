@@ -1,10 +1,10 @@
--- What a test or a count over the numbers below n says of each of them.
+-- What a test or a count over the numbers below n says of each of them; one turn of a loop that tests or counts.
 use mathlib.Core.Path.{_≡_, refl, _∙_, sym, ap}
-use mathlib.Core.Bool.{Bool, true, false, cond, _&&_, _||_, not}
+use mathlib.Core.Bool.{Bool, true, false, cond, _&&_, _||_}
 use Prim.Native.Nat.{ℕ, zero, suc, _+_, _<_, _≤_}
 use native.Mathlib.Numerals.{add-one}
 use native.Mathlib.Omega.{arith}
-use native.Mathlib.Decide.{ℕ-discrete}
+use native.Mathlib.Decide.{ℕ-discrete, decLt}
 use Rattle.seq.specs.Below.{anyBelow, allBelow, countBelow}
 use Rattle.seq.proofs.Tests.{true-false, and-true, or-false, or-true-right, and-false-right, both-true}
 
@@ -17,9 +17,12 @@ module _ (p : ℕ → Bool) where
   unfolding anyBelow
   any-more n = rw add-one
 
-  -- one turn of a loop
+  -- one turn of a loop. a: the answer so far; t: the test of n; b: the answer with n
+  pub any-test-turn : (n : ℕ) (a t b : Bool) → a ≡ anyBelow n p → t ≡ p n → b ≡ a || t → b ≡ anyBelow (n + 1) p
+  any-test-turn n a t b e f q = rw (any-more n, ← e, ← f) q
+
   pub any-turn : (n : ℕ) (a b : Bool) → a ≡ anyBelow n p → b ≡ a || p n → b ≡ anyBelow (n + 1) p
-  any-turn n a b e q = rw any-more (q ∙ ap (λ (x : Bool). x || p n) e)
+  any-turn n a b e q = any-test-turn n a (p n) b e refl q
 
   pub any-none : (n i : ℕ) → anyBelow n p ≡ false → i < n → p i ≡ false
   unfolding anyBelow
@@ -57,6 +60,9 @@ module _ (p : ℕ → Bool) where
   unfolding allBelow
   all-more n = rw add-one
 
+  pub all-turn : (n : ℕ) (a t b : Bool) → a ≡ allBelow n p → t ≡ p n → b ≡ a && t → b ≡ allBelow (n + 1) p
+  all-turn n a t b e f q = rw (all-more n, ← e, ← f) q
+
   pub all-each : (n i : ℕ) → allBelow n p ≡ true → i < n → p i ≡ true
   unfolding allBelow
   all-each zero i e h = absurd (omega arith)
@@ -84,6 +90,9 @@ module _ (p : ℕ → Bool) where
   unfolding countBelow
   count-more n = rw add-one
 
+  pub count-turn : (n a : ℕ) (t : Bool) (b : ℕ) → a ≡ countBelow n p → t ≡ p n → b ≡ a + cond t 1 0 → b ≡ countBelow (n + 1) p
+  count-turn n a t b e f q = rw (count-more n, ← e, ← f) q
+
   pub count-at-most : (n : ℕ) → countBelow n p ≤ n
   unfolding countBelow
   count-at-most zero = omega arith
@@ -93,8 +102,27 @@ module _ (p : ℕ → Bool) where
       go true h = omega arith
       go false h = omega arith
 
--- tests that agree on the numbers below n
+-- a test of each pair of different numbers below n, the larger first
+module _ (q : ℕ → ℕ → Bool) where
+  pub pairs-each : (n i j : ℕ) → allBelow n (λ k. allBelow k (q k)) ≡ true → i < n → j < i → q i j ≡ true
+  pairs-each n i j e a b = all-each (q i) i j (all-each (λ k. allBelow k (q k)) n i e a) b
+
+  pub each-pairs : (n : ℕ) → ((i j : ℕ) → i < n → j < i → q i j ≡ true) → allBelow n (λ k. allBelow k (q k)) ≡ true
+  each-pairs n f = each-all (λ k. allBelow k (q k)) n (λ i a. each-all (q i) i (λ j b. f i j a b))
+
+-- what holds of each pair of different numbers by the larger first, holds of each pair
+pub by-larger : (P : ℕ → ℕ → Type 0) → ((i j : ℕ) → P i j → P j i) → (n : ℕ) → ((i j : ℕ) → i < n → j < i → P i j) → (i j : ℕ) → i < n → j < n → (i ≡ j → ⊥) → P i j
+by-larger P sy n f i j a b m = elim (decLt j i) [
+  | yes h ↦ f i j a h
+  | no h ↦ sy j i (f j i b (let k = m in elim (ℕ-discrete i j) [ yes e ↦ absurd (k e) | no e ↦ omega arith ]))
+]
+
 module _ (p q : ℕ → Bool) where
+  -- two loops of one length at their end
+  pub both-at : (n m : ℕ) (a b : Bool) → n ≡ m → a ≡ allBelow n p → b ≡ allBelow n q → a && b ≡ allBelow m p && allBelow m q
+  both-at n m a b e f g = rw (f, g, e)
+
+  -- tests that agree on the numbers below n
   pub any-same : (n : ℕ) → ((i : ℕ) → i < n → p i ≡ q i) → anyBelow n p ≡ anyBelow n q
   unfolding anyBelow
   any-same zero f = refl
@@ -186,3 +214,7 @@ module _ (p : ℕ → Bool) where
             let b = below-suc n (o .at) (o .below) s in
             rw q (let y = r (record { at = o .at; below = b; passes = o .passes; only = λ i h w. o .only i (omega arith) w }) in omega arith)
       ]
+
+-- exactly one number passes each of two tests that agree
+pub one-same : (p q : ℕ → Bool) (n : ℕ) → ((i : ℕ) → i < n → p i ≡ q i) → One p n → One q n
+one-same p q n f o = count-one q n (sym (count-same p q n f) ∙ one-count p n o)

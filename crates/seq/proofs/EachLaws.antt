@@ -1,19 +1,32 @@
--- The elements of a list in which every element was replaced.
+-- The elements of a list in which one element or every element was replaced, and of a list of equal elements.
 use mathlib.Core.Path.{_≡_, refl, _∙_, sym, ap}
-use mathlib.Core.Bool.{Bool, true, false, cond}
+use mathlib.Core.Bool.{cond}
 use mathlib.Core.List.{List, [], _∷_}
 use Prim.Native.Nat.{ℕ, zero, suc, _+_, _<_, _≤_}
-use native.Mathlib.Numerals.{add-one}
 use native.Mathlib.Nat.{add-zero, add-suc, suc-add, zero-add, le-of-suc-le-suc, not-suc-le-zero}
 use native.Mathlib.Omega.{arith}
-use native.Mathlib.Decide.{ℕ-discrete}
-use borrow.Author.Tests.{lt-ltb, le-ltb}
-use lib.Dec.{ltb}
-use lib.ListN.{length, getD, set, length-set}
+use native.Mathlib.Decide.{ℕ-discrete, decLt}
+use borrow.Author.Tests.{lt-ltb, le-ltb, eq-eqb, ne-eqb}
+use lib.Dec.{ltb, eqb}
+use lib.ListN.{length, getD, set, replicate, length-set, length-replicate, getD-replicate, List·getD-eq-default}
 use lib.Seq.{ext-getD, getD-set-same, getD-set-other}
 use Rattle.seq.specs.Each.{eachFrom, each, eachBelow}
 
 module _ {A : Type 0} where
+  -- an element of a list with one element replaced
+  pub set-at : (l : List A) (k j : ℕ) (x d : A) → k < length l → getD (set l k x) j d ≡ cond (eqb j k) x (getD l j d)
+  set-at l k j x d h = elim (ℕ-discrete j k) [
+    | yes e ↦ rw (e, eq-eqb k k refl) (getD-set-same l k x d h)
+    | no e ↦ rw (ne-eqb j k e) (getD-set-other l k j x d e)
+  ]
+
+  -- a list of equal elements, and any place past its end
+  pub replicate-at : (n i : ℕ) (x : A) → getD (replicate n x) i x ≡ x
+  replicate-at n i x = elim (decLt i n) [
+    | yes h ↦ getD-replicate n i x x h
+    | no h ↦ List·getD-eq-default (replicate n x) x {n = i} (rw (length-replicate n x) (omega arith))
+  ]
+
   from-length : (k : ℕ) (f : ℕ → A → A) (xs : List A) → length (eachFrom k f xs) ≡ length xs
   unfolding eachFrom
   from-length k f [] = refl
@@ -42,6 +55,15 @@ module _ {A : Type 0} where
   pub each-still : (f : ℕ → A → A) (xs : List A) (d : A) → ((i : ℕ) → i < length xs → f i (getD xs i d) ≡ getD xs i d) → each f xs ≡ xs
   each-still f xs d h = ext-getD d (each f xs) xs (each-length f xs)
       (λ i b. let b2 : i < length xs = rw each-length at b in each-at f xs i d b2 ∙ h i b2)
+
+  -- a function that leaves the default: the element at any place, in the list or past its end
+  pub each-any : (f : ℕ → A → A) (l : List A) (i : ℕ) (d : A) → (length l ≤ i → f i d ≡ d) → getD (each f l) i d ≡ f i (getD l i d)
+  each-any f l i d still = elim (decLt i (length l)) [
+    | yes h ↦ each-at f l i d h
+    | no h ↦
+        let b : length l ≤ i = omega arith in
+        List·getD-eq-default (each f l) d {n = i} (rw (each-length f l) b) ∙ sym (still b) ∙ ap (f i) (sym (List·getD-eq-default l d {n = i} b))
+  ]
 
   module _ (f : ℕ → A → A) (xs : List A) where
     pub each-below-length : (n : ℕ) → length (eachBelow n f xs) ≡ length xs
@@ -78,7 +100,7 @@ module _ {A : Type 0} where
         ])
       where
         go : (i : ℕ) → (i ≡ n → ⊥) → i < length xs → getD (eachBelow n f xs) i d ≡ getD (eachBelow (n + 1) f xs) i d
-        go i s b = elim (native.Mathlib.Decide.decLt i n) [
+        go i s b = elim (decLt i n) [
           | yes q ↦ each-below-reached n i d q b ∙ sym (each-below-reached (n + 1) i d (omega arith) b)
           | no q ↦ each-below-later n i d (omega arith) b ∙ sym (each-below-later (n + 1) i d (omega arith) b)
         ]

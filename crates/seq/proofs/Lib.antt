@@ -1,13 +1,9 @@
 pub mod Tests
 pub mod BelowLaws
-pub mod PickLaws
-pub mod EachLaws
-pub mod OrderLaws
-pub mod PickedLaws
-pub mod OneLaws
-pub mod BoolLaws
 pub mod CountLaws
+pub mod OrderLaws
+pub mod PickLaws
 pub mod PairLaws
-pub mod AllLaws
 pub mod BuildLaws
+pub mod EachLaws
 pub mod ValueLaws

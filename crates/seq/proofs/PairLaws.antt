@@ -1,4 +1,4 @@
--- Two searches whose numbers correspond: they find numbers that correspond.
+-- Two searches whose numbers correspond: they find numbers that correspond. The largest value of what passes.
 use mathlib.Core.Path.{_≡_, refl, _∙_, sym, ap}
 use mathlib.Core.Bool.{Bool, true, false}
 use Prim.Native.Nat.{ℕ, _<_, _≤_}
@@ -9,8 +9,8 @@ use Rattle.seq.specs.Below.{pickBelow, atFound}
 use Rattle.seq.specs.declared.Found.{Found}
 use Rattle.seq.specs.declared.Found.the-variants.{At, Nowhere}
 use Rattle.seq.proofs.Tests.{true-false}
-use Rattle.seq.proofs.PickLaws.{pick-is, pick-none, pick-some, none-pick, pick-first, first-pick}
 use Rattle.seq.proofs.OrderLaws.{ltb-strict, ltb-trans}
+use Rattle.seq.proofs.PickLaws.{pick-is, pick-none, pick-some, none-pick, pick-first, first-pick}
 
 -- both found nothing, or what they found is related
 abbrev pub Paired : (ℕ → ℕ → Type 0) → Found → Found → Type 0

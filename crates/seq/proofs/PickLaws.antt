@@ -1,11 +1,11 @@
 -- What a search over the numbers below n finds.
 use mathlib.Core.Path.{_≡_, refl, _∙_, sym, ap}
-use mathlib.Core.Bool.{Bool, true, false, cond}
-use Prim.Native.Nat.{ℕ, zero, suc, _+_, _<_, _≤_}
+use mathlib.Core.Bool.{Bool, true, false}
+use Prim.Native.Nat.{ℕ, zero, suc, _+_, _<_}
 use native.Mathlib.Numerals.{add-one}
 use native.Mathlib.Omega.{arith}
 use native.Mathlib.Decide.{ℕ-discrete}
-use Rattle.seq.specs.Below.{pickBelow, considered, against}
+use Rattle.seq.specs.Below.{pickBelow, considered, atFound}
 use Rattle.seq.specs.declared.Found.{Found}
 use Rattle.seq.specs.declared.Found.the-variants.{At, Nowhere}
 use Rattle.seq.proofs.Tests.{true-false, not-true-false}
@@ -139,3 +139,14 @@ pick-same p q before after (suc n) f g = go (p n) (pickBelow n p before) refl re
     go true (At j) w r e =
         let y = pick-is p before n j r in
         rw (← f n (omega arith), w, ← e, r, g n j (omega arith) (omega (arith, y .0)) w (y .1))
+
+-- the values of f and g at what two searches found
+pub picked-same : {A : Type 0} (p q : ℕ → Bool) (before after : ℕ → ℕ → Bool) (f g : ℕ → A) (d : A) (n : ℕ) → ((i : ℕ) → i < n → p i ≡ q i)
+    → ((i j : ℕ) → i < n → j < n → p i ≡ true → p j ≡ true → before i j ≡ after i j) → ((i : ℕ) → i < n → p i ≡ true → f i ≡ g i)
+    → atFound (pickBelow n p before) f d ≡ atFound (pickBelow n q after) g d
+picked-same p q before after f g d n h k l =
+    go (pickBelow n p before) refl ∙ ap (λ (x : Found). atFound x g d) (pick-same p q before after n h k)
+  where
+    go : (x : Found) → pickBelow n p before ≡ x → atFound (pickBelow n p before) f d ≡ atFound (pickBelow n p before) g d
+    go Nowhere e = rw e
+    go (At i) e = let y = pick-is p before n i e in rw e (l i (y .0) (y .1))

@@ -10,7 +10,7 @@ use lib.ListN.{getD}
 use Rattle.seq.specs.Below.{anyBelow}
 use Rattle.seq.proofs.Tests.{and-false-right}
 use Rattle.seq.proofs.BelowLaws.{any-same}
-use Rattle.seq.proofs.PickedLaws.{picked-same}
+use Rattle.seq.proofs.PickLaws.{picked-same}
 use Rattle.seq.proofs.BuildLaws.{build-at}
 use Rattle.model.specs.declared.Cause.the-variants.{Taken}
 use Rattle.model.specs.declared.Holding.{Holding}

@@ -1,27 +1,21 @@
 -- No two pins of a slot conflict just where no pin is a write pin, or there is one pin alone.
 use mathlib.Core.Path.{_≡_, refl, sym, _∙_}
-use mathlib.Core.Bool.{Bool, true, false, cond, _&&_, _||_, not}
+use mathlib.Core.Bool.{Bool, true, false, cond, _&&_, not}
 use Prim.Native.Nat.{ℕ, _<_}
 use native.Mathlib.Omega.{arith}
 use native.Mathlib.Decide.{decLt}
 use lib.Dec.{eqb}
 use borrow.Author.Tests.{eqb-true, eq-eqb, not-true}
 use Rattle.seq.specs.Below.{anyBelow, allBelow, countBelow}
-use Rattle.seq.proofs.Tests.{true-false, same-truth}
-use Rattle.seq.proofs.BelowLaws.{One, any-none, any-hit, all-each, each-all, count-one, one-count}
+use Rattle.seq.proofs.Tests.{true-false, same-truth, and-false-right}
+use Rattle.seq.proofs.BelowLaws.{One, any-none, any-hit, count-one, one-count, pairs-each, each-pairs}
 use Rattle.model.specs.declared.Pin.{Pin}
-use Rattle.model.specs.declared.Pin.the-variants.{Absent, Unpinned, Read, Write}
 use Rattle.model.specs.declared.State.{State}
 use Rattle.model.specs.State.{holdingAt}
 use Rattle.model.specs.Words.{isPin, isWrite, conflict}
+use Rattle.model.proofs.PinLaws.{write-pin, conflict-comm, no-two-pins}
 use Rattle.rules.specs.Sound.{soundPins}
 use Rattle.sound.specs.Elements.{pinsTest}
-
-write-pin : (p : Pin) → isWrite p ≡ true → isPin p ≡ true
-write-pin Absent e = e
-write-pin Unpinned e = e
-write-pin Read e = refl
-write-pin Write e = refl
 
 -- a pin beside a write pin
 write-first : (p q : Pin) → isWrite p ≡ true → isPin q ≡ true → conflict p q ≡ true
@@ -29,29 +23,11 @@ unfolding conflict
 write-first p q w e = rw (write-pin p w, e, w)
 
 write-second : (p q : Pin) → isPin p ≡ true → isWrite q ≡ true → conflict p q ≡ true
-unfolding conflict
-write-second p q e w = rw (e, write-pin q w, w) (or-right (isWrite p))
-  where
-    or-right : (a : Bool) → a || true ≡ true
-    or-right true = refl
-    or-right false = refl
+write-second p q e w = conflict-comm p q ∙ write-first q p w e
 
 no-write : (p q : Pin) → isWrite p ≡ false → isWrite q ≡ false → conflict p q ≡ false
 unfolding conflict
-no-write p q e f = rw (e, f) (and-right (isPin p && isPin q))
-  where
-    and-right : (a : Bool) → a && false ≡ false
-    and-right true = refl
-    and-right false = refl
-
-no-pin : (p q : Pin) → (isPin p ≡ true → isPin q ≡ true → ⊥) → conflict p q ≡ false
-unfolding conflict
-no-pin p q f = go (isPin p) (isPin q) refl refl
-  where
-    go : (a b : Bool) → isPin p ≡ a → isPin q ≡ b → isPin p && isPin q && (isWrite p || isWrite q) ≡ false
-    go true true d e = absurd (f d e)
-    go true false d e = rw (d, e)
-    go false b d e = rw d
+no-write p q e f = rw (e, f) (and-false-right (isPin p && isPin q) false refl)
 
 module _ (f : ℕ → Pin) (n : ℕ) where
   abbrev apart : Bool
@@ -66,13 +42,10 @@ module _ (f : ℕ → Pin) (n : ℕ) where
   apart-each : apart ≡ true → (i j : ℕ) → i < n → j < i → conflict (f i) (f j) ≡ false
   apart-each e i j a b =
       not-true (conflict (f i) (f j))
-      (all-each (λ other. not (conflict (f i) (f other))) i j
-      (all-each (λ row. allBelow row (λ other. not (conflict (f row) (f other)))) n i e a) b)
+      (pairs-each (λ row other. not (conflict (f row) (f other))) n i j e a b)
 
   each-apart : ((i j : ℕ) → i < n → j < i → conflict (f i) (f j) ≡ false) → apart ≡ true
-  each-apart h =
-      each-all (λ row. allBelow row (λ other. not (conflict (f row) (f other)))) n
-      (λ i a. each-all (λ other. not (conflict (f i) (f other))) i (λ j b. rw (h i j a b)))
+  each-apart h = each-pairs (λ row other. not (conflict (f row) (f other))) n (λ i j a b. rw (h i j a b))
 
   -- a write pin is the only pin
   only-write : apart ≡ true → (w : ℕ) → w < n → isWrite (f w) ≡ true → One (λ row. isPin (f row)) n
@@ -106,7 +79,7 @@ module _ (f : ℕ → Pin) (n : ℕ) where
       go : (b : Bool) → wrote ≡ b → apart ≡ true
       go true q =
           let o = count-one (λ row. isPin (f row)) n (eqb-true number 1 (rw q at e)) in
-          each-apart (λ i j a b. no-pin (f i) (f j) (λ c d.
+          each-apart (λ i j a b. no-two-pins (f i) (f j) (λ c d.
           let x = o .only i a c in
           let y = o .only j (omega arith) d in
           omega arith))

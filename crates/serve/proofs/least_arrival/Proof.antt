@@ -5,7 +5,7 @@ use native.Mathlib.Omega.{arith}
 use borrow.Author.Needs.{needs}
 use lib.Dec.{ltb}
 use Rattle.seq.specs.Below.{anyBelow, pickBelow, atFound}
-use Rattle.seq.proofs.AllLaws.{any-test-turn}
+use Rattle.seq.proofs.BelowLaws.{any-test-turn}
 use Rattle.seq.proofs.ValueLaws.{value-turn}
 use Rattle.serve.specs.Elements.{seenTest, lesser}
 use Rattle.serve.specs.SlotHoldings.{heldBy, leastIn}

@@ -4,7 +4,7 @@ use native.Mathlib.Omega.{arith}
 use borrow.Author.Needs.{needs}
 use lib.ListN.{getD}
 use Rattle.seq.specs.Below.{anyBelow}
-use Rattle.seq.proofs.AllLaws.{any-test-turn}
+use Rattle.seq.proofs.BelowLaws.{any-test-turn}
 use Rattle.model.specs.State.{freeRow}
 use Rattle.serve.specs.Elements.{barTest}
 use Rattle.serve.specs.SlotHoldings.{heldBy, mustWaitIn}

@@ -3,7 +3,7 @@ use Prim.Native.Nat.{_≤_, _-_}
 use native.Mathlib.Omega.{arith}
 use borrow.Author.Needs.{needs}
 use Rattle.seq.specs.Below.{anyBelow}
-use Rattle.seq.proofs.AllLaws.{any-test-turn}
+use Rattle.seq.proofs.BelowLaws.{any-test-turn}
 use Rattle.serve.specs.Elements.{seenTest}
 use Rattle.serve.specs.SlotHoldings.{heldBy, seenIn}
 use Rattle.serve.proofs.see.Statement.{statement}

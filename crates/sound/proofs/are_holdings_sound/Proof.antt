@@ -3,8 +3,7 @@ use Prim.Native.Nat.{ℕ, _≤_, _-_}
 use native.Mathlib.Omega.{arith}
 use borrow.Author.Needs.{needs}
 use Rattle.seq.specs.Below.{anyBelow, allBelow, countBelow}
-use Rattle.seq.proofs.AllLaws.{all-turn, any-test-turn, count-turn, both-at}
-use Rattle.seq.proofs.BelowLaws.{count-at-most}
+use Rattle.seq.proofs.BelowLaws.{count-at-most, all-turn, any-test-turn, count-turn, both-at}
 use Rattle.model.specs.Parties.{levelOf}
 use Rattle.model.specs.State.{rowAt, slotAt, holdingAt}
 use Rattle.model.specs.Words.{isPin, isWrite}

@@ -4,7 +4,7 @@ use Prim.Native.Nat.{ℕ, _≤_, _-_}
 use native.Mathlib.Omega.{arith}
 use borrow.Author.Needs.{needs}
 use Rattle.seq.specs.Below.{allBelow}
-use Rattle.seq.proofs.AllLaws.{all-turn}
+use Rattle.seq.proofs.BelowLaws.{all-turn}
 use Rattle.rules.specs.Sound.{samePage, soundPages}
 use Rattle.sound.proofs.ElementLaws.{page-test}
 use Rattle.sound.proofs.are_pages_sound.Statement.{statement}

@@ -4,8 +4,8 @@ use Prim.Native.Nat.{ℕ, _≤_, _-_}
 use native.Mathlib.Omega.{arith}
 use borrow.Author.Needs.{needs}
 use Rattle.seq.specs.Below.{allBelow, countBelow}
-use Rattle.seq.proofs.AllLaws.{all-turn, count-turn, either-both}
-use Rattle.seq.proofs.BelowLaws.{count-at-most}
+use Rattle.seq.proofs.BelowLaws.{count-at-most, all-turn, count-turn}
+use Rattle.seq.proofs.Tests.{either-both}
 use Rattle.rules.specs.Sound.{arrived, awaits, soundRow}
 use Rattle.sound.proofs.ElementLaws.{arrived-test, awaits-test, row-end}
 use Rattle.sound.proofs.are_rows_sound.Statement.{statement}

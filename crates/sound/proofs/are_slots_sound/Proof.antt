@@ -3,7 +3,7 @@ use Prim.Native.Nat.{ℕ, _≤_, _-_}
 use native.Mathlib.Omega.{arith}
 use borrow.Author.Needs.{needs}
 use Rattle.seq.specs.Below.{allBelow}
-use Rattle.seq.proofs.AllLaws.{all-turn}
+use Rattle.seq.proofs.BelowLaws.{all-turn}
 use Rattle.model.specs.State.{slotAt}
 use Rattle.rules.specs.Sound.{soundSlot}
 use Rattle.sound.specs.Elements.{slotTest}

@@ -1,0 +1,3 @@
+pub mod CallLaws
+pub mod MarkLaws
+pub mod SlotLaws
