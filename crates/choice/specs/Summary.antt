@@ -1,4 +1,4 @@
--- What the choice of a slot needs of each slot, gathered in one pass over the holdings, and the searches over it.
+-- What the choice of a slot needs of each slot, gathered in two passes over the holdings, and the searches over it.
 use mathlib.Core.Bool.{Bool, true, false, cond, _&&_, _||_, not}
 use mathlib.Core.List.{List}
 use Prim.Native.Nat.{ℕ, _+_}

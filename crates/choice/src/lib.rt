@@ -244,7 +244,7 @@ fn tally_with(
     }
 }
 
-// The summaries of all slots for a requester, in one pass over the holdings.
+// The summaries of all slots for a requester: the best holders, and then the tallies, each in one pass over the holdings.
 fn summaries(s: State, me: usize) -> [Summary; 64]
     requires { ⌜ me < 32 ⌝ }
     ensures { λ r. ⌜ r ≡ summariesOf s me ⌝ }

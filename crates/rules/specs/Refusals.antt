@@ -1,4 +1,4 @@
--- Document 01, "Refusals": of those that apply to a call the firstToApply number is given, and 0 stands for none. Refusals 1 and 18 are found before a state is there.
+-- Document 01, "Refusals": of those that apply to a call the smallest number is given, and 0 stands for none. Refusals 1 and 18 are found before a state is there.
 use mathlib.Core.Bool.{Bool, true, false, cond, _&&_, not}
 use mathlib.Core.List.{List, [], _∷_}
 use Prim.Native.Nat.{ℕ}
