@@ -5,14 +5,13 @@ use Prim.Native.Nat.{ℕ, zero, suc, _<_, _≤_}
 use native.Mathlib.Omega.{arith}
 use borrow.Author.Tests.{eq-eqb, ne-eqb}
 use mathlib.Core.List.{[], _∷_}
-use lib.Dec.{ltb}
 use Rattle.model.specs.declared.Outcome.{Outcome}
 use Rattle.model.specs.declared.Answer.the-variants.{Refused}
 use Rattle.model.specs.declared.State.{State}
 use Rattle.model.specs.declared.Condition.{Condition}
 use Rattle.model.specs.declared.Mode.{Mode}
 use Rattle.model.specs.declared.Row.{Row}
-use Rattle.model.specs.Parties.{rowOf, modeOf, mayAccess}
+use Rattle.model.specs.Parties.{modeOf, mayAccess}
 use Rattle.rules.specs.Calls.{unless, delivered, deliveredRow}
 use Rattle.rules.specs.Refusals.{firstToApply, isRead}
 

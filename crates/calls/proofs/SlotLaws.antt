@@ -1,23 +1,27 @@
 -- The slot of a page, and the loops over the holdings of a slot.
 use mathlib.Core.Path.{_≡_, refl, sym, _∙_, ap}
-use mathlib.Core.Bool.{Bool, true, false, cond, _&&_, not}
-use Prim.Native.Nat.{ℕ, _+_, _<_, _≤_}
+use mathlib.Core.List.{List}
+use mathlib.Core.Bool.{Bool, true, false, not}
+use Prim.Native.Nat.{ℕ, _<_, _≤_}
 use native.Mathlib.Omega.{arith}
-use lib.Dec.{ltb, eqb}
-use Rattle.seq.specs.Below.{anyBelow, pickBelow, atFound}
+use lib.Dec.{ltb}
+use Rattle.seq.specs.Below.{anyBelow}
 use Rattle.seq.specs.declared.Found.{Found}
 use Rattle.seq.specs.declared.Found.the-variants.{At}
-use Rattle.seq.proofs.PickLaws.{pick-is}
-use Rattle.seq.proofs.ValueLaws.{value-turn}
+use Rattle.seq.proofs.PickLaws.{pick-is, picked-same}
 use Rattle.model.specs.declared.Answer.{Answer}
 use Rattle.model.specs.declared.Answer.the-variants.{PageUnseen, PageDormant}
+use Rattle.model.specs.declared.Holding.{Holding}
 use Rattle.model.specs.declared.Pin.{Pin}
 use Rattle.model.specs.declared.Pin.the-variants.{Absent}
 use Rattle.model.specs.declared.State.{State}
 use Rattle.model.specs.State.{slotAt, holdingAt}
-use Rattle.model.specs.Words.{isFilled, arrivalIn, hasPage, strength, stronger, holds, seenHolder, seen, isOpen, dormant, seesDormant, strongestPin, leastArrival, slotOf}
+use Rattle.model.specs.Words.{arrivalIn, hasPage, strength, seenHolder, seen, isOpen, strongestPin, slotOf}
 use Rattle.rules.specs.Calls.{viewedPin}
-use Rattle.calls.specs.Elements.{seenTest, strongestOf, leastOf, dormantAnswer, slotAnswer, viewedAt}
+use Rattle.serve.specs.Elements.{seenTest}
+use Rattle.serve.specs.SlotHoldings.{holdingsOn, heldBy, seenIn, leastIn, seesDormantIn}
+use Rattle.serve.proofs.SlotLaws.{held-by, seen-in, least-in, dormant-in}
+use Rattle.calls.specs.Elements.{strongestIn, viewedAt}
 
 -- a page's slot is one of those started with
 pub found-below : (s : State) (page slot : ℕ) (f : Found) → s .size ≤ 64 → f ≡ slotOf s page → f ≡ At slot → slot < 64
@@ -27,7 +31,7 @@ found-below s page slot f h e q =
     omega (arith, y .0)
 
 module _ (s : State) (level slot : ℕ) where
-  pub seen-test : (row : ℕ) → seenTest level row (holdingAt s slot row .pin) ≡ seenHolder s level slot row
+  pub seen-test : (row : ℕ) → seenTest level row (holdingAt s slot row) ≡ seenHolder s level slot row
   unfolding seenTest seenHolder
   seen-test row = refl
 
@@ -36,40 +40,26 @@ module _ (s : State) (level slot : ℕ) where
   unfolding isOpen seen
   open-end n b e f = rw (f, e)
 
-  -- the strongest pin and the least arrival that the level sees among the rows below n
-  abbrev pub bestBelow : ℕ → Pin
-  bestBelow n =
-      atFound (pickBelow n (seenHolder s level slot) (λ row other. ltb (strength (holdingAt s slot other .pin)) (strength (holdingAt s slot row .pin))))
-      (λ row. holdingAt s slot row .pin) Absent
+  strongest-in : strongestIn (holdingsOn s slot) level ≡ strongestPin s level slot
+  unfolding strongestIn strongestPin
+  strongest-in =
+      picked-same (λ row. seenTest level row (heldBy (holdingsOn s slot) row)) (seenHolder s level slot)
+      (λ row other. ltb (strength (heldBy (holdingsOn s slot) other .pin)) (strength (heldBy (holdingsOn s slot) row .pin)))
+      (λ row other. ltb (strength (holdingAt s slot other .pin)) (strength (holdingAt s slot row .pin)))
+      (λ row. heldBy (holdingsOn s slot) row .pin) (λ row. holdingAt s slot row .pin) Absent 32
+      (λ row h. ap (seenTest level row) (held-by s slot row h) ∙ seen-test row)
+      (λ i j h k _ _. rw (held-by s slot i h, held-by s slot j k))
+      (λ i h _. rw (held-by s slot i h))
 
-  abbrev pub leastBelow : ℕ → ℕ
-  leastBelow n =
-      atFound (pickBelow n (seenHolder s level slot) (λ row other. ltb (holdingAt s slot row .arrival) (holdingAt s slot other .arrival)))
-      (λ row. holdingAt s slot row .arrival) 0
+  module _ (held : List Holding) (on : held ≡ holdingsOn s slot) (sees : Bool) (e : sees ≡ seenIn held level) where
+    seen-is : seen s level slot ≡ sees
+    seen-is = sym (e ∙ ap (λ (h : List Holding). seenIn h level) on ∙ seen-in s slot level)
 
-  module _ (n : ℕ) (sees found : Bool) (e : sees ≡ seenHolder s level slot n) (f : found ≡ anyBelow n (seenHolder s level slot)) where
-    pub best-turn : (best w : Pin) → best ≡ bestBelow n → w ≡ strongestOf sees (holdingAt s slot n .pin) found best → w ≡ bestBelow (n + 1)
-    unfolding strongestOf stronger
-    best-turn best w g q =
-        value-turn (seenHolder s level slot) (λ row. holdingAt s slot row .pin) (λ x v. ltb (strength v) (strength x)) Absent n sees (holdingAt s slot n .pin) found best w e refl f g q
+    pub view-pin : (p : Pin) (least : ℕ) (a : Answer) → sees ≡ true → p ≡ strongestIn held level → least ≡ leastIn held level → a ≡ viewedPin p least → a ≡ viewedAt s level slot
+    view-pin p least a t f g q = rw (seen-is ∙ t) (q ∙ rw (f, g, on, strongest-in, least-in s slot level))
 
-    pub least-turn : (least w : ℕ) → least ≡ leastBelow n → w ≡ leastOf sees (holdingAt s slot n .arrival) found least → w ≡ leastBelow (n + 1)
-    unfolding leastOf
-    least-turn least w g q =
-        value-turn (seenHolder s level slot) (λ row. holdingAt s slot row .arrival) ltb 0 n sees (holdingAt s slot n .arrival) found least w e refl f g q
+    pub view-dormant : (b : Bool) (arrival : ℕ) → sees ≡ false → b ≡ seesDormantIn held (slotAt s slot) level → b ≡ true → arrival ≡ arrivalIn (slotAt s slot .content) → PageDormant arrival ≡ viewedAt s level slot
+    view-dormant b arrival t f g q = rw (seen-is ∙ t, sym (dormant-in s slot level) ∙ sym (f ∙ ap (λ (h : List Holding). seesDormantIn h (slotAt s slot) level) on) ∙ g, q)
 
-  dormant-only : (three held page : Bool) (x y : Answer) → cond three (cond held y (cond page x y)) y ≡ cond (three && (page && not held)) x y
-  dormant-only true true true x y = refl
-  dormant-only true true false x y = refl
-  dormant-only true false true x y = refl
-  dormant-only true false false x y = refl
-  dormant-only false held page x y = refl
-
-  pub view-end : (a : Answer) (n : ℕ) (held found : Bool) (best : Pin) (least : ℕ) → n ≡ 32 → held ≡ anyBelow n (holds s slot) → found ≡ anyBelow n (seenHolder s level slot)
-      → best ≡ bestBelow n → least ≡ leastBelow n → a ≡ slotAnswer found best least level held (slotAt s slot .content)
-      → a ≡ viewedAt s level slot
-  unfolding slotAnswer dormantAnswer seen seesDormant dormant strongestPin leastArrival
-  view-end a n held found best least e h f b l q =
-      rw (q, h, f, b, l, e)
-      (ap (λ (x : Answer). cond (anyBelow 32 (seenHolder s level slot)) (viewedPin (bestBelow 32) (leastBelow 32)) x)
-      (dormant-only (eqb level 3) (anyBelow 32 (holds s slot)) (isFilled (slotAt s slot .content)) (PageDormant (arrivalIn (slotAt s slot .content))) PageUnseen))
+    pub view-none : (b : Bool) → sees ≡ false → b ≡ seesDormantIn held (slotAt s slot) level → b ≡ false → PageUnseen ≡ viewedAt s level slot
+    view-none b t f g = rw (seen-is ∙ t, sym (dormant-in s slot level) ∙ sym (f ∙ ap (λ (h : List Holding). seesDormantIn h (slotAt s slot) level) on) ∙ g)

@@ -1,6 +1,6 @@
 -- The steps by summaries are the steps of document 01.
-use mathlib.Core.Path.{_≡_, refl, sym, _∙_, ap}
-use mathlib.Core.Bool.{Bool, true, false, cond, _&&_, _||_, not}
+use mathlib.Core.Path.{_≡_, refl, _∙_, ap}
+use mathlib.Core.Bool.{Bool, true, false, _&&_, not}
 use Prim.Native.Nat.{ℕ, _<_, _≤_}
 use native.Mathlib.Omega.{arith}
 use borrow.Author.Tests.{eqb-true}
@@ -10,37 +10,37 @@ use Rattle.seq.specs.Below.{pickBelow, atFound}
 use Rattle.seq.specs.Order.{lexLess}
 use Rattle.seq.specs.declared.Found.{Found}
 use Rattle.seq.specs.declared.Found.the-variants.{At, Nowhere}
+use Rattle.seq.proofs.Tests.{and-when}
 use Rattle.seq.proofs.PickLaws.{pick-same, pick-is}
 use Rattle.seq.proofs.BuildLaws.{build-at}
 use Rattle.model.specs.declared.State.{State}
-use Rattle.model.specs.State.{rowAt, slotAt}
-use Rattle.model.specs.Words.{pageIn, seen, dormant, outranks, bestHolder, latestTouch}
-use Rattle.rules.specs.Choice.{orElse, stepA, beforeDormant, stepB, holderLevel, heldAbove, highestLevel, pinnedAt, inC, inD, heldAtOwnLevel, seenPin, inE, inF, worse, beforeHeld, stepHeld, chosen}
+use Rattle.model.specs.Parties.{levelOf}
+use Rattle.model.specs.State.{slotAt}
+use Rattle.model.specs.Words.{pageIn, pins, dormant}
+use Rattle.rules.specs.Choice.{stepA, beforeDormant, stepB, holderLevel, heldAbove, highestLevel, pinnedAt, inC, inD, heldAtOwnLevel, seenPin, inE, inF, beforeHeld, stepHeld, chosen}
 use Rattle.choice.specs.declared.Summary.{Summary}
 use Rattle.choice.specs.declared.Class.{Class}
 use Rattle.choice.specs.declared.Class.the-variants.{C, D, E, F}
 use Rattle.choice.specs.Summary.{
-  bestBelow,
-  levelIn,
-  tallied,
+  holdersBelow,
+  summaryWith,
   summaryOf,
   noSummary,
   summariesOf,
   emptyIn,
   dormantIn,
   aboveIn,
-  besideIn,
   inClass,
   noOrder,
   dormantBefore,
   higher,
-  worseIn,
   heldBefore,
   pickFrom,
   topFrom,
   heldFrom,
   chosenFrom,
 }
+use Rattle.choice.proofs.BestLaws.{level-is, latest-is, pinned-is, above-is, beside-is, pin-is, worse-is}
 
 module _ (s : State) (me : ℕ) (most : s .size ≤ 64) where
   summary-at : (i : ℕ) → i < 64 → getD (summariesOf s me) i noSummary ≡ summaryOf s me i
@@ -60,35 +60,39 @@ module _ (s : State) (me : ℕ) (most : s .size ≤ 64) where
       ∙ ap (before (summaryOf s me i)) (summary-at j (omega arith)) ∙ g i j)
 
   same-a : pickFrom (summariesOf s me) (s .size) emptyIn noOrder ≡ stepA s
-  unfolding stepA emptyIn summaryOf
+  unfolding stepA emptyIn summaryOf summaryWith
   same-a = from-summaries emptyIn noOrder _ (λ i j. false) (λ i. refl) (λ i j. refl)
 
   same-b : pickFrom (summariesOf s me) (s .size) dormantIn dormantBefore ≡ stepB s
-  unfolding stepB dormantIn dormantBefore summaryOf tallied dormant beforeDormant
+  unfolding stepB dormantIn dormantBefore summaryOf summaryWith holdersBelow dormant beforeDormant
   same-b = from-summaries dormantIn dormantBefore (dormant s) (beforeDormant s) (λ i. refl) (λ i j. refl)
 
-  same-level : (i : ℕ) → levelIn (summaryOf s me i .best) ≡ holderLevel s i
-  unfolding levelIn summaryOf bestBelow holderLevel bestHolder
-  same-level i = refl
+  same-level : (i : ℕ) → levelOf (summaryOf s me i .holders .best) ≡ holderLevel s i
+  unfolding summaryOf summaryWith holdersBelow
+  same-level i = level-is s i
 
-  same-above : (i : ℕ) → aboveIn (summaryOf s me i) ≡ heldAbove s me i
-  unfolding aboveIn summaryOf tallied heldAbove seen
-  same-above i = refl
+  same-above : (i : ℕ) → summaryOf s me i .above ≡ heldAbove s me i
+  unfolding summaryOf summaryWith
+  same-above i = above-is s i me
+
+  same-beside : (i : ℕ) → summaryOf s me i .beside ≡ heldAtOwnLevel s me i
+  unfolding summaryOf summaryWith
+  same-beside i = beside-is s i me
 
   same-top : topFrom (summariesOf s me) (s .size) ≡ highestLevel s me
   unfolding topFrom highestLevel higher
   same-top =
-      ap (λ (f : Found). atFound f (λ i. levelIn (getD (summariesOf s me) i noSummary .best)) 0)
+      ap (λ (f : Found). atFound f (λ i. levelOf (getD (summariesOf s me) i noSummary .holders .best)) 0)
       (from-summaries aboveIn higher (heldAbove s me) (λ i j. ltb (holderLevel s j) (holderLevel s i)) same-above
-      (λ i j. ap (λ (a : ℕ). ltb a (levelIn (summaryOf s me i .best))) (same-level j) ∙ ap (ltb (holderLevel s j)) (same-level i)))
+      (λ i j. ap (λ (a : ℕ). ltb a (levelOf (summaryOf s me i .holders .best))) (same-level j) ∙ ap (ltb (holderLevel s j)) (same-level i)))
       ∙ go (pickBelow (s .size) (heldAbove s me) (λ i j. ltb (holderLevel s j) (holderLevel s i))) refl
     where
       go : (f : Found) → pickBelow (s .size) (heldAbove s me) (λ i j. ltb (holderLevel s j) (holderLevel s i)) ≡ f
-          → atFound f (λ i. levelIn (getD (summariesOf s me) i noSummary .best)) 0 ≡ atFound f (holderLevel s) 0
+          → atFound f (λ i. levelOf (getD (summariesOf s me) i noSummary .holders .best)) 0 ≡ atFound f (holderLevel s) 0
       go Nowhere e = refl
       go (At i) e =
           let h = pick-is (heldAbove s me) (λ i j. ltb (holderLevel s j) (holderLevel s i)) (s .size) i e .0 in
-          ap (λ (x : Summary). levelIn (x .best)) (summary-at i (omega arith)) ∙ same-level i
+          ap (λ (x : Summary). levelOf (x .holders .best)) (summary-at i (omega arith)) ∙ same-level i
 
   -- where two numbers are equal, what is asked of the one is asked of the other
   at-equal : (a : Bool) (x y : ℕ) (f : ℕ → Bool) → a && eqb x y && f x ≡ a && eqb x y && f y
@@ -102,21 +106,15 @@ module _ (s : State) (me : ℕ) (most : s .size ≤ 64) where
       go true e = ap (λ (z : ℕ). a && eqb x y && f z) (eqb-true x y e)
       go false e = rw e (none a)
 
-  same-pinned : (i : ℕ) → summaryOf s me i .tally .pinned ≡ pinnedAt s (holderLevel s i) i
-  unfolding summaryOf tallied pinnedAt levelIn bestBelow holderLevel bestHolder
-  same-pinned i = refl
-
-  same-worse : (f g : Found) (next : Bool) → worseIn f g (atFound f (λ row. rowAt s row .deadline) 0) (atFound g (λ row. rowAt s row .deadline) 0) next ≡ worse s f g next
-  unfolding outranks
-  same-worse Nowhere g next = refl
-  same-worse (At row) Nowhere next = refl
-  same-worse (At row) (At other) next = refl
+  same-pinned : (i : ℕ) → summaryOf s me i .holders .pinned ≡ pinnedAt s (holderLevel s i) i
+  unfolding summaryOf summaryWith
+  same-pinned i = pinned-is s i
 
   same-before : (i j : ℕ) → heldBefore (summaryOf s me i) (summaryOf s me j) ≡ beforeHeld s i j
-  unfolding heldBefore beforeHeld summaryOf tallied bestBelow bestHolder latestTouch levelIn holderLevel
+  unfolding heldBefore beforeHeld summaryOf summaryWith
   same-before i j =
-      same-worse (bestHolder s i) (bestHolder s j)
-      (lexLess (latestTouch s (holderLevel s i) i) (latestTouch s (holderLevel s j) j) (ltb (pageIn (slotAt s i .content)) (pageIn (slotAt s j .content))))
+      worse-is s i j (lexLess (holdersBelow s i 32 .latest) (holdersBelow s j 32 .latest) (ltb (pageIn (slotAt s i .content)) (pageIn (slotAt s j .content))))
+      ∙ rw (latest-is s i, latest-is s j)
 
   same-class : (class : Class) (p : ℕ → Bool) → ((i : ℕ) → inClass class (highestLevel s me) (summaryOf s me i) ≡ p i)
       → heldFrom (summariesOf s me) (s .size) class (topFrom (summariesOf s me) (s .size)) ≡ stepHeld s p
@@ -135,13 +133,17 @@ module _ (s : State) (me : ℕ) (most : s .size ≤ 64) where
       rw (same-above i, same-level i, same-pinned i)
       (at-equal (heldAbove s me i) (holderLevel s i) (highestLevel s me) (λ level. pinnedAt s level i))
 
+  same-pin : (i : ℕ) → heldAtOwnLevel s me i ≡ true → summaryOf s me i .holders .pinned ≡ seenPin s (levelOf me) i
+  unfolding summaryOf summaryWith
+  same-pin i = pin-is s i me
+
   same-e : (i : ℕ) → inClass E (highestLevel s me) (summaryOf s me i) ≡ inE s me i
-  unfolding inE besideIn summaryOf tallied heldAtOwnLevel seen seenPin
-  same-e i = refl
+  unfolding inE
+  same-e i = rw (same-beside i) (and-when (heldAtOwnLevel s me i) _ _ (λ h. ap not (same-pin i h)))
 
   same-f : (i : ℕ) → inClass F (highestLevel s me) (summaryOf s me i) ≡ inF s me i
-  unfolding inF besideIn summaryOf tallied heldAtOwnLevel seen seenPin
-  same-f i = refl
+  unfolding inF summaryOf summaryWith
+  same-f i = rw (beside-is s i me) (ap (λ (x : Bool). x && not (pins s i me)) (and-when (heldAtOwnLevel s me i) _ _ (pin-is s i me)))
 
   -- the choice by summaries is the choice
   pub choice-made : chosenFrom (summariesOf s me) (s .size) ≡ chosen s me

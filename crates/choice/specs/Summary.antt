@@ -1,166 +1,160 @@
--- What the choice of a slot needs of each slot, gathered in two passes over the holdings, and the searches over it.
+-- What the choice of a slot needs of each slot, gathered in one pass over the holdings, and the searches over it.
 use mathlib.Core.Bool.{Bool, true, false, cond, _&&_, _||_, not}
 use mathlib.Core.List.{List}
-use Prim.Native.Nat.{ℕ, _+_}
-use lib.Dec.{leb, ltb, eqb}
+use Prim.Native.Nat.{ℕ}
+use lib.Dec.{ltb, eqb}
 use lib.ListN.{getD, replicate}
-use Rattle.seq.specs.Below.{anyBelow, allBelow, pickBelow, atFound}
+use Rattle.seq.specs.Below.{anyBelow, pickBelow, atFound}
 use Rattle.seq.specs.Each.{each}
 use Rattle.seq.specs.Order.{lexLess}
 use Rattle.seq.specs.declared.Found.{Found}
 use Rattle.seq.specs.declared.Found.the-variants.{At, Nowhere}
 use Rattle.model.specs.declared.Holding.{Holding}
+use Rattle.model.specs.declared.Slot.{Slot}
 use Rattle.model.specs.declared.State.{State}
 use Rattle.model.specs.Parties.{levelOf, better}
-use Rattle.model.specs.State.{emptySlot, rowAt, slotAt, holdingAt}
-use Rattle.model.specs.Words.{isFilled, pageIn, dirtyIn, lowestIn, isHeld, isPin, holds, pins, seenHolder, outranks}
+use Rattle.model.specs.State.{rowAt, slotAt, holdingAt}
+use Rattle.model.specs.Words.{isFilled, pageIn, dirtyIn, lowestIn, isHeld, isPin, holds, pins, outranks}
 use Rattle.rules.specs.Choice.{orElse, dirtyNumber}
-use Rattle.choice.specs.declared.Best.{Best}
-use Rattle.choice.specs.declared.Tally.{Tally}
+use Rattle.choice.specs.declared.Holders.{Holders}
 use Rattle.choice.specs.declared.Summary.{Summary}
-use Rattle.choice.specs.declared.Pick.{Pick}
 use Rattle.choice.specs.declared.Class.{Class}
 use Rattle.choice.specs.declared.Class.the-variants.{C, D, E, F}
 
 unfoldable pub largerOf : ℕ → ℕ → ℕ
 largerOf a b = cond (ltb a b) b a
 
--- ---- the best holder among the rows below n, and its deadline
-unfoldable pub bestBelow : State → ℕ → ℕ → Best
-bestBelow s slot n = record {
-  row = pickBelow n (holds s slot) (outranks s);
+-- ---- the holders of a slot among the rows below n
+-- the best of them, and 0 where there is none
+unfoldable pub bestBelow : State → ℕ → ℕ → ℕ
+bestBelow s slot n = atFound (pickBelow n (holds s slot) (outranks s)) (λ row. row) 0
+
+-- what the holders of a level are among them
+unfoldable pub latestBelow : State → ℕ → ℕ → ℕ → ℕ
+latestBelow s level slot n =
+    atFound
+    (pickBelow n (λ row. eqb (levelOf row) level && holds s slot row) (λ row other. ltb (holdingAt s slot other .touch) (holdingAt s slot row .touch)))
+    (λ row. holdingAt s slot row .touch)
+    0
+
+unfoldable pub pinnedBelow : State → ℕ → ℕ → ℕ → Bool
+pinnedBelow s level slot n = anyBelow n (λ row. eqb (levelOf row) level && pins s slot row)
+
+unfoldable pub holdersBelow : State → ℕ → ℕ → Holders
+holdersBelow s slot n = record {
+  best = bestBelow s slot n;
   deadline = atFound (pickBelow n (holds s slot) (outranks s)) (λ row. rowAt s row .deadline) 0;
+  latest = latestBelow s (levelOf (bestBelow s slot n)) slot n;
+  held = anyBelow n (holds s slot);
+  pinned = pinnedBelow s (levelOf (bestBelow s slot n)) slot n;
 }
 
-abbrev pub noBest : Best
-noBest = record { row = Nowhere; deadline = 0 }
+abbrev pub noHolders : Holders
+noHolders = record { best = 0; deadline = 0; latest = 0; held = false; pinned = false }
 
--- one row more: it is taken where it is better than the best so far
-abbrev pub bestAgainst : Found → Best → ℕ → ℕ → Best
-bestAgainst Nowhere b row deadline = record { row = At row; deadline = deadline }
-bestAgainst (At other) b row deadline = cond (better row deadline other (b .deadline)) (record { row = At row; deadline = deadline }) b
-
-unfoldable pub bestWith : Bool → Best → ℕ → ℕ → Best
-bestWith held b row deadline = cond held (bestAgainst (b .row) b row deadline) b
-
-unfoldable pub bestOf : State → List Best
-bestOf s = each (λ slot _. bestBelow s slot 32) (replicate 64 noBest)
-
--- the level of the best holder
-unfoldable pub levelIn : Best → ℕ
-levelIn b = atFound (b .row) levelOf 0
-
--- ---- what the holdings of the rows below n say to the requester me
-unfoldable pub tallied : State → ℕ → ℕ → ℕ → Tally
-tallied s me slot n =
-    let level = levelIn (bestBelow s slot 32) in
-    record {
-      held = anyBelow n (holds s slot);
-      seen = anyBelow n (seenHolder s (levelOf me) slot);
-      latest =
-          atFound
-          (pickBelow n (λ row. eqb (levelOf row) level && holds s slot row) (λ row other. ltb (holdingAt s slot other .touch) (holdingAt s slot row .touch)))
-          (λ row. holdingAt s slot row .touch)
-          0;
-      pinned = anyBelow n (λ row. eqb (levelOf row) level && pins s slot row);
-      beside =
-          allBelow n (λ other. not (seenHolder s (levelOf me) slot other) || (eqb (levelOf other) (levelOf me) && not (outranks s other me)));
-      pin = anyBelow n (λ row. leb (levelOf row) (levelOf me) && pins s slot row);
-    }
-
-abbrev pub noTally : Tally
-noTally = record { held = false; seen = false; latest = 0; pinned = false; beside = true; pin = false }
-
--- the latest touch, with one holder more where it counts
-unfoldable pub latestWith : Bool → ℕ → ℕ → ℕ
-latestWith counts latest touch = cond counts (largerOf latest touch) latest
-
--- a holder that is not seen, or is of the requester's level and not better than the requester
-unfoldable pub besideWith : Bool → Bool → Bool → Bool
-besideWith sees same better = not sees || (same && not better)
-
--- one row more: me has the deadline mine, the row the deadline given and the holding h
-unfoldable pub tallyWith : Tally → ℕ → ℕ → ℕ → ℕ → ℕ → Holding → Tally
-tallyWith t me mine level row deadline h = record {
-  held = t .held || isHeld (h .pin);
-  seen = t .seen || (leb (levelOf row) (levelOf me) && isHeld (h .pin));
-  latest = latestWith (eqb (levelOf row) level && isHeld (h .pin)) (t .latest) (h .touch);
-  pinned = t .pinned || (eqb (levelOf row) level && isPin (h .pin));
-  beside = t .beside && besideWith (leb (levelOf row) (levelOf me) && isHeld (h .pin)) (eqb (levelOf row) (levelOf me)) (better row deadline me mine);
-  pin = t .pin || (leb (levelOf row) (levelOf me) && isPin (h .pin));
+-- one row more, of the best holder's level
+unfoldable pub joinedLevel : Bool → Holders → ℕ → ℕ → ℕ → Bool → Holders
+joinedLevel better w row deadline touch pin = record {
+  best = cond better row (w .best);
+  deadline = cond better deadline (w .deadline);
+  latest = largerOf (w .latest) touch;
+  held = true;
+  pinned = w .pinned || pin;
 }
+
+-- one row more, of the deadline and with the holding given; it is above all rows before
+unfoldable pub holdersWith : Holders → ℕ → ℕ → Holding → Holders
+holdersWith w row deadline h =
+    cond (isHeld (h .pin))
+    (cond (w .held)
+    (cond (eqb (levelOf row) (levelOf (w .best)))
+    (joinedLevel (better row deadline (w .best) (w .deadline)) w row deadline (h .touch) (isPin (h .pin)))
+    w)
+    (record { best = row; deadline = deadline; latest = h .touch; held = true; pinned = isPin (h .pin) }))
+    w
 
 -- ---- a slot's summary
-unfoldable pub summaryOf : State → ℕ → ℕ → Summary
-summaryOf s me slot = record {
-  slot = slotAt s slot;
-  best = bestBelow s slot 32;
-  tally = tallied s me slot 32;
-  own = pins s slot me;
+-- held only above the level
+unfoldable pub aboveBy : Holders → ℕ → Bool
+aboveBy w level = w .held && ltb level (levelOf (w .best))
+
+-- seen holders all of the requester's level, none better than the requester
+unfoldable pub besideBy : Holders → ℕ → ℕ → Bool
+besideBy w me mine = w .held && (eqb (levelOf (w .best)) (levelOf me) && not (better (w .best) (w .deadline) me mine))
+
+unfoldable pub summaryWith : Slot → Holders → Bool → ℕ → ℕ → Summary
+summaryWith x w own me mine = record {
+  holders = w;
+  lowest = lowestIn (x .content);
+  page = pageIn (x .content);
+  touch = x .touch;
+  filled = isFilled (x .content);
+  dirty = dirtyIn (x .content);
+  above = aboveBy w (levelOf me);
+  beside = besideBy w me mine;
+  own = own;
 }
 
+unfoldable pub summaryOf : State → ℕ → ℕ → Summary
+summaryOf s me slot = summaryWith (slotAt s slot) (holdersBelow s slot 32) (pins s slot me) me (rowAt s me .deadline)
+
 abbrev pub noSummary : Summary
-noSummary = record { slot = emptySlot; best = noBest; tally = record { held = false; seen = false; latest = 0; pinned = false; beside = false; pin = false }; own = false }
+noSummary = record { holders = noHolders; lowest = 0; page = 0; touch = 0; filled = false; dirty = false; above = false; beside = false; own = false }
 
 unfoldable pub summariesOf : State → ℕ → List Summary
 summariesOf s me = each (λ slot _. summaryOf s me slot) (replicate 64 noSummary)
 
 -- ---- the tests and orders of the steps, by summaries
 unfoldable pub emptyIn : Summary → Bool
-emptyIn x = not (isFilled (x .slot .content))
+emptyIn x = not (x .filled)
 
 unfoldable pub dormantIn : Summary → Bool
-dormantIn x = isFilled (x .slot .content) && not (x .tally .held)
+dormantIn x = x .filled && not (x .holders .held)
 
-unfoldable pub aboveIn : Summary → Bool
-aboveIn x = x .tally .held && not (x .tally .seen)
-
-unfoldable pub besideIn : Summary → Bool
-besideIn x = x .tally .seen && x .tally .beside
+abbrev pub aboveIn : Summary → Bool
+aboveIn x = x .above
 
 abbrev pub inClass : Class → ℕ → Summary → Bool
-inClass C top x = aboveIn x && eqb (levelIn (x .best)) top && not (x .tally .pinned)
-inClass D top x = aboveIn x && eqb (levelIn (x .best)) top && x .tally .pinned
-inClass E top x = besideIn x && not (x .tally .pin)
-inClass F top x = besideIn x && x .tally .pin && not (x .own)
+inClass C top x = x .above && eqb (levelOf (x .holders .best)) top && not (x .holders .pinned)
+inClass D top x = x .above && eqb (levelOf (x .holders .best)) top && x .holders .pinned
+inClass E top x = x .beside && not (x .holders .pinned)
+inClass F top x = x .beside && x .holders .pinned && not (x .own)
 
 abbrev pub noOrder : Summary → Summary → Bool
 noOrder x y = false
 
 unfoldable pub dormantBefore : Summary → Summary → Bool
 dormantBefore x y =
-    lexLess (lowestIn (x .slot .content)) (lowestIn (y .slot .content))
-    (lexLess (dirtyNumber (dirtyIn (x .slot .content))) (dirtyNumber (dirtyIn (y .slot .content)))
-    (ltb (x .slot .touch) (y .slot .touch)))
+    lexLess (x .lowest) (y .lowest)
+    (lexLess (dirtyNumber (x .dirty)) (dirtyNumber (y .dirty))
+    (ltb (x .touch) (y .touch)))
 
 unfoldable pub higher : Summary → Summary → Bool
-higher x y = ltb (levelIn (y .best)) (levelIn (x .best))
+higher x y = ltb (levelOf (y .holders .best)) (levelOf (x .holders .best))
 
-abbrev pub worseIn : Found → Found → ℕ → ℕ → Bool → Bool
-worseIn Nowhere other d e next = next
-worseIn (At row) Nowhere d e next = next
-worseIn (At row) (At other) d e next = cond (eqb row other) next (better other e row d)
+unfoldable pub worseIn : Holders → Holders → Bool → Bool
+worseIn v w next = cond (v .held && w .held) (cond (eqb (v .best) (w .best)) next (better (w .best) (w .deadline) (v .best) (v .deadline))) next
 
 unfoldable pub heldBefore : Summary → Summary → Bool
 heldBefore x y =
-    worseIn (x .best .row) (y .best .row) (x .best .deadline) (y .best .deadline)
-    (lexLess (x .tally .latest) (y .tally .latest) (ltb (pageIn (x .slot .content)) (pageIn (y .slot .content))))
+    worseIn (x .holders) (y .holders)
+    (lexLess (x .holders .latest) (y .holders .latest) (ltb (x .page) (y .page)))
 
 -- ---- a search over summaries
 unfoldable pub pickFrom : List Summary → ℕ → (Summary → Bool) → (Summary → Summary → Bool) → Found
 pickFrom m n some before = pickBelow n (λ i. some (getD m i noSummary)) (λ i j. before (getD m i noSummary) (getD m j noSummary))
 
-abbrev pub pickAgainst : Found → Bool → Pick → Summary → ℕ → Pick
-pickAgainst Nowhere first p x i = record { found = At i; best = x }
-pickAgainst (At j) first p x i = cond first (record { found = At i; best = x }) p
+-- the place of the best so far, with one slot more: whether it passes, whether one was found before, and whether it comes before that one
+unfoldable pub placeWith : Bool → Bool → Bool → ℕ → ℕ → ℕ
+placeWith passes some first at i = cond passes (cond some (cond first i at) i) at
 
--- one slot more: whether it passes, and whether it comes before the best so far
-unfoldable pub pickWith : Bool → Bool → Pick → Summary → ℕ → Pick
-pickWith passes first p x i = cond passes (pickAgainst (p .found) first p x i) p
+abbrev pub foundAt : Bool → ℕ → Found
+foundAt false at = Nowhere
+foundAt true at = At at
 
 -- M: the highest level of a best holder among the slots held only above the requester's level
 unfoldable pub topFrom : List Summary → ℕ → ℕ
-topFrom m n = atFound (pickFrom m n aboveIn higher) (λ i. levelIn (getD m i noSummary .best)) 0
+topFrom m n = atFound (pickFrom m n aboveIn higher) (λ i. levelOf (getD m i noSummary .holders .best)) 0
 
 unfoldable pub heldFrom : List Summary → ℕ → Class → ℕ → Found
 heldFrom m n class top = pickFrom m n (inClass class top) heldBefore

@@ -10,7 +10,7 @@ ghost use Prim.Native.Nat.{_<_, _≤_};
 ghost use Rattle.seq.specs.Below.{considered};
 ghost use Rattle.model.specs.Words.{isFilled, pageIn, dirtyIn, lowestIn, hasPage, slotOf};
 ghost use Rattle.choice.specs.Search.{never};
-ghost use Rattle.choice.specs.Summary.{largerOf, bestWith, bestOf, levelIn, latestWith, besideWith, tallyWith, summariesOf, emptyIn, dormantIn, aboveIn, besideIn, inClass, noOrder, dormantBefore, higher, worseIn, heldBefore, pickFrom, pickWith, topFrom, heldFrom, chosenFrom};
+ghost use Rattle.choice.specs.Summary.{largerOf, noHolders, joinedLevel, holdersWith, aboveBy, besideBy, noSummary, summaryWith, summariesOf, emptyIn, dormantIn, inClass, noOrder, dormantBefore, higher, worseIn, heldBefore, placeWith, foundAt, pickFrom, topFrom, heldFrom, chosenFrom};
 ghost use Rattle.rules.specs.Choice.{dirtyNumber, chosen};
 ghost use Rattle.seq.specs.Order.{lexLess};
 
@@ -48,44 +48,37 @@ pub fn find_page(s: State, page: u32) -> Found
 {
     let mut f = Found::Nowhere;
     let size = s.size;
+    let slots = s.slots;
     for i in 0..size {
-        let x = s.slots[i];
+        let x = slots[i];
         let c = x.content;
         f = first_found(has_page(page, c), f, i);
     }
     f
 }
 
-// The best holder of a slot, and its deadline.
-pub struct Best {
-    pub row: Found,
+// The holders of a slot: whether there is one; the best of them and its deadline; the latest touch by holders of its level; whether a row of that
+// level pins the slot.
+pub struct Holders {
+    pub best: usize,
     pub deadline: u32,
-}
-
-// What the holdings on a slot say to a requester: whether some row holds it; whether a seen row does; the latest touch by holders of the
-// best holder's level; whether a row of that level pins it; whether the seen holders are all of the requester's level, none better than
-// the requester; whether a seen row pins it.
-pub struct Tally {
-    pub held: bool,
-    pub seen: bool,
     pub latest: u32,
+    pub held: bool,
     pub pinned: bool,
-    pub beside: bool,
-    pub pin: bool,
 }
 
-// All that the choice asks of a slot; own: whether the requester pins it.
+// All that the choice asks of a slot. above: it is held only above the requester's level; beside: its seen holders are all of that level, none
+// better than the requester; own: the requester pins it.
 pub struct Summary {
-    pub slot: Slot,
-    pub best: Best,
-    pub tally: Tally,
+    pub holders: Holders,
+    pub lowest: usize,
+    pub page: u32,
+    pub touch: u32,
+    pub filled: bool,
+    pub dirty: bool,
+    pub above: bool,
+    pub beside: bool,
     pub own: bool,
-}
-
-// The best slot found so far, and its summary.
-pub struct Pick {
-    pub found: Found,
-    pub best: Summary,
 }
 
 // The steps c to f.
@@ -132,174 +125,53 @@ fn larger(a: u32, b: u32) -> u32
     a
 }
 
-// One row more in the search for the best holder.
-fn best_with(held: bool, b: Best, row: usize, deadline: u32) -> Best
-    ensures { λ r. ⌜ r ≡ bestWith held b row deadline ⌝ }
+// A row of the best holder's level joins the holders; better: it is better than the best one.
+fn join_level(better: bool, w: Holders, row: usize, deadline: u32, touch: u32, pin: bool) -> Holders
+    ensures { λ r. ⌜ r ≡ joinedLevel better w row deadline touch pin ⌝ }
 {
-    if held {
-        let f = b.row;
-        let Found::At(other) = f else {
-            return Best {
-                row: Found::At(row),
-                deadline,
-            };
+    let latest = larger(w.latest, touch);
+    let pinned = either(w.pinned, pin);
+    if better {
+        return Holders {
+            held: true,
+            best: row,
+            deadline,
+            latest,
+            pinned,
         };
-        if model::is_better(row, deadline, other, b.deadline) {
-            return Best {
-                row: Found::At(row),
-                deadline,
-            };
-        }
-        return b;
     }
-    b
-}
-
-// The best holder of each slot.
-fn best_holders(s: State) -> [Best; 64]
-    ensures { λ r. ⌜ r ≡ bestOf s ⌝ }
-{
-    let mut out = [Best {
-        row: Found::Nowhere,
-        deadline: 0,
-    }; 64];
-    for i in 0..64usize {
-        let mut b = Best {
-            row: Found::Nowhere,
-            deadline: 0,
-        };
-        for r in 0..32usize {
-            let h = s.holdings[i * 32 + r];
-            let p = h.pin;
-            let x = s.rows[r];
-            let held = model::is_held(p);
-            let d = x.deadline;
-            b = best_with(held, b, r, d);
-        }
-        out[i] = b;
+    Holders {
+        held: true,
+        best: w.best,
+        deadline: w.deadline,
+        latest,
+        pinned,
     }
-    out
 }
 
-fn level_in(b: Best) -> usize
-    ensures { λ r. ⌜ r ≡ levelIn b ⌝ }
-{
-    let f = b.row;
-    let Found::At(row) = f else {
-        return 0;
-    };
-    row / 8
-}
-
-// The latest touch, with one holder more.
-fn latest_with(counts: bool, latest: u32, touch: u32) -> u32
-    ensures { λ r. ⌜ r ≡ latestWith counts latest touch ⌝ }
-{
-    if counts {
-        return larger(latest, touch);
-    }
-    latest
-}
-
-// Whether a seen holder is of the requester's level and not better than the requester.
-fn beside_with(sees: bool, same: bool, better: bool) -> bool
-    ensures { λ r. ⌜ r ≡ besideWith sees same better ⌝ }
-{
-    if sees {
-        if same {
-            return negated(better);
-        }
-        return false;
-    }
-    true
-}
-
-// One row more in the tally of a slot.
-fn tally_with(
-    t: Tally,
-    me: usize,
-    mine: u32,
-    level: usize,
-    row: usize,
-    deadline: u32,
-    h: Holding,
-) -> Tally
-    ensures { λ r. ⌜ r ≡ tallyWith t me mine level row deadline h ⌝ }
+// One row more among the holders of a slot. Rows come in rising order, so a holder that is not of the best one's level is of a higher one.
+fn holders_with(w: Holders, row: usize, deadline: u32, h: Holding) -> Holders
+    ensures { λ r. ⌜ r ≡ holdersWith w row deadline h ⌝ }
 {
     let p = h.pin;
-    let held = model::is_held(p);
-    let pin = model::is_pin(p);
-    let near = row / 8 <= me / 8;
-    let same = row / 8 == me / 8;
-    let best = row / 8 == level;
-    let sees = both(near, held);
-    let better = model::is_better(row, deadline, me, mine);
-    Tally {
-        held: either(t.held, held),
-        seen: either(t.seen, sees),
-        latest: latest_with(both(best, held), t.latest, h.touch),
-        pinned: either(t.pinned, both(best, pin)),
-        beside: both(t.beside, beside_with(sees, same, better)),
-        pin: either(t.pin, both(near, pin)),
-    }
-}
-
-// The summaries of all slots for a requester: the best holders, and then the tallies, each in one pass over the holdings.
-fn summaries(s: State, me: usize) -> [Summary; 64]
-    requires { ⌜ me < 32 ⌝ }
-    ensures { λ r. ⌜ r ≡ summariesOf s me ⌝ }
-{
-    let best = best_holders(s);
-    let own = s.rows[me];
-    let mine = own.deadline;
-    let mut out = [Summary {
-        slot: Slot {
-            content: Content::Empty,
-            touch: 0,
-        },
-        best: Best {
-            row: Found::Nowhere,
-            deadline: 0,
-        },
-        tally: Tally {
-            held: false,
-            seen: false,
-            latest: 0,
-            pinned: false,
-            beside: false,
-            pin: false,
-        },
-        own: false,
-    }; 64];
-    for i in 0..64usize {
-        let b = best[i];
-        let level = level_in(b);
-        let mut t = Tally {
-            held: false,
-            seen: false,
-            latest: 0,
-            pinned: false,
-            beside: true,
-            pin: false,
-        };
-        for r in 0..32usize {
-            let h = s.holdings[i * 32 + r];
-            let x = s.rows[r];
-            let d = x.deadline;
-            t = tally_with(t, me, mine, level, r, d, h);
+    if model::is_held(p) {
+        let pin = model::is_pin(p);
+        if w.held {
+            if row / 8 == w.best / 8 {
+                let better = model::is_better(row, deadline, w.best, w.deadline);
+                return join_level(better, w, row, deadline, h.touch, pin);
+            }
+            return w;
         }
-        let g = s.holdings[i * 32 + me];
-        let p = g.pin;
-        let pinned = model::is_pin(p);
-        let slot = s.slots[i];
-        out[i] = Summary {
-            slot,
-            best: b,
-            tally: t,
-            own: pinned,
+        return Holders {
+            held: true,
+            best: row,
+            deadline,
+            latest: h.touch,
+            pinned: pin,
         };
     }
-    out
+    w
 }
 
 fn is_filled(c: Content) -> bool
@@ -358,6 +230,100 @@ fn dirty_in(c: Content) -> bool
     }
 }
 
+// The best holder is above the requester's level.
+fn is_above(w: Holders, level: usize) -> bool
+    ensures { λ r. ⌜ r ≡ aboveBy w level ⌝ }
+{
+    if w.held {
+        return level < w.best / 8;
+    }
+    false
+}
+
+// The best holder is of the requester's level, and not better than the requester.
+fn is_beside(w: Holders, me: usize, mine: u32) -> bool
+    ensures { λ r. ⌜ r ≡ besideBy w me mine ⌝ }
+{
+    if w.held {
+        if w.best / 8 == me / 8 {
+            return negated(model::is_better(w.best, w.deadline, me, mine));
+        }
+        return false;
+    }
+    false
+}
+
+fn summary_with(x: Slot, w: Holders, own: bool, me: usize, mine: u32) -> Summary
+    ensures { λ r. ⌜ r ≡ summaryWith x w own me mine ⌝ }
+{
+    let c = x.content;
+    Summary {
+        filled: is_filled(c),
+        page: page_in(c),
+        dirty: dirty_in(c),
+        lowest: lowest_in(c),
+        touch: x.touch,
+        holders: w,
+        above: is_above(w, me / 8),
+        beside: is_beside(w, me, mine),
+        own,
+    }
+}
+
+fn no_holders() -> Holders
+    ensures { λ r. ⌜ r ≡ noHolders ⌝ }
+{
+    Holders {
+        held: false,
+        best: 0,
+        deadline: 0,
+        latest: 0,
+        pinned: false,
+    }
+}
+
+fn no_summary() -> Summary
+    ensures { λ r. ⌜ r ≡ noSummary ⌝ }
+{
+    Summary {
+        filled: false,
+        page: 0,
+        dirty: false,
+        lowest: 0,
+        touch: 0,
+        holders: no_holders(),
+        above: false,
+        beside: false,
+        own: false,
+    }
+}
+
+// The summaries of all slots for a requester, in one pass over the holdings.
+fn summaries(s: State, me: usize) -> [Summary; 64]
+    requires { ⌜ me < 32 ⌝ }
+    ensures { λ r. ⌜ r ≡ summariesOf s me ⌝ }
+{
+    let asking = s.rows[me];
+    let mine = asking.deadline;
+    let none = no_summary();
+    let mut out = [none; 64];
+    for i in 0..64usize {
+        let mut w = no_holders();
+        for r in 0..32usize {
+            let h = s.holdings[i * 32 + r];
+            let x = s.rows[r];
+            let d = x.deadline;
+            w = holders_with(w, r, d, h);
+        }
+        let g = s.holdings[i * 32 + me];
+        let p = g.pin;
+        let own = model::is_pin(p);
+        let slot = s.slots[i];
+        out[i] = summary_with(slot, w, own, me, mine);
+    }
+    out
+}
+
 // Clean before dirty.
 fn dirty_number(dirty: bool) -> u32
     ensures { λ r. ⌜ r ≡ dirtyNumber dirty ⌝ }
@@ -378,53 +344,24 @@ fn ordered(equal: bool, less: bool, next: bool) -> bool
     less
 }
 
-fn is_empty(x: Summary) -> bool
-    ensures { λ r. ⌜ r ≡ emptyIn x ⌝ }
-{
-    let slot = x.slot;
-    let c = slot.content;
-    negated(is_filled(c))
-}
-
 fn is_dormant(x: Summary) -> bool
     ensures { λ r. ⌜ r ≡ dormantIn x ⌝ }
 {
-    let slot = x.slot;
-    let c = slot.content;
-    let t = x.tally;
-    both(is_filled(c), negated(t.held))
-}
-
-// Held only above the requester's level.
-fn is_above(x: Summary) -> bool
-    ensures { λ r. ⌜ r ≡ aboveIn x ⌝ }
-{
-    let t = x.tally;
-    both(t.held, negated(t.seen))
-}
-
-// Seen holders all of the requester's level, none better than the requester.
-fn is_beside(x: Summary) -> bool
-    ensures { λ r. ⌜ r ≡ besideIn x ⌝ }
-{
-    let t = x.tally;
-    both(t.seen, t.beside)
+    let w = x.holders;
+    both(x.filled, negated(w.held))
 }
 
 // The slot is in the step.
 fn is_in(class: Class, top: usize, x: Summary) -> bool
     ensures { λ r. ⌜ r ≡ inClass class top x ⌝ }
 {
-    let t = x.tally;
-    let b = x.best;
-    let level = level_in(b);
-    let above = both(is_above(x), level == top);
-    let beside = is_beside(x);
+    let w = x.holders;
+    let above = both(x.above, w.best / 8 == top);
     match class {
-        Class::C => both(above, negated(t.pinned)),
-        Class::D => both(above, t.pinned),
-        Class::E => both(beside, negated(t.pin)),
-        Class::F => both(both(beside, t.pin), negated(x.own)),
+        Class::C => both(above, negated(w.pinned)),
+        Class::D => both(above, w.pinned),
+        Class::E => both(x.beside, negated(w.pinned)),
+        Class::F => both(both(x.beside, w.pinned), negated(x.own)),
     }
 }
 
@@ -432,84 +369,67 @@ fn is_in(class: Class, top: usize, x: Summary) -> bool
 fn is_dormant_before(x: Summary, y: Summary) -> bool
     ensures { λ r. ⌜ r ≡ dormantBefore x y ⌝ }
 {
-    let s = x.slot;
-    let t = y.slot;
-    let c = s.content;
-    let d = t.content;
-    let low = lowest_in(c);
-    let high = lowest_in(d);
-    let clean = dirty_number(dirty_in(c));
-    let other = dirty_number(dirty_in(d));
-    let next = ordered(clean == other, clean < other, s.touch < t.touch);
-    ordered(low == high, low < high, next)
+    let clean = dirty_number(x.dirty);
+    let other = dirty_number(y.dirty);
+    let next = ordered(clean == other, clean < other, x.touch < y.touch);
+    ordered(x.lowest == y.lowest, x.lowest < y.lowest, next)
 }
 
 // The best holder of the first slot is of a higher level.
 fn is_higher(x: Summary, y: Summary) -> bool
     ensures { λ r. ⌜ r ≡ higher x y ⌝ }
 {
-    let b = x.best;
-    let c = y.best;
-    level_in(c) < level_in(b)
+    let v = x.holders;
+    let w = y.holders;
+    w.best / 8 < v.best / 8
 }
 
 // The first best holder has the worse priority; next where they are one row.
-fn is_worse(b: Best, c: Best, next: bool) -> bool
-    ensures { λ r. ⌜ r ≡ worseIn (b .row) (c .row) (b .deadline) (c .deadline) next ⌝ }
+fn is_worse(v: Holders, w: Holders, next: bool) -> bool
+    ensures { λ r. ⌜ r ≡ worseIn v w next ⌝ }
 {
-    let f = b.row;
-    let Found::At(row) = f else {
-        return next;
-    };
-    let g = c.row;
-    let Found::At(other) = g else {
-        return next;
-    };
-    if row == other {
-        return next;
+    if both(v.held, w.held) {
+        if v.best == w.best {
+            return next;
+        }
+        return model::is_better(w.best, w.deadline, v.best, v.deadline);
     }
-    model::is_better(other, c.deadline, row, b.deadline)
+    next
 }
 
 // Of two held slots the first is taken before the second.
 fn is_held_before(x: Summary, y: Summary) -> bool
     ensures { λ r. ⌜ r ≡ heldBefore x y ⌝ }
 {
-    let s = x.slot;
-    let t = y.slot;
-    let c = s.content;
-    let d = t.content;
-    let k = x.tally;
-    let l = y.tally;
-    let b = x.best;
-    let e = y.best;
-    let first = k.latest;
-    let second = l.latest;
-    let next = ordered(first == second, first < second, page_in(c) < page_in(d));
-    is_worse(b, e, next)
+    let v = x.holders;
+    let w = y.holders;
+    let next = ordered(v.latest == w.latest, v.latest < w.latest, x.page < y.page);
+    is_worse(v, w, next)
 }
 
-// One slot more in a search.
-fn pick_with(passes: bool, first: bool, p: Pick, x: Summary, i: usize) -> Pick
-    ensures { λ r. ⌜ r ≡ pickWith passes first p x i ⌝ }
+// One slot more in a search: the place of the best so far. some: one was found before; first: this slot comes before that one.
+fn place_with(passes: bool, some: bool, first: bool, at: usize, i: usize) -> usize
+    ensures { λ r. ⌜ r ≡ placeWith passes some first at i ⌝ }
 {
     if passes {
-        let f = p.found;
-        let Found::At(_) = f else {
-            return Pick {
-                found: Found::At(i),
-                best: x,
-            };
-        };
-        if first {
-            return Pick {
-                found: Found::At(i),
-                best: x,
-            };
+        if some {
+            if first {
+                return i;
+            }
+            return at;
         }
-        return p;
+        return i;
     }
-    p
+    at
+}
+
+fn found_at(some: bool, at: usize) -> Found
+    ensures { λ r. ⌜ r ≡ foundAt some at ⌝ }
+{
+    if some {
+        return Found::At(at);
+    }
+    Found::Nowhere
 }
 
 // Step a.
@@ -517,17 +437,15 @@ fn first_empty(m: [Summary; 64], n: usize) -> Found
     requires { ⌜ n ≤ 64 ⌝ }
     ensures { λ r. ⌜ r ≡ pickFrom m n emptyIn noOrder ⌝ }
 {
-    let start = m[0];
-    let mut p = Pick {
-        found: Found::Nowhere,
-        best: start,
-    };
+    let mut some = false;
+    let mut at: usize = 0;
     for i in 0..n {
         let x = m[i];
-        let passes = is_empty(x);
-        p = pick_with(passes, false, p, x, i);
+        let passes = negated(x.filled);
+        at = place_with(passes, some, false, at, i);
+        some = either(some, passes);
     }
-    p.found
+    found_at(some, at)
 }
 
 // Step b.
@@ -535,19 +453,17 @@ fn first_dormant(m: [Summary; 64], n: usize) -> Found
     requires { ⌜ n ≤ 64 ⌝ }
     ensures { λ r. ⌜ r ≡ pickFrom m n dormantIn dormantBefore ⌝ }
 {
-    let start = m[0];
-    let mut p = Pick {
-        found: Found::Nowhere,
-        best: start,
-    };
+    let mut some = false;
+    let mut at: usize = 0;
     for i in 0..n {
         let x = m[i];
-        let best = p.best;
+        let y = m[at];
         let passes = is_dormant(x);
-        let first = is_dormant_before(x, best);
-        p = pick_with(passes, first, p, x, i);
+        let first = is_dormant_before(x, y);
+        at = place_with(passes, some, first, at, i);
+        some = either(some, passes);
     }
-    p.found
+    found_at(some, at)
 }
 
 // The highest level of a best holder among the slots held only above the requester's level.
@@ -555,25 +471,22 @@ fn top_level(m: [Summary; 64], n: usize) -> usize
     requires { ⌜ n ≤ 64 ⌝ }
     ensures { λ r. ⌜ r ≡ topFrom m n ⌝ }
 {
-    let start = m[0];
-    let mut p = Pick {
-        found: Found::Nowhere,
-        best: start,
-    };
+    let mut some = false;
+    let mut at: usize = 0;
     for i in 0..n {
         let x = m[i];
-        let best = p.best;
-        let passes = is_above(x);
-        let first = is_higher(x, best);
-        p = pick_with(passes, first, p, x, i);
+        let y = m[at];
+        let passes = x.above;
+        let first = is_higher(x, y);
+        at = place_with(passes, some, first, at, i);
+        some = either(some, passes);
     }
-    let f = p.found;
-    let Found::At(_) = f else {
-        return 0;
-    };
-    let top = p.best;
-    let b = top.best;
-    level_in(b)
+    let top = m[at];
+    let w = top.holders;
+    if some {
+        return w.best / 8;
+    }
+    0
 }
 
 // A step of c to f.
@@ -581,19 +494,17 @@ fn first_held(m: [Summary; 64], n: usize, class: Class, top: usize) -> Found
     requires { ⌜ n ≤ 64 ⌝ }
     ensures { λ r. ⌜ r ≡ heldFrom m n class top ⌝ }
 {
-    let start = m[0];
-    let mut p = Pick {
-        found: Found::Nowhere,
-        best: start,
-    };
+    let mut some = false;
+    let mut at: usize = 0;
     for i in 0..n {
         let x = m[i];
-        let best = p.best;
+        let y = m[at];
         let passes = is_in(class, top, x);
-        let first = is_held_before(x, best);
-        p = pick_with(passes, first, p, x, i);
+        let first = is_held_before(x, y);
+        at = place_with(passes, some, first, at, i);
+        some = either(some, passes);
     }
-    p.found
+    found_at(some, at)
 }
 
 // The first step that applies.

@@ -4,52 +4,35 @@ use mathlib.Core.Bool.{true}
 use Prim.Native.Nat.{ℕ, zero, suc, _+_, _<_, _≤_}
 use native.Mathlib.Omega.{arith}
 use Rattle.seq.proofs.Tests.{true-false}
-use Rattle.model.specs.declared.Answer.the-variants.{Ready, Clock, RowIdle}
+use Rattle.model.specs.declared.Answer.the-variants.{Ready, Clock}
 use Rattle.model.specs.declared.Back.{Back}
-use Rattle.model.specs.declared.Condition.{Condition}
-use Rattle.model.specs.declared.Condition.the-variants.{Free, Idle, Fetching, Waiting, Killed}
+use Rattle.model.specs.declared.Condition.the-variants.{Idle, Fetching}
 use Rattle.model.specs.declared.Mode.{Mode}
 use Rattle.model.specs.declared.Pin.{Pin}
 use Rattle.model.specs.declared.Pin.the-variants.{Absent, Unpinned, Read, Write}
 use Rattle.model.specs.declared.Mode.the-variants as Mode
 use Rattle.model.specs.declared.State.{State}
-use Rattle.model.specs.Parties.{rowOf}
 use Rattle.model.specs.State.{rowAt, slotAt, holdingAt}
 use Rattle.model.specs.Words.{hasPage, arrivalIn, isHeld, pinOf, strength, holds}
 use Rattle.rules.specs.Sound.{sound}
-use Rattle.rules.specs.Refusals.{tickRefusal, lookRefusal}
-use Rattle.rules.specs.Calls.{unless, lateKilled, ticked, looked, lookedAt}
-use Rattle.rules.specs.Run.{Call, tick, look, outcome}
+use Rattle.rules.specs.Refusals.{tickRefusal}
+use Rattle.rules.specs.Calls.{unless, lateKilled, ticked}
+use Rattle.rules.specs.Run.{Call, tick, outcome}
 use Rattle.rules.proofs.SoundFacts.{Sound, facts}
 use Rattle.rules.proofs.TickLaws.{later, ticked-clock, ticked-idle}
-use Rattle.rules.proofs.RefusalFacts.{look-taken}
 use Rattle.rules.proofs.Kept.{kept-sound}
 use Rattle.rules.proofs.CallCases.{Asks, isServed}
 use Rattle.rules.proofs.Granting.{grant-ready}
 use Rattle.rules.proofs.WaitFetch.{granted-alone}
 
--- every holding of the row has arrived
+-- every page that the row holds has arrived: the holding and the slot
 abbrev pub AllArrived : State → ℕ → Type 0
-AllArrived s row = (slot : ℕ) → slot < 64 → holds s slot row ≡ true → holdingAt s slot row .arrival ≤ s .clock
+AllArrived s row = (slot : ℕ) → slot < 64 → holds s slot row ≡ true → (holdingAt s slot row .arrival ≤ s .clock) × (arrivalIn (slotAt s slot .content) ≤ s .clock)
 
-idle-arrived : (s : State) → Sound s → (row : ℕ) → row < 32 → rowAt s row .condition ≡ Idle → AllArrived s row
-idle-arrived s z row b e = (rw e at (z .row row b)) .arrived
-
--- a look answers idle only where every holding of the row has arrived
-pub look-idle : (s : State) → sound s ≡ true → (level number : ℕ) → outcome s (look level number) .answer ≡ RowIdle → AllArrived s (rowOf level number)
-unfolding outcome lookedAt
-look-idle s z level number e = go (lookRefusal level number) refl e
-  where
-    idle : (x : Condition) → looked x ≡ RowIdle → x ≡ Idle
-    idle Free k = cc
-    idle Idle k = refl
-    idle (Fetching due) k = cc
-    idle (Waiting page mode) k = cc
-    idle (Killed cause) k = cc
-
-    go : (n : ℕ) → lookRefusal level number ≡ n → unless n s (record { state = s; answer = looked (rowAt s (rowOf level number) .condition) }) .answer ≡ RowIdle → AllArrived s (rowOf level number)
-    go zero q k = idle-arrived s (facts s z) (rowOf level number) (look-taken level number q .row-is) (idle (rowAt s (rowOf level number) .condition) k)
-    go (suc n) q k = true-false (cc)
+pub idle-arrived : (s : State) → Sound s → (row : ℕ) → row < 32 → rowAt s row .condition ≡ Idle → AllArrived s row
+idle-arrived s z row b e slot i h =
+    let a = (rw e at (z .row row b)) .arrived slot i h in
+    (a, omega (arith, z .held slot row i b h .after))
 
 -- the row holds the slot of the page with the pin asked for or a stronger one, and holding and page have arrived
 pub record InHand (s : State) (row page : ℕ) (mode : Mode) (slot : ℕ) : Type 0 where
@@ -83,7 +66,7 @@ ready-arrived s z c slot back w =
       page,
       mode,
       x .3,
-      record { slot-is = y .0; has-it = y .2; pinned = y .3; holding-arrived = a; slot-arrived = omega (arith, t .held slot row (y .0) (x .4) h .after) },
+      record { slot-is = y .0; has-it = y .2; pinned = y .3; holding-arrived = a .0; slot-arrived = a .1 },
       all,
     )
 

@@ -12,13 +12,14 @@ use Rattle.model.specs.declared.Answer.the-variants.{Ready, Fetch}
 use Rattle.model.specs.declared.Back.{Back}
 use Rattle.model.specs.declared.Back.the-variants.{Nothing}
 use Rattle.model.specs.declared.Cause.the-variants.{Taken}
+use Rattle.model.specs.declared.Condition.the-variants.{Idle}
 use Rattle.model.specs.declared.Content.the-variants.{Filled}
 use Rattle.model.specs.declared.Holding.{Holding}
 use Rattle.model.specs.declared.Mode.{Mode}
 use Rattle.model.specs.declared.Outcome.{Outcome}
 use Rattle.model.specs.declared.Slot.{Slot}
 use Rattle.model.specs.declared.State.{State}
-use Rattle.model.specs.Parties.{levelOf}
+use Rattle.model.specs.Parties.{rowOf, levelOf}
 use Rattle.model.specs.State.{freeRow, slotAt, holdingAt, putRow}
 use Rattle.model.specs.Words.{hasPage, dirtyIn, isWrite, pins, slotOf}
 use Rattle.model.specs.Changes.{released, killed, cleared}
@@ -35,7 +36,7 @@ use Rattle.rules.specs.Secrecy.{startsRefused}
 use Rattle.rules.proofs.SoundFacts.{Sound}
 use Rattle.rules.proofs.GrantLaws.{granted-clock}
 use Rattle.rules.proofs.TickLaws.{later, ticked-slot, ticked-holding, ticked-clock}
-use Rattle.rules.proofs.ServeCases.{Serving, waits, waits-g, joins, fills, serving}
+use Rattle.rules.proofs.Serving.{Serving, waits, waits-g, joins, fills, serving}
 use Rattle.rules.proofs.KeptChoice.{chosen-free}
 use Rattle.rules.proofs.CallCases.{Effect, stays, starts, begins, unpins, ends, ticks, serves}
 use Rattle.rules.proofs.GrantBooks.{granted-booked, unpinned-booked}
@@ -133,7 +134,7 @@ module _ (s : State) (z : Sound s) (page slot : ℕ) (b : slot < 64) where
   unfolding unpinnedAt released
   writes c n o (stays a x e) = rw e (stay (s .clock) refl (booked-same (s .clock) page s s slot refl (λ _ _. refl)))
   writes c n o (starts slots delay x e) = true-false (sym n ∙ x)
-  writes c n o (begins row x r e) = rw e (stay (s .clock) refl (booked-same (s .clock) page s (putRow s row x) slot refl (λ _ _. refl)))
+  writes c n o (begins level number deadline q r e) = rw e (stay (s .clock) refl (booked-same (s .clock) page s (putRow s (rowOf level number) (record { condition = Idle; deadline = deadline })) slot refl (λ _ _. refl)))
   writes c n o (unpins row i r x e) = rw e (stay (s .clock) refl (unpinned-booked s (z .sized) row i r x page slot))
   writes c n o (ends row r e) = rw e (stay (s .clock) refl (ended-booked row))
   writes c n o (ticks e) = rw e (stay (s .clock + 1) (ticked-clock s (z .sized)) ticked-booked)

@@ -39,7 +39,6 @@ use Rattle.model.specs.declared.Mode.{Mode}
 use Rattle.model.specs.declared.Pin.{Pin}
 use Rattle.model.specs.declared.Pin.the-variants as Pin
 use Rattle.model.specs.declared.Outcome.{Outcome}
-use Rattle.model.specs.declared.Row.{Row}
 use Rattle.model.specs.declared.State.{State}
 use Rattle.model.specs.Parties.{rowOf, modeOf}
 use Rattle.model.specs.State.{freeRow, fresh, rowAt, slotAt, putRow}
@@ -109,7 +108,8 @@ isServed (Open n) = false
 pub data Effect (s : State) (c : Call) (o : Outcome) : Type 0 where
   stays : (a : Answer) → isServed a ≡ false → o ≡ record { state = s; answer = a } → Effect s c o
   starts : (slots delay : ℕ) → startsRefused (c ∷ []) ≡ false → o ≡ record { state = fresh slots delay; answer = Started } → Effect s c o
-  begins : (row : ℕ) (x : Row) → row < 32 → o ≡ record { state = putRow s row x; answer = Begun } → Effect s c o
+  begins : (level number deadline : ℕ) → c ≡ begin level number deadline → rowOf level number < 32
+      → o ≡ record { state = putRow s (rowOf level number) (record { condition = Idle; deadline = deadline }); answer = Begun } → Effect s c o
   unpins : (row slot : ℕ) → row < 32 → slot < 64 → o ≡ record { state = unpinnedAt s row slot; answer = Unpinned } → Effect s c o
   ends : (row : ℕ) → row < 32 → o ≡ record { state = putRow (released (eqb row) s) row freeRow; answer = Ended } → Effect s c o
   ticks : o ≡ record { state = lateKilled (deliveredRows (advanced s)); answer = Clock (s .clock + 1) } → Effect s c o
@@ -127,17 +127,19 @@ looked-other (Fetching due) = refl
 looked-other (Waiting page mode) = refl
 looked-other (Killed cause) = refl
 
-viewed-other : (s : State) (level : ℕ) (f : Found) → isServed (viewedIn f s level) ≡ false
-viewed-other s level Nowhere = refl
-viewed-other s level (At slot) = go (seen s level slot) (seesDormant s level slot) (strongestPin s level slot)
+-- what holds of every answer to a view
+pub viewed-is : (P : Answer → Type 0) → P PageUnseen → ((n : ℕ) → P (PageActive n)) → ((n : ℕ) → P (PageRead n)) → ((n : ℕ) → P (PageWrite n)) → ((n : ℕ) → P (PageDormant n))
+    → (s : State) (level : ℕ) (f : Found) → P (viewedIn f s level)
+viewed-is P unseen active read write asleep s level Nowhere = unseen
+viewed-is P unseen active read write asleep s level (At slot) = go (seen s level slot) (seesDormant s level slot) (strongestPin s level slot)
   where
-    go : (a b : Bool) (p : Pin) → isServed (cond a (viewedPin p (leastArrival s level slot)) (cond b (PageDormant (arrivalIn (slotAt s slot .content))) PageUnseen)) ≡ false
-    go true b Pin.Absent = refl
-    go true b Pin.Unpinned = refl
-    go true b Pin.Read = refl
-    go true b Pin.Write = refl
-    go false true p = refl
-    go false false p = refl
+    go : (a b : Bool) (p : Pin) → P (cond a (viewedPin p (leastArrival s level slot)) (cond b (PageDormant (arrivalIn (slotAt s slot .content))) PageUnseen))
+    go true b Pin.Absent = unseen
+    go true b Pin.Unpinned = active (leastArrival s level slot)
+    go true b Pin.Read = read (leastArrival s level slot)
+    go true b Pin.Write = write (leastArrival s level slot)
+    go false true p = asleep (arrivalIn (slotAt s slot .content))
+    go false false p = unseen
 
 module _ (s : State) (z : Sound s) where
   unpin-effect : (c : Call) (row page : ℕ) → row < 32 → pinsPage s row page ≡ true → Effect s c (record { state = atFound (slotOf s page) (unpinnedAt s row) s; answer = Unpinned })
@@ -162,7 +164,7 @@ module _ (s : State) (z : Sound s) where
   effect (start slots delay) = by-refusal s (start slots delay) (startRefusal slots delay) _ (λ e. starts slots delay (rw e) refl)
   effect (begin level number deadline) = by-refusal s (begin level number deadline) (beginRefusal s level number deadline) _ (λ e.
       let n = begin-taken s level number deadline e .names in
-      begins (rowOf level number) (record { condition = Idle; deadline = deadline }) (n .row-is) refl)
+      begins level number deadline refl (n .row-is) refl)
   effect (request level number page mode) = by-refusal s (request level number page mode) (requestRefusal s level number page mode) _ (λ e.
       let n = request-taken s level number page mode e .names in
       serves (rowOf level number) page (modeOf mode) (n .row-is)
@@ -178,5 +180,5 @@ module _ (s : State) (z : Sound s) where
       ends (rowOf level number) (n .row-is) refl)
   effect tick = by-refusal s tick (tickRefusal s) _ (λ e. ticks refl)
   effect (look level number) = by-refusal s (look level number) (lookRefusal level number) _ (λ e. stays (looked (rowAt s (rowOf level number) .condition)) (looked-other (rowAt s (rowOf level number) .condition)) refl)
-  effect (view level page) = by-refusal s (view level page) (viewRefusal level page) _ (λ e. stays (viewedIn (slotOf s page) s level) (viewed-other s level (slotOf s page)) refl)
+  effect (view level page) = by-refusal s (view level page) (viewRefusal level page) _ (λ e. stays (viewedIn (slotOf s page) s level) (viewed-is (λ a. isServed a ≡ false) refl (λ _. refl) (λ _. refl) (λ _. refl) (λ _. refl) s level (slotOf s page)) refl)
   effect (count level) = by-refusal s (count level) (countRefusal level) _ (λ e. stays (Open _) refl refl)

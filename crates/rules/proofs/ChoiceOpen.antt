@@ -1,6 +1,6 @@
 -- Where a slot is open to a clearance at or above the requester's level, the chosen slot is one that is open to it.
 use mathlib.Core.Path.{_≡_, refl, sym, _∙_}
-use mathlib.Core.Bool.{Bool, true, false, _&&_, not}
+use mathlib.Core.Bool.{Bool, true, false, not}
 use Prim.Native.Nat.{ℕ, _<_, _≤_}
 use native.Mathlib.Omega.{arith}
 use native.Mathlib.Decide.{decLt}
@@ -16,15 +16,10 @@ use Rattle.model.specs.declared.State.{State}
 use Rattle.model.specs.Parties.{levelOf}
 use Rattle.model.specs.Words.{holds, seen}
 use Rattle.model.proofs.SeenLaws.{not-seen, none-seen, seen-lower, dormant-unheld}
-use Rattle.rules.specs.Choice.{orElse, stepA, stepB, holderLevel, heldAbove, highestLevel, pinnedAt, inC, inD, inE, inF, stepHeld, chosen}
+use Rattle.rules.specs.Choice.{stepA, stepB, holderLevel, heldAbove, highestLevel, inC, inD, stepHeld, chosen}
 use Rattle.rules.proofs.SoundFacts.{Sound, empty-unheld}
-use Rattle.rules.proofs.ChoiceSteps.{step-a, no-step-a, step-b, no-step-b, step-held, c-or-d}
+use Rattle.rules.proofs.ChoiceSteps.{Finds, finds, or-finds, neither, step-a, no-step-a, step-b, no-step-b, step-held, c-or-d}
 use Rattle.rules.proofs.ChoiceRank.{best-is, best-some, best-level, holder-level}
-
--- what one search or else another found has a property, if what the first found has, and the second where the first found nothing
-or-found : (P : ℕ → Type 0) (f g : Found) → ((i : ℕ) → f ≡ At i → P i) → (f ≡ Nowhere → (i : ℕ) × (g ≡ At i) × P i) → (i : ℕ) × (orElse f g ≡ At i) × P i
-or-found P Nowhere g a b = b refl
-or-found P (At i) g a b = (i, refl, a i refl)
 
 module _ (s : State) (z : Sound s) (L me : ℕ) (low : levelOf me ≤ L) where
   OpenSlot : ℕ → Type 0
@@ -82,26 +77,35 @@ module _ (s : State) (z : Sound s) (L me : ℕ) (low : levelOf me ≤ L) where
     high = let m = most-bound (s .size) (heldAbove s me) (holderLevel s) x b above in omega (arith, above-level)
 
     -- what passes c or d has its best holder at the highest level
-    top-open : (i : ℕ) (rest : Bool) → heldAbove s me i && eqb (holderLevel s i) (highestLevel s me) && rest ≡ true → L < holderLevel s i
-    top-open i rest e =
-        let q : eqb (holderLevel s i) (highestLevel s me) ≡ true = search parts depth 20 in
-        omega (arith, eqb-true (holderLevel s i) (highestLevel s me) q, high)
+    top-open : (i : ℕ) → eqb (holderLevel s i) (highestLevel s me) ≡ true → L < holderLevel s i
+    top-open i q = omega (arith, eqb-true (holderLevel s i) (highestLevel s me) q, high)
 
     c-open : (i : ℕ) → inC s me i ≡ true → L < holderLevel s i
     unfolding inC
-    c-open i = top-open i (not (pinnedAt s (highestLevel s me) i))
+    c-open i e = top-open i (search parts depth 20)
 
     d-open : (i : ℕ) → inD s me i ≡ true → L < holderLevel s i
     unfolding inD
-    d-open i = top-open i (pinnedAt s (highestLevel s me) i)
+    d-open i e = top-open i (search parts depth 20)
+
+  -- what is chosen is open to the clearance: c or d finds a slot, so that e and f are not reached
+  open-found : (x : ℕ) → x < s .size → seen s L x ≡ false → Finds OpenSlot (chosen s me)
+  unfolding chosen
+  open-found x b o =
+      or-finds OpenSlot (stepA s) _ (finds OpenSlot (stepA s) a-open) λ ea.
+      or-finds OpenSlot (stepB s) _ (finds OpenSlot (stepB s) b-open) λ eb.
+      let h = no-step-b s x eb b (no-step-a s x ea b) in
+      let c = finds OpenSlot (stepHeld s (inC s me)) (λ i e. held-open (inC s me) i e (c-open x b o h i)) in
+      let d = finds OpenSlot (stepHeld s (inD s me)) (λ i e. held-open (inD s me) i e (d-open x b o h i)) in
+      let past : (f : Found) → stepHeld s (inC s me) ≡ Nowhere → stepHeld s (inD s me) ≡ Nowhere → Finds OpenSlot f = λ f ec ed. absurd (c-or-d s me x b (above x b o h) ec ed) in
+      search (or-finds, past) depth 20
 
   pub chosen-open : (x : ℕ) → x < s .size → seen s L x ≡ false → (i : ℕ) × (chosen s me ≡ At i) × ((i < s .size) × (seen s L i ≡ false))
   unfolding chosen OpenSlot
-  chosen-open x b o =
-      or-found OpenSlot (stepA s) (orElse (stepB s) (orElse (stepHeld s (inC s me)) (orElse (stepHeld s (inD s me)) (orElse (stepHeld s (inE s me)) (stepHeld s (inF s me)))))) a-open
-      (λ ea. or-found OpenSlot (stepB s) (orElse (stepHeld s (inC s me)) (orElse (stepHeld s (inD s me)) (orElse (stepHeld s (inE s me)) (stepHeld s (inF s me))))) b-open
-      (λ eb.
-      let h = no-step-b s x eb b (no-step-a s x ea b) in
-      or-found OpenSlot (stepHeld s (inC s me)) (orElse (stepHeld s (inD s me)) (orElse (stepHeld s (inE s me)) (stepHeld s (inF s me)))) (λ i e. held-open (inC s me) i e (c-open x b o h i))
-      (λ ec. or-found OpenSlot (stepHeld s (inD s me)) (orElse (stepHeld s (inE s me)) (stepHeld s (inF s me))) (λ i e. held-open (inD s me) i e (d-open x b o h i))
-      (λ ed. absurd (c-or-d s me x b (above x b o h) ec ed)))))
+  chosen-open x b o = go (chosen s me) refl (open-found x b o)
+    where
+      go : (f : Found) → chosen s me ≡ f → Finds OpenSlot f → (i : ℕ) × (chosen s me ≡ At i) × ((i < s .size) × (seen s L i ≡ false))
+      go (At i) e k = (i, e, k)
+      go Nowhere e k =
+          let h = no-step-b s x (search neither depth 20) b (no-step-a s x (search neither depth 20) b) in
+          absurd (c-or-d s me x b (above x b o h) (search neither depth 20) (search neither depth 20))

@@ -14,10 +14,9 @@ use Rattle.seq.proofs.BelowLaws.{any-hit}
 use Rattle.seq.proofs.OrderLaws.{lex-strict, lex-trans, lex-total, ltb-strict, ltb-trans, ltb-total}
 use Rattle.seq.proofs.PairLaws.{Ordered}
 use Rattle.model.specs.declared.State.{State}
-use Rattle.model.specs.State.{slotAt}
-use Rattle.model.specs.Words.{pageIn, holds, outranks, bestHolder, latestTouch}
+use Rattle.model.specs.Words.{holds, outranks, bestHolder}
 use Rattle.model.proofs.PriorityLaws.{outranks-strict, outranks-trans, outranks-total}
-use Rattle.rules.specs.Choice.{holderLevel, worse, beforeHeld}
+use Rattle.rules.specs.Choice.{worse, touchOf, tieOf, beforeHeld}
 use Rattle.rules.proofs.SoundFacts.{Sound}
 use Rattle.rules.proofs.ChoiceRank.{best-some}
 
@@ -51,22 +50,16 @@ module _ (s : State) where
   ]
 
   -- touch, then page
-  abbrev pub touchOf : ℕ → ℕ
-  touchOf i = latestTouch s (holderLevel s i) i
-
-  abbrev pub pageAt : ℕ → ℕ
-  pageAt i = pageIn (slotAt s i .content)
-
   abbrev pub nextBefore : ℕ → ℕ → Bool
-  nextBefore i k = lexLess (touchOf i) (touchOf k) (ltb (pageAt i) (pageAt k))
+  nextBefore i k = lexLess (touchOf s i) (touchOf s k) (ltb (tieOf s i) (tieOf s k))
 
   next-trans : (i k l : ℕ) → nextBefore i k ≡ true → nextBefore k l ≡ true → nextBefore i l ≡ true
-  next-trans i k l = lex-trans (touchOf i) (touchOf k) (touchOf l) (ltb (pageAt i) (pageAt k)) (ltb (pageAt k) (pageAt l)) (ltb (pageAt i) (pageAt l)) (ltb-trans (pageAt i) (pageAt k) (pageAt l))
+  next-trans i k l = lex-trans (touchOf s i) (touchOf s k) (touchOf s l) (ltb (tieOf s i) (tieOf s k)) (ltb (tieOf s k) (tieOf s l)) (ltb (tieOf s i) (tieOf s l)) (ltb-trans (tieOf s i) (tieOf s k) (tieOf s l))
 
-  next-total : (i k : ℕ) → nextBefore i k ≡ false → nextBefore k i ≡ false → pageAt i ≡ pageAt k
+  next-total : (i k : ℕ) → nextBefore i k ≡ false → nextBefore k i ≡ false → tieOf s i ≡ tieOf s k
   next-total i k p q =
-      let x = lex-total (touchOf i) (touchOf k) (ltb (pageAt i) (pageAt k)) (ltb (pageAt k) (pageAt i)) p q in
-      ltb-total (pageAt i) (pageAt k) (x .1) (x .2)
+      let x = lex-total (touchOf s i) (touchOf s k) (ltb (tieOf s i) (tieOf s k)) (ltb (tieOf s k) (tieOf s i)) p q in
+      ltb-total (tieOf s i) (tieOf s k) (x .1) (x .2)
 
   -- the order of two slots by their best holders
   pub before-held : (i k a b : ℕ) → bestHolder s i ≡ At a → bestHolder s k ≡ At b → beforeHeld s i k ≡ worse s (At a) (At b) (nextBefore i k)
@@ -80,7 +73,7 @@ module _ (s : State) where
   held-strict i h =
       let a = best-of i h in
       before-held i i (a .0) (a .0) (a .1) (a .1) ∙ worse-next (a .0) (a .0) (nextBefore i i) refl
-      ∙ lex-strict (touchOf i) (ltb (pageAt i) (pageAt i)) (ltb-strict (pageAt i))
+      ∙ lex-strict (touchOf s i) (ltb (tieOf s i) (tieOf s i)) (ltb-strict (tieOf s i))
 
   held-trans : (i k l : ℕ) → anyBelow 32 (holds s i) ≡ true → anyBelow 32 (holds s k) ≡ true → anyBelow 32 (holds s l) ≡ true
       → beforeHeld s i k ≡ true → beforeHeld s k l ≡ true → beforeHeld s i l ≡ true
@@ -92,7 +85,7 @@ module _ (s : State) where
       ∙ worse-trans (a .0) (b .0) (c .0) (nextBefore i k) (nextBefore k l) (nextBefore i l) (next-trans i k l)
       (sym (before-held i k (a .0) (b .0) (a .1) (b .1)) ∙ p) (sym (before-held k l (b .0) (c .0) (b .1) (c .1)) ∙ q)
 
-  held-total : (i k : ℕ) → anyBelow 32 (holds s i) ≡ true → anyBelow 32 (holds s k) ≡ true → beforeHeld s i k ≡ false → beforeHeld s k i ≡ false → pageAt i ≡ pageAt k
+  held-total : (i k : ℕ) → anyBelow 32 (holds s i) ≡ true → anyBelow 32 (holds s k) ≡ true → beforeHeld s i k ≡ false → beforeHeld s k i ≡ false → tieOf s i ≡ tieOf s k
   held-total i k h g p q =
       let a = best-of i h in
       let b = best-of k g in
@@ -109,5 +102,6 @@ held-order s z p f = record {
       let y = any-hit (holds s k) 32 (f k g) in
       let n : i < 64 = omega (arith, z .size-most) in
       let m : k < 64 = omega (arith, z .size-most) in
-      ne (sym (z .one-slot i k n m (z .held i (x .0) n (x .1) (x .2) .filled) (z .held k (y .0) m (y .1) (y .2) .filled) (held-total s i k (f i e) (f k g) w q))));
+      let tie = held-total s i k (f i e) (f k g) w q in
+      ne (sym (z .one-slot i k n m (z .held i (x .0) n (x .1) (x .2) .filled) (z .held k (y .0) m (y .1) (y .2) .filled) (cc tie))));
 }

@@ -18,12 +18,12 @@ use Rattle.model.specs.State.{holdingAt}
 use Rattle.model.specs.Words.{isHeld, isPin, holds, pins, seenHolder, seen, outranks, bestHolder, latestTouch}
 use Rattle.model.proofs.PriorityLaws.{outranks-level}
 use Rattle.model.proofs.SeenLaws.{seen-by, seen-held}
-use Rattle.rules.specs.Choice.{holderLevel, heldAbove, pinnedAt, heldAtOwnLevel, seenPin, worse, beforeHeld}
+use Rattle.rules.specs.Choice.{holderLevel, heldAbove, pinnedAt, heldAtOwnLevel, seenPin, worse, touchOf, tieOf, beforeHeld}
 use Rattle.rules.proofs.Alike.{Alike}
 use Rattle.rules.proofs.SamePages.{same-rank, same-holder, same-seen}
 use Rattle.rules.proofs.SameSlots.{SamePage}
 use Rattle.rules.proofs.ChoiceRank.{Best, best-is, is-best, best-some, best-level, holder-level}
-use Rattle.rules.proofs.ChoiceOrder.{touchOf, nextBefore, before-held}
+use Rattle.rules.proofs.ChoiceOrder.{nextBefore, before-held}
 
 module _ (L : ℕ) (s t : State) (a : Alike L s t) where
   module _ (i j : ℕ) (w : SamePage L s t i j) where
@@ -96,14 +96,19 @@ module _ (L : ℕ) (s t : State) (a : Alike L s t) where
           let q = seen-held t L j (sym (same-seen L s t a i j (w .holding) L (omega arith)) ∙ v) in
           rw (p, q, same-seen L s t a i j (w .holding) (levelOf me) l)
 
+      -- what orders slots with one best holder
+      page-touch-of : touchOf s i ≡ touchOf t j
+      page-touch-of = page-touch (holderLevel s i) (page-level .1) ∙ ap (λ (m : ℕ). latestTouch t m j) (page-level .0)
+
+    page-tie : tieOf s i ≡ tieOf t j
+    page-tie = w .page
+
   -- the order of two slots
   pub page-before : (i j k l : ℕ) → SamePage L s t i j → SamePage L s t k l → seen s L i ≡ true → seen s L k ≡ true → beforeHeld s i k ≡ beforeHeld t j l
   page-before i j k l w x v u =
       let b = page-best i j w v in
       let c = page-best k l x u in
-      let p : touchOf s i ≡ touchOf t j = page-touch i j w (holderLevel s i) (page-level i j w v .1) ∙ ap (λ (m : ℕ). latestTouch t m j) (page-level i j w v .0) in
-      let q : touchOf s k ≡ touchOf t l = page-touch k l x (holderLevel s k) (page-level k l x u .1) ∙ ap (λ (m : ℕ). latestTouch t m l) (page-level k l x u .0) in
-      let n : nextBefore s i k ≡ nextBefore t j l = rw (p, q, w .page, x .page) in
+      let n : nextBefore s i k ≡ nextBefore t j l = cc (page-touch-of i j w v, page-touch-of k l x u, page-tie i j w, page-tie k l x) in
       before-held s i k (b .0) (c .0) (b .1) (c .1)
       ∙ ap (λ (y : Bool). worse s (At (b .0)) (At (c .0)) y) n
       ∙ ap (λ (y : Bool). cond (eqb (b .0) (c .0)) (nextBefore t j l) y) (same-rank L s t a (c .0) (b .0) (c .3) (b .3) (c .4) (b .4))

@@ -119,15 +119,9 @@ module _ (L : ℕ) (s t : State) (z : Sound s) (y : Sound t) (a : Alike L s t) (
 
   pub chosen-paired : Paired (SamePage L s t) (chosen s me) (chosen t me)
   unfolding chosen
-  chosen-paired = rw (no-a L s z all, no-b L s z all, no-a L t y all′, no-b L t y all′)
-      (or-paired (SamePage L s t) (stepHeld s (inC s me)) (stepHeld t (inC t me))
-      (orElse (stepHeld s (inD s me)) (orElse (stepHeld s (inE s me)) (stepHeld s (inF s me))))
-      (orElse (stepHeld t (inD t me)) (orElse (stepHeld t (inE t me)) (stepHeld t (inF t me))))
-      (held-paired (inC s me) (inC t me) c-same (c-held s me) (c-held t me))
-      (or-paired (SamePage L s t) (stepHeld s (inD s me)) (stepHeld t (inD t me))
-      (orElse (stepHeld s (inE s me)) (stepHeld s (inF s me)))
-      (orElse (stepHeld t (inE t me)) (stepHeld t (inF t me)))
-      (held-paired (inD s me) (inD t me) d-same (d-held s me) (d-held t me))
-      (or-paired (SamePage L s t) (stepHeld s (inE s me)) (stepHeld t (inE t me)) (stepHeld s (inF s me)) (stepHeld t (inF t me))
-      (held-paired (inE s me) (inE t me) e-same (e-held s me) (e-held t me))
-      (held-paired (inF s me) (inF t me) f-same (f-held s me) (f-held t me)))))
+  chosen-paired =
+      let c = held-paired (inC s me) (inC t me) c-same (c-held s me) (c-held t me) in
+      let d = held-paired (inD s me) (inD t me) d-same (d-held s me) (d-held t me) in
+      let e = held-paired (inE s me) (inE t me) e-same (e-held s me) (e-held t me) in
+      let f = held-paired (inF s me) (inF t me) f-same (f-held s me) (f-held t me) in
+      rw (no-a L s z all, no-b L s z all, no-a L t y all′, no-b L t y all′) (search or-paired)

@@ -28,7 +28,7 @@ use Rattle.rules.specs.Run.{Call}
 use Rattle.rules.proofs.SoundFacts.{Sound}
 use Rattle.rules.proofs.GrantLaws.{granted-row}
 use Rattle.rules.proofs.TickLaws.{later, ticked-row, ticked-holding}
-use Rattle.rules.proofs.ServeCases.{Serving, waits, waits-g, joins, fills, serving}
+use Rattle.rules.proofs.Serving.{Serving, waits, waits-g, joins, fills, serving}
 use Rattle.rules.proofs.KeptChoice.{chosen-free}
 use Rattle.rules.proofs.CallCases.{Asks, Effect, stays, starts, begins, unpins, ends, ticks, serves}
 use Rattle.rules.proofs.GrantBooks.{granted-holds, granted-booked, unpinned-holds}
@@ -142,7 +142,7 @@ module _ (s : State) (z : Sound s) (slot q : ℕ) (b : slot < 64) (m : q < 32) (
     pub drop : (o : Outcome) → Effect s c o → holds (o .state) slot q ≡ false → Lost s c (o .state) slot q
     drop o (stays a x e) h = true-false (sym before ∙ (rw e at h))
     drop o (starts slots delay x e) h = inl (rw (e, fresh-row slots delay q))
-    drop o (begins row x r e) h = true-false (sym before ∙ (rw e at h))
+    drop o (begins level number deadline k r e) h = true-false (sym before ∙ (rw e at h))
     drop o (unpins row i r x e) h = true-false (sym (unpinned-holds s (z .sized) row i r x slot q m before) ∙ (rw e at h))
     drop o (ends row r e) h = inl (rw e (ended-drop row r (rw e at h)))
     drop o (ticks e) h = inl (rw e (ticked-drop (rw e at h)))

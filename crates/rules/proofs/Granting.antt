@@ -30,7 +30,7 @@ use Rattle.rules.proofs.SoundFacts.{Sound}
 use Rattle.rules.proofs.PageLaws.{found-has, killed-page}
 use Rattle.rules.proofs.GrantLaws.{grantedRow, grantedHolding, granted-row, granted-holding}
 use Rattle.rules.proofs.FillLaws.{sized-filled, filled-clock, filled-has, freed}
-use Rattle.rules.proofs.ServeCases.{Serving, waits, waits-g, joins, fills}
+use Rattle.rules.proofs.Serving.{Serving, waits, waits-g, joins, fills}
 use Rattle.rules.proofs.KeptChoice.{chosen-free}
 use Rattle.rules.proofs.GrantBooks.{granted-booked}
 
@@ -95,6 +95,9 @@ granted-answer {P} u row slot mode arrival back a e f g = go (leb arrival (u .cl
     go : (b : Bool) → leb arrival (u .clock) ≡ b → cond b (Ready slot back) (Fetch arrival slot back) ≡ a → P
     go true q k = f q (sym k)
     go false q k = g q (sym k)
+
+pub never-waits : {P : Type 0} (u : State) (row slot : ℕ) (mode : Mode) (arrival : ℕ) (back : Back) → granted u row slot mode arrival back .answer ≡ Wait → P
+never-waits u row slot mode arrival back e = granted-answer u row slot mode arrival back Wait e (λ q k. true-false (cc)) (λ q k. true-false (cc))
 
 -- the pin asked for, or the stronger one that the row has
 stronger-least : (p q : Pin) → strength q ≤ strength (stronger p q)

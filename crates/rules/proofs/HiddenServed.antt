@@ -24,7 +24,7 @@ use Rattle.model.proofs.PinLaws.{not-pinned}
 use Rattle.model.proofs.PriorityLaws.{outranks-level}
 use Rattle.model.proofs.SeenLaws.{not-seen}
 use Rattle.rules.specs.Choice.{chosen}
-use Rattle.rules.specs.Calls.{waiting, granted, conflicts, mustWait, pinnersKilled, writeBack, filled, served}
+use Rattle.rules.specs.Calls.{waiting, granted, conflicts, mustWait, pinnersKilled, writeBack, step2, step3, filled, served}
 use Rattle.rules.proofs.SoundFacts.{Sound}
 use Rattle.rules.proofs.Alike.{Alike}
 use Rattle.rules.proofs.AlikeLaws.{alike-trans}
@@ -70,6 +70,7 @@ module _ (L : ℕ) (s : State) (z : Sound s) (me : ℕ) (mine : me < 32) (higher
       (granted-hidden L (filled k slot page (levelOf me)) (sized-filled k (f .sized) (f .most) slot page (levelOf me) (f .there)) me mine higher slot b mode (s .clock + s .delay) (writeBack (slotAt k slot))))
 
   pub served-hidden : (page : ℕ) (mode : Mode) → Alike L s (served s me page mode .state)
+  unfolding step2 step3
   served-hidden page mode = go (served s me page mode) (step s me page mode)
     where
       in-range : (slot : ℕ) → slotOf s page ≡ At slot → slot < 64

@@ -3,7 +3,6 @@ use mathlib.Core.Path.{_≡_, refl, sym, _∙_, ap, subst}
 use mathlib.Core.Bool.{Bool, true, false, cond}
 use Prim.Native.Nat.{ℕ, _<_, _≤_}
 use native.Mathlib.Omega.{arith}
-use borrow.Author.Tests.{ne-eqb}
 use Rattle.seq.specs.declared.Found.{Found}
 use Rattle.seq.specs.declared.Found.the-variants.{At, Nowhere}
 use Rattle.model.specs.declared.Mode.{Mode}
@@ -12,15 +11,16 @@ use Rattle.model.specs.declared.Holding.{Holding}
 use Rattle.model.specs.declared.State.{State}
 use Rattle.model.specs.Parties.{levelOf}
 use Rattle.model.specs.State.{emptyHolding, rowAt, slotAt, holdingAt}
-use Rattle.model.specs.Words.{hasPage, isHeld, pins, seen, seesDormant, slotOf}
+use Rattle.model.specs.Words.{hasPage, isHeld, pins, seen, slotOf}
 use Rattle.model.proofs.ContentLaws.{page-has}
 use Rattle.model.proofs.PinLaws.{not-pinned}
 use Rattle.model.proofs.SeenLaws.{none-seen, not-seen, seen-lower}
 use Rattle.rules.specs.Choice.{chosen}
-use Rattle.rules.specs.Calls.{step3, intoSlot, servedAt, served}
+use Rattle.rules.specs.Calls.{intoSlot, unseenAt, servedAt, served}
 use Rattle.rules.proofs.SoundFacts.{Sound}
 use Rattle.rules.proofs.Alike.{holdingOn}
 use Rattle.rules.proofs.PageLaws.{finds, on-slot}
+use Rattle.rules.proofs.SamePages.{no-hit}
 use Rattle.rules.proofs.ChoiceOpen.{chosen-open}
 use Rattle.rules.proofs.IntoGain.{Gains, gains-as}
 use Rattle.rules.proofs.IntoGrant.{hidden-gains}
@@ -39,11 +39,11 @@ pub served-absent : (s : State) (me page : ℕ) (mode : Mode) → slotOf s page 
 unfolding served
 served-absent s me page mode e = ap (λ (f : Found). servedAt f s me page mode) e
 
-pub served-unseen : (s : State) (me page : ℕ) (mode : Mode) (i : ℕ) → slotOf s page ≡ At i → seen s (levelOf me) i ≡ false → levelOf me ≤ 2 → served s me page mode ≡ step3 s me i mode
-unfolding served seesDormant
+pub served-unseen : (s : State) (me page : ℕ) (mode : Mode) (i : ℕ) → slotOf s page ≡ At i → seen s (levelOf me) i ≡ false → levelOf me ≤ 2 → served s me page mode ≡ unseenAt (At i) s me page mode
+unfolding served
 served-unseen s me page mode i e h l =
     ap (λ (f : Found). servedAt f s me page mode) e
-    ∙ rw (h, ne-eqb (levelOf me) 3 (λ q. omega arith))
+    ∙ rw (h, no-hit s me i l)
 
 module _ (L : ℕ) (s : State) (z : Sound s) (me page : ℕ) (mode : Mode) (most : L ≤ 2) (r : me < 32) (low : levelOf me ≤ L) (nobody : Nobody L s page) where
   -- taking a slot that is open to L takes nothing from the rows up to L
@@ -82,5 +82,5 @@ module _ (L : ℕ) (s : State) (z : Sound s) (me page : ℕ) (mode : Mode) (most
           (open-into (k .0) (k .2 .0) (k .2 .1) e)
       go (At i) e =
           let h = nobody-seen L s page i nobody e in
-          by (step3 s me i mode) (served-unseen s me page mode i e (seen-lower s L (levelOf me) i low h) (omega arith))
+          by (unseenAt (At i) s me page mode) (served-unseen s me page mode i e (seen-lower s L (levelOf me) i low h) (omega arith))
           (hidden-gains L s z me i page r low e h mode)

@@ -4,9 +4,8 @@ use mathlib.Core.Bool.{Bool, true, false, cond}
 use Prim.Native.Nat.{ℕ, _+_, _<_, _≤_}
 use native.Mathlib.Omega.{arith}
 use borrow.Author.Tests.{le-leb}
-use lib.Dec.{eqb}
 use Rattle.seq.specs.declared.Found.the-variants.{At, Nowhere}
-use Rattle.seq.proofs.Tests.{true-false, and-true, both-true}
+use Rattle.seq.proofs.Tests.{true-false, both-true, parts}
 use Rattle.model.specs.declared.Back.the-variants.{Nothing}
 use Rattle.model.specs.declared.Cause.the-variants.{Taken}
 use Rattle.model.specs.declared.Mode.{Mode}
@@ -14,14 +13,14 @@ use Rattle.model.specs.declared.Outcome.{Outcome}
 use Rattle.model.specs.declared.State.{State}
 use Rattle.model.specs.Parties.{levelOf, mayAccess}
 use Rattle.model.specs.State.{emptyHolding, slotAt, holdingAt}
-use Rattle.model.specs.Words.{isFilled, pageIn, arrivalIn, isPin, pinOf, pins, seenHolder, seen, dormant, seesDormant, leastArrival, slotOf}
+use Rattle.model.specs.Words.{isFilled, pageIn, arrivalIn, isPin, pinOf, pins, seenHolder, seen, seesDormant, leastArrival, slotOf}
 use Rattle.model.specs.Changes.{released, killed, cleared}
 use Rattle.model.proofs.ChangeLaws.{wroteSlot, killed-slot, killed-holding}
 use Rattle.model.proofs.ContentLaws.{has-page}
 use Rattle.model.proofs.PinLaws.{no-pin, not-pinned}
 use Rattle.model.proofs.SeenLaws.{dormant-unheld, not-seen}
 use Rattle.model.proofs.ArrivalLaws.{least-is, least-first}
-use Rattle.rules.specs.Calls.{waiting, granted, conflicts, pinnersKilled, writeBack, filled, served}
+use Rattle.rules.specs.Calls.{waiting, granted, conflicts, step2, step3, pinnersKilled, writeBack, filled, unseenAt, hitsDormant, served}
 use Rattle.rules.specs.Choice.{chosen}
 use Rattle.rules.proofs.SoundFacts.{Sound}
 use Rattle.rules.proofs.PageLaws.{found-slot, not-found}
@@ -51,10 +50,10 @@ module _ (s : State) (row page : ℕ) (mode : Mode) (h : Sound s) (a : Asking s 
         (omega (arith, x .3, y .after)) (omega (arith, x .3, y .arrival))
         (λ w. omega (arith, a .settled .arrived slot b w, least-first s (levelOf row) slot row (a .row-is) (both-true (le-leb (levelOf row) (levelOf row) (omega arith)) w)))
 
-    sound-2 : seesDormant s (levelOf row) slot ≡ true → Sound (granted s row slot mode (arrivalIn (slotAt s slot .content)) Nothing .state)
-    unfolding seesDormant
+    sound-2 : hitsDormant s row slot ≡ true → Sound (step2 s row slot mode .state)
+    unfolding seesDormant step2
     sound-2 v =
-        let d = dormant-unheld s slot (and-true (eqb (levelOf row) 3) (dormant s slot) v .1) in
+        let d = dormant-unheld s slot (search parts depth 20) in
         granted-sound s row slot mode (arrivalIn (slotAt s slot .content)) h
         (record {
           asking = a;
@@ -68,7 +67,8 @@ module _ (s : State) (row page : ℕ) (mode : Mode) (h : Sound s) (a : Asking s 
         })
         Nothing
 
-    sound-3 : seen s (levelOf row) slot ≡ false → Sound (granted (killed (conflicts s row slot mode) Taken s) row slot mode (s .clock + s .delay) Nothing .state)
+    sound-3 : seen s (levelOf row) slot ≡ false → Sound (unseenAt (At slot) s row page mode .state)
+    unfolding step3
     sound-3 v =
         killed-granted s row mode h a slot (s .clock + s .delay) b f (rw e m) (h .slot slot b .arrival f) (omega arith)
         (λ w. true-false (sym w ∙ not-seen s (levelOf row) slot row v (a .row-is) (omega arith)))

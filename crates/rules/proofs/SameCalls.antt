@@ -7,7 +7,7 @@ use lib.Dec.{eqb}
 use Rattle.seq.specs.Below.{countBelow}
 use Rattle.seq.specs.declared.Found.{Found}
 use Rattle.seq.specs.declared.Found.the-variants.{At, Nowhere}
-use Rattle.model.specs.declared.Answer.the-variants.{Begun, Ended, Clock, Open}
+use Rattle.model.specs.declared.Answer.the-variants.{Begun, Ended, Clock}
 use Rattle.model.specs.declared.Cause.the-variants.{Late}
 use Rattle.model.specs.declared.Condition.the-variants.{Idle}
 use Rattle.model.specs.declared.Holding.{Holding}
@@ -140,8 +140,4 @@ module _ (L : ℕ) (s t : State) (y : Sound s) (z : Sound t) (alike : Alike L s 
 
     pub same-counted : countBelow (s .size) (isOpen s level) ≡ countBelow (t .size) (isOpen t level) → Same L (counted s level) (counted t level)
     unfolding counted
-    same-counted n =
-        same-unless L s t (countRefusal level) (countRefusal level)
-        (record { state = s; answer = Open (countBelow (s .size) (isOpen s level)) })
-        (record { state = t; answer = Open (countBelow (t .size) (isOpen t level)) })
-        alike refl (λ e. (rw n, alike))
+    same-counted n = same-unless L s t (countRefusal level) (countRefusal level) _ _ alike refl (λ e. (cc, alike))

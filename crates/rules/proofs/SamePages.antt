@@ -15,9 +15,14 @@ use Rattle.model.specs.declared.State.{State}
 use Rattle.model.specs.Parties.{levelOf}
 use Rattle.model.specs.State.{holdingAt}
 use Rattle.model.specs.Words.{holds, strength, seenHolder, seen, outranks, strongestPin, leastArrival, slotOf}
-use Rattle.rules.specs.Calls.{conflicts, mustWait}
+use Rattle.model.proofs.SeenLaws.{no-dormant}
+use Rattle.rules.specs.Calls.{conflicts, mustWait, hitsDormant}
 use Rattle.rules.proofs.Alike.{Alike}
 use Rattle.rules.proofs.PageLaws.{on-slot}
+
+-- a row up to level 2 hits no dormant page
+pub no-hit : (s : State) (me slot : ℕ) → levelOf me ≤ 2 → hitsDormant s me slot ≡ false
+no-hit s me slot l = no-dormant s (levelOf me) slot l
 
 module _ (L : ℕ) (s t : State) (alike : Alike L s t) where
   pub same-rank : (r q : ℕ) → r < 32 → q < 32 → levelOf r ≤ L → levelOf q ≤ L → outranks s r q ≡ outranks t r q

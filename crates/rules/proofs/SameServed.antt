@@ -13,12 +13,11 @@ use Rattle.model.specs.State.{holdingAt}
 use Rattle.model.specs.Words.{isHeld, seen, leastArrival, slotOf}
 use Rattle.model.specs.Changes.{killed}
 use Rattle.model.proofs.ChangeLaws.{sized-killed}
-use Rattle.model.proofs.SeenLaws.{no-dormant}
-use Rattle.rules.specs.Calls.{conflicts, mustWait, waiting, granted, step1, step3, servedAt, served}
+use Rattle.rules.specs.Calls.{conflicts, mustWait, waiting, granted, step1, step3, unseenAt, servedAt, served}
 use Rattle.rules.proofs.SoundFacts.{Sound}
 use Rattle.rules.proofs.Alike.{holdingOn, Alike, Same}
 use Rattle.rules.proofs.PageLaws.{found-slot, killed-slot-of, on-held}
-use Rattle.rules.proofs.SamePages.{same-conflicts, same-seen, same-least, same-must-wait, same-holding}
+use Rattle.rules.proofs.SamePages.{no-hit, same-conflicts, same-seen, same-least, same-must-wait, same-holding}
 use Rattle.rules.proofs.SameChanges.{same-waiting, same-granted, same-killed}
 
 module _ (L : ℕ) (s t : State) (y : Sound s) (z : Sound t) (alike : Alike L s t) (me page : ℕ) (mode : Mode) (h : me < 32) (l : levelOf me ≤ L) where
@@ -49,16 +48,16 @@ module _ (L : ℕ) (s t : State) (y : Sound s) (z : Sound t) (alike : Alike L s 
         go true = same-waiting L s t (y .sized) (z .sized) alike me page mode h l
         go false = same-taken (leastArrival s (levelOf me) i) (leastArrival t (levelOf me) j) (same-least L s t alike i j same (levelOf me) l)
 
-    same-step3 : Same L (step3 s me i mode) (step3 t me j mode)
+    same-step3 : Same L (unseenAt (At i) s me page mode) (unseenAt (At j) t me page mode)
     unfolding step3
     same-step3 = same-taken (s .clock + s .delay) (t .clock + t .delay) (rw (alike .clock, alike .delay))
 
     same-served-at : L ≤ 2 → Same L (servedAt (At i) s me page mode) (servedAt (At j) t me page mode)
     same-served-at two =
-        rw (same-seen L s t alike i j same (levelOf me) l, no-dormant s (levelOf me) i (omega arith), no-dormant t (levelOf me) j (omega arith))
+        rw (same-seen L s t alike i j same (levelOf me) l, no-hit s me i (omega arith), no-hit t me j (omega arith))
         (go (seen t (levelOf me) j))
       where
-        go : (b : Bool) → Same L (cond b (step1 s me i page mode) (step3 s me i mode)) (cond b (step1 t me j page mode) (step3 t me j mode))
+        go : (b : Bool) → Same L (cond b (step1 s me i page mode) (unseenAt (At i) s me page mode)) (cond b (step1 t me j page mode) (unseenAt (At j) t me page mode))
         go true = same-step1
         go false = same-step3
 

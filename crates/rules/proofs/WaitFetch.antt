@@ -27,10 +27,10 @@ use Rattle.rules.specs.Calls.{granted, conflicts, mustWait, served}
 use Rattle.rules.specs.Run.{Call, outcome}
 use Rattle.rules.proofs.SoundFacts.{Sound, facts}
 use Rattle.rules.proofs.PageLaws.{found-slot, not-found}
-use Rattle.rules.proofs.ServeCases.{Serving, waits, waits-g, joins, fills, serving}
-use Rattle.rules.proofs.ChoiceSteps.{or-none, no-step-a, no-step-b, c-or-d}
+use Rattle.rules.proofs.Serving.{Serving, waits, waits-g, joins, fills, serving}
+use Rattle.rules.proofs.ChoiceSteps.{neither, no-step-a, no-step-b, c-or-d}
 use Rattle.rules.proofs.CallCases.{Asks, isServed, Effect, stays, starts, begins, unpins, ends, ticks, serves, effect}
-use Rattle.rules.proofs.Granting.{Grant, grant, granted-answer, grant-fetch}
+use Rattle.rules.proofs.Granting.{Grant, grant, never-waits, grant-fetch}
 
 -- ---- the slots where none is chosen
 
@@ -51,13 +51,11 @@ held-up-to s level slot f e =
 pub none-chosen : (s : State) (row : ℕ) → chosen s row ≡ Nowhere → (slot : ℕ) → slot < s .size → HeldUpTo s (levelOf row) slot
 unfolding chosen heldAbove
 none-chosen s row e slot b =
-    or-none (stepA s) _ e λ a e1.
-    or-none (stepB s) _ e1 λ p e2.
-    or-none (stepHeld s (inC s row)) _ e2 λ c e3.
-    or-none (stepHeld s (inD s row)) _ e3 λ d _.
+    let a : stepA s ≡ Nowhere = search neither depth 20 in
+    let p : stepB s ≡ Nowhere = search neither depth 20 in
     let f = no-step-a s slot a b in
     let h = no-step-b s slot p b f in
-    go f h c d (seen s (levelOf row) slot) refl
+    go f h (search neither depth 20) (search neither depth 20) (seen s (levelOf row) slot) refl
   where
     go : isFilled (slotAt s slot .content) ≡ true → anyBelow 32 (holds s slot) ≡ true → stepHeld s (inC s row) ≡ Nowhere → stepHeld s (inD s row) ≡ Nowhere
         → (v : Bool) → seen s (levelOf row) slot ≡ v → HeldUpTo s (levelOf row) slot
@@ -74,7 +72,7 @@ served-alone s z c = go (outcome s c) (effect s (facts s z) c)
     go : (o : Outcome) → Effect s c o → isServed (o .answer) ≡ true → (row : ℕ) × (page : ℕ) × (mode : Mode) × Asks s c row page mode × (row < 32) × (o ≡ served s row page mode)
     go o (stays a h e) k = true-false (sym (rw e at k) ∙ h)
     go o (starts slots delay h e) k = true-false (sym (rw e at k))
-    go o (begins row x h e) k = true-false (sym (rw e at k))
+    go o (begins level number deadline q h e) k = true-false (sym (rw e at k))
     go o (unpins row slot h i e) k = true-false (sym (rw e at k))
     go o (ends row h e) k = true-false (sym (rw e at k))
     go o (ticks e) k = true-false (sym (rw e at k))
@@ -138,14 +136,11 @@ wait-only s z c w =
     let x = served-alone s z c (ap isServed w) in
     (x .0, x .1, x .2, x .3, go (x .0) (x .1) (x .2) (outcome s c) (rw (← x .5) at (serving s (x .0) (x .1) (x .2))) w)
   where
-    never : {P : Type 0} (u : State) (row slot : ℕ) (mode : Mode) (arrival : ℕ) (back : Back) → granted u row slot mode arrival back .answer ≡ Wait → P
-    never u row slot mode arrival back e = granted-answer u row slot mode arrival back Wait e (λ q k. true-false (cc)) (λ q k. true-false (cc))
-
     go : (row page : ℕ) (mode : Mode) (o : Outcome) → Serving s row page mode o → o .answer ≡ Wait → Outranked s row page mode ⊎ NoSlot s row page
     go row page mode o (waits slot e v m q) k = inl (must-wait s (facts s z) row page mode slot e v m)
     go row page mode o (waits-g e n q) k = inr (record { nowhere = in-no-slot s (facts s z) page e; none = n; held = none-chosen s row n })
-    go row page mode o (joins slot arrival some e n q) k = never _ _ _ _ _ _ (rw q at k)
-    go row page mode o (fills slot e n q) k = never _ _ _ _ _ _ (rw q at k)
+    go row page mode o (joins slot arrival some e n q) k = never-waits _ _ _ _ _ _ (rw q at k)
+    go row page mode o (fills slot e n q) k = never-waits _ _ _ _ _ _ (rw q at k)
 
 -- ---- fetch
 

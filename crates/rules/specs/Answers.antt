@@ -1,5 +1,7 @@
 -- Document 01, "The player": the word and the value of an answer, and what is told to the server alone, as numbers.
+use mathlib.Core.Bool.{Bool, _||_}
 use Prim.Native.Nat.{ℕ, _+_}
+use lib.Dec.{eqb}
 use Rattle.model.specs.declared.Cause.{Cause}
 use Rattle.model.specs.declared.Cause.the-variants.{Late, Taken}
 use Rattle.model.specs.declared.Back.{Back}
@@ -78,6 +80,10 @@ value (PageRead arrival) = arrival
 value (PageWrite arrival) = arrival
 value (PageDormant arrival) = arrival
 value (Open count) = count
+
+-- the answers that say that a page may be used: ready, and a look's idle
+unfoldable pub mayUse : Answer → Bool
+mayUse a = eqb (word a) 3 || eqb (word a) 10
 
 -- the slot plus one, for ready and fetch of a request or retry alone, and 0 if none
 unfoldable pub slotTold : Answer → ℕ

@@ -198,12 +198,21 @@ intoSlot (At slot) s row page mode =
     granted (filled (pinnersKilled s slot) slot page (levelOf row)) row slot mode (s .clock + s .delay)
     (writeBack (slotAt (pinnersKilled s slot) slot))
 
+-- step 3, not seen: the slot that has the page, or else one that is chosen
+abbrev pub unseenAt : Found → State → ℕ → ℕ → Mode → Outcome
+unseenAt Nowhere s row page mode = intoSlot (chosen s row) s row page mode
+unseenAt (At slot) s row page mode = step3 s row slot mode
+
+-- step 2 applies
+abbrev pub hitsDormant : State → ℕ → ℕ → Bool
+hitsDormant s row slot = seesDormant s (levelOf row) slot
+
 abbrev pub servedAt : Found → State → ℕ → ℕ → Mode → Outcome
-servedAt Nowhere s row page mode = intoSlot (chosen s row) s row page mode
+servedAt Nowhere s row page mode = unseenAt Nowhere s row page mode
 servedAt (At slot) s row page mode =
     cond (seen s (levelOf row) slot) (step1 s row slot page mode)
-    (cond (seesDormant s (levelOf row) slot) (step2 s row slot mode)
-    (step3 s row slot mode))
+    (cond (hitsDormant s row slot) (step2 s row slot mode)
+    (unseenAt (At slot) s row page mode))
 
 unfoldable pub served : State → ℕ → ℕ → Mode → Outcome
 served s row page mode = servedAt (slotOf s page) s row page mode

@@ -82,11 +82,17 @@ worse s Nowhere other next = next
 worse s (At row) Nowhere next = next
 worse s (At row) (At other) next = cond (eqb row other) next (outranks s other row)
 
+abbrev pub touchOf : State → ℕ → ℕ
+touchOf s slot = latestTouch s (holderLevel s slot) slot
+
+abbrev pub tieOf : State → ℕ → ℕ
+tieOf s slot = pageIn (slotAt s slot .content)
+
 unfoldable pub beforeHeld : State → ℕ → ℕ → Bool
 beforeHeld s slot other =
     worse s (bestHolder s slot) (bestHolder s other)
-    (lexLess (latestTouch s (holderLevel s slot) slot) (latestTouch s (holderLevel s other) other)
-    (ltb (pageIn (slotAt s slot .content)) (pageIn (slotAt s other .content))))
+    (lexLess (touchOf s slot) (touchOf s other)
+    (ltb (tieOf s slot) (tieOf s other)))
 
 unfoldable pub stepHeld : State → (ℕ → Bool) → Found
 stepHeld s some = pickBelow (s .size) some (beforeHeld s)

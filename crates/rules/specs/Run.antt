@@ -1,6 +1,6 @@
 -- A call as its kind and its numbers, what it does to a state, and what a list of calls is answered.
 use mathlib.Core.List.{List, [], _∷_}
-use Prim.Native.Nat.{ℕ}
+use Prim.Native.Nat.{ℕ, _<_, _^_}
 use Rattle.model.specs.declared.State.{State}
 use Rattle.model.specs.declared.Outcome.{Outcome}
 use Rattle.model.specs.declared.Answer.{Answer}
@@ -17,6 +17,19 @@ pub data Call : Type 0 where
   look : (level number : ℕ) → Call
   view : (level page : ℕ) → Call
   count : (level : ℕ) → Call
+
+-- each number of the call is an unsigned 32-bit number
+abbrev pub Fits : Call → Type 0
+Fits (start slots delay) = (slots < 2 ^ 32) × (delay < 2 ^ 32)
+Fits (begin level number deadline) = (level < 2 ^ 32) × (number < 2 ^ 32) × (deadline < 2 ^ 32)
+Fits (request level number page mode) = (level < 2 ^ 32) × (number < 2 ^ 32) × (page < 2 ^ 32) × (mode < 2 ^ 32)
+Fits (retry level number) = (level < 2 ^ 32) × (number < 2 ^ 32)
+Fits (unpin level number page) = (level < 2 ^ 32) × (number < 2 ^ 32) × (page < 2 ^ 32)
+Fits (end level number) = (level < 2 ^ 32) × (number < 2 ^ 32)
+Fits tick = Unit {0}
+Fits (look level number) = (level < 2 ^ 32) × (number < 2 ^ 32)
+Fits (view level page) = (level < 2 ^ 32) × (page < 2 ^ 32)
+Fits (count level) = level < 2 ^ 32
 
 unfoldable pub outcome : State → Call → Outcome
 outcome s (start slots delay) = started s slots delay

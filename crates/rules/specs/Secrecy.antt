@@ -1,9 +1,8 @@
 -- Document 01, "Two runs side by side", and demand 3: which calls of a run are kept for a clearance, what it is told, and its rows' deliveries.
-use mathlib.Core.Path.{_≡_}
-use mathlib.Core.Bool.{Bool, true, false, cond, _&&_, _||_, not}
+use mathlib.Core.Bool.{Bool, true, false, cond, _&&_, not}
 use mathlib.Core.List.{List, [], _∷_}
 use Prim.Native.Nat.{ℕ}
-use lib.Dec.{leb, ltb, eqb}
+use lib.Dec.{leb, eqb}
 use Rattle.model.specs.declared.State.{State}
 use Rattle.model.specs.declared.Condition.{Condition}
 use Rattle.model.specs.declared.Condition.the-variants.{Free, Idle, Fetching, Waiting, Killed}

@@ -1,9 +1,10 @@
 -- Document 01, "The calls", request: what the steps ask of a row and its holding on the slot, and what they make of a row, a slot and a holding.
-use mathlib.Core.Bool.{Bool, cond, _&&_, not}
+use mathlib.Core.Bool.{Bool, false, cond, _&&_, not}
 use Prim.Native.Nat.{ℕ}
 use lib.Dec.{leb, ltb, eqb}
 use Rattle.model.specs.declared.Mode.{Mode}
 use Rattle.model.specs.declared.Condition.the-variants.{Idle, Fetching}
+use Rattle.model.specs.declared.Content.the-variants.{Filled}
 use Rattle.model.specs.declared.Row.{Row}
 use Rattle.model.specs.declared.Slot.{Slot}
 use Rattle.model.specs.declared.Holding.{Holding}
@@ -34,6 +35,10 @@ barTest row deadline mode other rival h =
 -- step 4
 unfoldable pub heldNow : Holding → Mode → ℕ → ℕ → Holding
 heldNow own mode arrival clock = heldWith (isHeld (own .pin)) own (pinOf mode) arrival clock
+
+-- a slot that a page was just read into
+abbrev pub filledSlot : ℕ → ℕ → ℕ → ℕ → Slot
+filledSlot page arrival level clock = record { content = Filled page arrival false level; touch = clock }
 
 unfoldable pub touchedSlot : Slot → ℕ → ℕ → Slot
 touchedSlot x level clock = record { content = withLowest level (x .content); touch = clock }

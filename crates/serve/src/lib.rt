@@ -17,12 +17,14 @@ ghost use mathlib.Core.Bool.{_||_};
 ghost use Prim.Native.Nat.{_+_, _<_, _≤_, _^_, min};
 ghost use Rattle.seq.specs.declared.Found.the-variants.{At};
 ghost use Rattle.model.specs.Words.{isFilled, arrivalIn};
-ghost use Rattle.model.specs.Changes.{cleared};
+ghost use Rattle.seq.specs.Below.{anyBelow};
+ghost use Rattle.model.specs.Parties.{levelOf};
+ghost use Rattle.model.specs.Changes.{marked, killed};
 ghost use Rattle.rules.specs.Calls.{waiting, granted, step1, step2, step3, writeBack, filled, intoSlot, served};
-ghost use Rattle.serve.specs.Elements.{seenTest, lesser, conflictTest, barTest, heldNow, touchedSlot, grantedRow, grantedAnswer};
+ghost use Rattle.serve.specs.Elements.{seenTest, lesser, conflictTest, barTest, heldNow, filledSlot, touchedSlot, grantedRow, grantedAnswer};
 ghost use Rattle.serve.specs.SlotHoldings.{holdingsOn, seenIn, leastIn, seesDormantIn, mustWaitIn, conflictMarks, pinMarks};
 
-fn either(a: bool, b: bool) -> bool
+pub fn either(a: bool, b: bool) -> bool
     ensures { λ r. ⌜ r ≡ a || b ⌝ }
 {
     if a {
@@ -45,7 +47,7 @@ fn is_filled(c: Content) -> bool
     }
 }
 
-fn arrival_in(c: Content) -> u32
+pub fn arrival_in(c: Content) -> u32
     ensures { λ r. ⌜ r ≡ arrivalIn c ⌝ }
 {
     match c {
@@ -60,7 +62,7 @@ fn arrival_in(c: Content) -> u32
 }
 
 // The row is of the level or a lower one, and has a holding.
-fn is_seen(level: usize, row: usize, h: Holding) -> bool
+pub fn is_seen(level: usize, row: usize, h: Holding) -> bool
     ensures { λ r. ⌜ r ≡ seenTest level row h ⌝ }
 {
     let p = h.pin;
@@ -214,6 +216,27 @@ fn pin_marks(held: [Holding; 32]) -> [bool; 32]
     marks
 }
 
+// Some row is marked.
+fn has_mark(marks: [bool; 32]) -> bool
+    ensures { λ r. ⌜ r ≡ anyBelow 32 (marked marks) ⌝ }
+{
+    let mut found = false;
+    for r in 0..32usize {
+        found = either(found, marks[r]);
+    }
+    found
+}
+
+// The marked rows are killed. Where there is none nothing is to be done.
+pub fn kill_marked(s: State, marks: [bool; 32], cause: Cause) -> State
+    ensures { λ r. ⌜ r ≡ killed (marked marks) cause s ⌝ }
+{
+    if has_mark(marks) {
+        return model::kill(s, marks, cause);
+    }
+    s
+}
+
 // Step 4: a row's own holding keeps its arrival and the stronger pin.
 fn hold(own: Holding, mode: Mode, arrival: u32, clock: u32) -> Holding
     ensures { λ r. ⌜ r ≡ heldNow own mode arrival clock ⌝ }
@@ -343,11 +366,28 @@ fn wait(s: State, row: usize, page: u32, mode: Mode) -> Outcome
     }
 }
 
-// The holders of a slot lose it.
-fn clear_slot(s: State, slot: usize) -> State
-    requires { ⌜ slot < 64 ⌝ }
-    ensures { λ r. ⌜ r ≡ cleared slot s ⌝ }
+// A slot that a page was just read into.
+fn fill(page: u32, arrival: u32, level: usize, clock: u32) -> Slot
+    ensures { λ r. ⌜ r ≡ filledSlot page arrival level clock ⌝ }
 {
+    Slot {
+        content: Content::Filled {
+            page,
+            arrival,
+            dirty: false,
+            lowest: level,
+        },
+        touch: clock,
+    }
+}
+
+// The holders of a slot lose it, and the page is the slot's: clean, and due at clock + delay. Then step 4.
+fn fill_and_grant(s: State, row: usize, slot: usize, page: u32, mode: Mode, back: Back) -> Outcome
+    requires { ⌜ (slot < 64) × (row < 32) × (s .clock + s .delay < 2 ^ 32) ⌝ }
+    ensures { λ r. ⌜ r ≡ granted (filled s slot page (levelOf row)) row slot mode (s .clock + s .delay) back ⌝ }
+{
+    let clock = s.clock;
+    let due = s.clock + s.delay;
     let mut n = s;
     for r in 0..32usize {
         n.holdings[slot * 32 + r] = Holding {
@@ -356,27 +396,19 @@ fn clear_slot(s: State, slot: usize) -> State
             touch: 0,
         };
     }
-    n
-}
-
-// The page is the slot's: clean, and due at clock + delay.
-fn fill(s: State, slot: usize, page: u32, level: usize) -> State
-    requires { ⌜ (slot < 64) × (s .clock + s .delay < 2 ^ 32) ⌝ }
-    ensures { λ r. ⌜ r ≡ filled s slot page level ⌝ }
-{
-    let clock = s.clock;
-    let arrival = s.clock + s.delay;
-    let mut n = clear_slot(s, slot);
-    n.slots[slot] = Slot {
-        content: Content::Filled {
-            page,
-            arrival,
-            dirty: false,
-            lowest: level,
-        },
-        touch: clock,
-    };
-    n
+    let x = fill(page, due, row / 8, clock);
+    n.slots[slot] = x;
+    let w = n.slots[slot];
+    let x2 = touch_slot(w, row / 8, clock);
+    n.slots[slot] = x2;
+    let own = n.holdings[slot * 32 + row];
+    let h = hold(own, mode, due, clock);
+    n.holdings[slot * 32 + row] = h;
+    let y = n.rows[row];
+    let y2 = grant_row(y, due, clock);
+    n.rows[row] = y2;
+    let answer = grant_answer(slot, due, clock, back);
+    Outcome { state: n, answer }
 }
 
 // A dirty page is reported for write-back.
@@ -420,7 +452,7 @@ fn step_one(
     }
     let marks = conflict_marks(held, row, mode);
     let arrival = least_arrival(held, row / 8);
-    let n = model::kill(s, marks, Cause::Taken);
+    let n = kill_marked(s, marks, Cause::Taken);
     grant(n, row, slot, mode, arrival, Back::Nothing)
 }
 
@@ -442,7 +474,7 @@ fn step_three(s: State, held: [Holding; 32], row: usize, slot: usize, mode: Mode
 {
     let due = s.clock + s.delay;
     let marks = conflict_marks(held, row, mode);
-    let n = model::kill(s, marks, Cause::Taken);
+    let n = kill_marked(s, marks, Cause::Taken);
     grant(n, row, slot, mode, due, Back::Nothing)
 }
 
@@ -451,15 +483,19 @@ fn into_slot(s: State, row: usize, slot: usize, page: u32, mode: Mode) -> Outcom
     requires { ⌜ (slot < 64) × (row < 32) × (s .clock + s .delay < 2 ^ 32) ⌝ }
     ensures { λ r. ⌜ r ≡ intoSlot (At slot) s row page mode ⌝ }
 {
-    let due = s.clock + s.delay;
     let held = holdings_on(s, slot);
     let marks = pin_marks(held);
-    let n = model::kill(s, marks, Cause::Taken);
-    let slots = n.slots;
+    if has_mark(marks) {
+        let n = model::kill(s, marks, Cause::Taken);
+        let slots = n.slots;
+        let x = slots[slot];
+        let back = write_back(x);
+        return fill_and_grant(n, row, slot, page, mode, back);
+    }
+    let slots = s.slots;
     let x = slots[slot];
     let back = write_back(x);
-    let t = fill(n, slot, page, row / 8);
-    grant(t, row, slot, mode, due, back)
+    fill_and_grant(s, row, slot, page, mode, back)
 }
 
 // The request of a row for a page: the search for the page, and steps 1 to 4.

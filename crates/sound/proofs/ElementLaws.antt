@@ -1,20 +1,25 @@
 -- The tests of the elements of a state are those of the state.
-use mathlib.Core.Path.{_≡_, refl}
-use mathlib.Core.Bool.{Bool, true, false, _&&_, _||_, not}
-use Prim.Native.Nat.{ℕ, _+_}
-use lib.Dec.{ltb, eqb}
+use mathlib.Core.Path.{_≡_, refl, sym, _∙_, ap}
+use mathlib.Core.Bool.{Bool, true, false, cond, _&&_, _||_, not}
+use Prim.Native.Nat.{ℕ, _+_, _<_}
+use native.Mathlib.Omega.{arith}
+use lib.Dec.{leb, ltb, eqb}
+use borrow.Author.Tests.{leb-true, ltb-true, ne-eqb}
 use Rattle.seq.specs.Below.{allBelow, countBelow}
+use Rattle.seq.proofs.Tests.{or-true-right, and-false-right}
+use Rattle.seq.proofs.BelowLaws.{all-each, each-all, count-none}
 use Rattle.model.specs.declared.Condition.{Condition}
 use Rattle.model.specs.declared.Condition.the-variants.{Free, Idle, Fetching, Waiting, Killed}
 use Rattle.model.specs.declared.Content.{Content}
 use Rattle.model.specs.declared.Content.the-variants.{Empty, Filled}
 use Rattle.model.specs.declared.State.{State}
-use Rattle.model.specs.Parties.{levelOf}
+use Rattle.model.specs.Parties.{levelOf, isPast}
 use Rattle.model.specs.State.{rowAt, slotAt, holdingAt}
-use Rattle.model.specs.Words.{isFilled}
+use Rattle.model.specs.Words.{isFilled, holds, pins}
 use Rattle.model.proofs.StateLaws.{Sized}
-use Rattle.rules.specs.Sound.{soundNumbers, arrived, awaits, soundContent, soundSlot, samePage, soundCondition, soundRow, soundHolding, soundPins, soundPages, sound}
-use Rattle.sound.specs.Elements.{inRange, contentTest, slotTest, onePage, dueIn, arrivedTest, awaitsTest, fetchingTest, waitingTest, conditionTest, rowTest, heldTest, holdingTest}
+use Rattle.rules.specs.Sound.{soundNumbers, arrived, awaits, soundContent, soundSlot, soundCondition, soundRow, soundHolding, soundPins, soundPages, sound}
+use Rattle.sound.specs.Elements.{inRange, contentTest, slotTest, placeTaken, dueIn, arrivedTest, awaitsTest, fetchingTest, waitingTest, conditionTest, rowTest, heldTest, holdingTest}
+use Rattle.sound.proofs.PageLaws.{pages-apart}
 
 pub numbers-test : (s : State) → Sized s → inRange (s .size) (s .delay) (s .clock) ≡ soundNumbers s
 unfolding inRange soundNumbers
@@ -39,10 +44,6 @@ slot-test s slot = go (slotAt s slot .content)
     go : (c : Content) → contentTest c (slotAt s slot .touch) slot (s .size) (s .clock) (s .clock + s .delay) ≡ soundContent s c (slotAt s slot .touch) && (ltb slot (s .size) || not (isFilled c))
     go Empty = rw (← or-true (ltb slot (s .size))) (and-true (eqb (slotAt s slot .touch) 0))
     go (Filled page arrival dirty lowest) = rw (← or-false (ltb slot (s .size)))
-
-pub page-test : (s : State) (slot other : ℕ) → onePage (slotAt s slot) (slotAt s other) ≡ samePage s slot other
-unfolding onePage samePage
-page-test s slot other = refl
 
 pub arrived-test : (s : State) (slot row : ℕ) → arrivedTest (s .clock) (holdingAt s slot row) ≡ arrived s slot row
 unfolding arrivedTest arrived
@@ -84,15 +85,79 @@ pub row-end : (s : State) (row due n : ℕ) (settled expected : Bool) (number : 
     → rowTest (rowAt s row) (levelOf row) (s .clock) settled expected number ≡ soundRow s row
 row-end s row due n settled expected number e d p q r = rw (p, q, r, e, d) (row-test s row)
 
+-- a row whose holdings all have an arrival at most the clock
+module _ (s : State) (row : ℕ) (past : (slot : ℕ) → slot < 64 → leb (holdingAt s slot row .arrival) (s .clock) ≡ true) where
+  past-arrived : (slot : ℕ) → slot < 64 → arrived s slot row ≡ true
+  unfolding arrived
+  past-arrived slot h = or-true-right (not (holds s slot row)) (leb (holdingAt s slot row .arrival) (s .clock)) (past slot h)
+
+  past-settled : settledIn s row ≡ true
+  past-settled = each-all (λ slot. arrived s slot row) 64 past-arrived
+
+  past-expected : (due : ℕ) → expectedIn s row due ≡ true
+  past-expected due = each-all (λ slot. arrived s slot row || awaits s row due slot) 64 (λ slot h. rw (past-arrived slot h))
+
+  -- it awaits nothing that comes above the clock
+  past-awaited : (due : ℕ) → ltb (s .clock) due ≡ true → countBelow 64 (awaits s row due) ≡ 0
+  unfolding awaits
+  past-awaited due e =
+      count-none (awaits s row due) 64 (λ slot h. and-false-right (pins s slot row) (eqb (holdingAt s slot row .arrival) due) (ne-eqb (holdingAt s slot row .arrival) due (λ z.
+      let a = leb-true (holdingAt s slot row .arrival) (s .clock) (past slot h) in
+      let b = ltb-true (s .clock) due e in
+      omega arith)))
+
+  past-row : rowTest (rowAt s row) (levelOf row) (s .clock) true true 0 ≡ soundRow s row
+  unfolding rowTest fetchingTest waitingTest soundRow
+  past-row = go (rowAt s row .condition)
+    where
+      late : (a b c d : Bool) → a && false && b && d ≡ a && false && c && d
+      late true b c d = refl
+      late false b c d = refl
+
+      fetching : (due : ℕ) (a b : Bool) → ltb (s .clock) due ≡ b → a && b && eqb 0 1 && true ≡ a && b && eqb (countBelow 64 (awaits s row due)) 1 && true
+      fetching due a true e = rw (past-awaited due e)
+      fetching due a false e = late a (eqb 0 1) (eqb (countBelow 64 (awaits s row due)) 1) true
+
+      go : (c : Condition) → conditionTest c (rowAt s row .deadline) (levelOf row) (s .clock) true true 0 ≡ soundCondition s row c (rowAt s row .deadline)
+      go Free = refl
+      go Idle = rw past-settled
+      go (Fetching due) = rw (past-expected due) (fetching due (not (isPast (s .clock) (rowAt s row .deadline))) (ltb (s .clock) due) refl)
+      go (Waiting page mode) = rw past-settled
+      go (Killed cause) = refl
+
+-- the test of a row, as its two loops leave it: the second runs where the first met an arrival above the clock
+pub row-again : (s : State) (row due m n k : ℕ) (quiet settled expected : Bool) (number : ℕ) → m ≡ 64 → k ≡ n → due ≡ dueIn (rowAt s row .condition)
+    → quiet ≡ allBelow m (λ slot. leb (holdingAt s slot row .arrival) (s .clock)) → n ≡ cond quiet 0 64
+    → settled ≡ allBelow k (λ slot. arrived s slot row) → expected ≡ allBelow k (λ slot. arrived s slot row || awaits s row due slot) → number ≡ countBelow k (awaits s row due)
+    → rowTest (rowAt s row) (levelOf row) (s .clock) settled expected number ≡ soundRow s row
+unfolding allBelow countBelow
+row-again s row due m n k quiet settled expected number e f d q w x y z = go quiet refl
+  where
+    go : (b : Bool) → quiet ≡ b → rowTest (rowAt s row) (levelOf row) (s .clock) settled expected number ≡ soundRow s row
+    go false g = row-end s row due k settled expected number (f ∙ w ∙ rw g) d x y z
+    go true g =
+        let v : k ≡ 0 = f ∙ w ∙ rw g in
+        none v
+      where
+        none : k ≡ 0 → rowTest (rowAt s row) (levelOf row) (s .clock) settled expected number ≡ soundRow s row
+        none v = rw (x, y, z, v) (past-row s row (λ slot h. all-each (λ i. leb (holdingAt s i row .arrival) (s .clock)) 64 slot (ap (λ (j : ℕ). allBelow j (λ i. leb (holdingAt s i row .arrival) (s .clock))) (sym e) ∙ sym q ∙ g) h))
+
 and-assoc : (a b c : Bool) → a && (b && c) ≡ a && b && c
 and-assoc true b c = refl
 and-assoc false b c = refl
 
+pages-joined : (s : State) → soundNumbers s && allBelow 64 (soundSlot s) && allBelow 64 (λ slot. not (placeTaken (s .slots) slot)) ≡ soundNumbers s && allBelow 64 (soundSlot s) && soundPages s
+pages-joined s = go (soundNumbers s)
+  where
+    go : (a : Bool) → a && allBelow 64 (soundSlot s) && allBelow 64 (λ slot. not (placeTaken (s .slots) slot)) ≡ a && allBelow 64 (soundSlot s) && soundPages s
+    go true = pages-apart s
+    go false = refl
+
 -- the whole test from its parts, each joined to those before it
 pub sound-test : (s : State) → Sized s → (numbers slots pages rows holdings b2 b3 b4 b5 : Bool) → numbers ≡ inRange (s .size) (s .delay) (s .clock) → slots ≡ allBelow 64 (soundSlot s)
-    → pages ≡ soundPages s → rows ≡ allBelow 32 (soundRow s) → holdings ≡ allBelow 64 (λ slot. allBelow 32 (soundHolding s slot)) && allBelow 64 (soundPins s)
+    → pages ≡ allBelow 64 (λ slot. not (placeTaken (s .slots) slot)) → rows ≡ allBelow 32 (soundRow s) → holdings ≡ allBelow 64 (λ slot. allBelow 32 (soundHolding s slot)) && allBelow 64 (soundPins s)
     → b2 ≡ numbers && slots → b3 ≡ b2 && pages → b4 ≡ b3 && rows → b5 ≡ b4 && holdings → b5 ≡ sound s
 unfolding sound
 sound-test s z numbers slots pages rows holdings b2 b3 b4 b5 e1 e2 e3 e4 e5 f2 f3 f4 f5 =
-    rw (f5, f4, f3, f2, e1, e2, e3, e4, e5, numbers-test s z)
+    rw (f5, f4, f3, f2, e1, e2, e3, e4, e5, numbers-test s z, pages-joined s)
     (and-assoc (soundNumbers s && allBelow 64 (soundSlot s) && soundPages s && allBelow 32 (soundRow s)) (allBelow 64 (λ slot. allBelow 32 (soundHolding s slot))) (allBelow 64 (soundPins s)))

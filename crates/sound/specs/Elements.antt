@@ -1,8 +1,11 @@
 -- The tests of what sound means, each of one element of the state and the numbers that it is compared with.
 -- `latest` is the tick clock + delay.
-use mathlib.Core.Bool.{Bool, true, cond, _&&_, _||_, not}
+use mathlib.Core.Bool.{Bool, true, false, cond, _&&_, _||_, not}
+use mathlib.Core.List.{List}
 use Prim.Native.Nat.{ℕ}
 use lib.Dec.{leb, ltb, eqb}
+use lib.ListN.{getD, replicate}
+use Rattle.seq.specs.Below.{anyBelow}
 use Rattle.model.specs.declared.Condition.{Condition}
 use Rattle.model.specs.declared.Condition.the-variants.{Free, Idle, Fetching, Waiting, Killed}
 use Rattle.model.specs.declared.Content.{Content}
@@ -12,7 +15,8 @@ use Rattle.model.specs.declared.Row.{Row}
 use Rattle.model.specs.declared.Slot.{Slot}
 use Rattle.model.specs.declared.Holding.{Holding}
 use Rattle.model.specs.Parties.{mayAccess, lastClock, isPast}
-use Rattle.model.specs.Words.{isLive, isFilled, pageIn, arrivalIn, lowestIn, hasPage, isHeld, isPin}
+use Rattle.model.specs.State.{emptySlot}
+use Rattle.model.specs.Words.{isLive, isFilled, pageIn, arrivalIn, lowestIn, isHeld, isPin}
 use Rattle.rules.specs.Sound.{pinAllowed}
 
 unfoldable pub inRange : ℕ → ℕ → ℕ → Bool
@@ -26,9 +30,21 @@ contentTest (Filled page arrival dirty lowest) touch slot size clock latest =
 unfoldable pub slotTest : Slot → ℕ → ℕ → ℕ → ℕ → Bool
 slotTest x slot size clock latest = contentTest (x .content) (x .touch) slot size clock latest
 
--- both slots have one page
-unfoldable pub onePage : Slot → Slot → Bool
-onePage x y = isFilled (x .content) && hasPage (pageIn (x .content)) (y .content)
+-- where the page of a slot is noted: at its number, and at 4096 where there is no page below 4096
+abbrev pub placeIn : Content → ℕ
+placeIn Empty = 4096
+placeIn (Filled page arrival dirty lowest) = cond (ltb page 4096) page 4096
+
+-- a page below 4096 is in one of the first n slots
+unfoldable pub seenAt : List Slot → ℕ → ℕ → Bool
+seenAt slots n page = ltb page 4096 && anyBelow n (λ slot. eqb (placeIn (getD slots slot emptySlot .content)) page)
+
+unfoldable pub noPages : List Bool
+noPages = replicate 4097 false
+
+-- a slot before this one has its page, which is below 4096
+unfoldable pub placeTaken : List Slot → ℕ → Bool
+placeTaken slots slot = seenAt slots slot (placeIn (getD slots slot emptySlot .content))
 
 -- the due tick of a fetching row, and 0 of another
 abbrev pub dueIn : Condition → ℕ

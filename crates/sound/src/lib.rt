@@ -9,11 +9,11 @@ use model::Slot;
 use model::State;
 ghost use mathlib.Core.Path.{_≡_};
 ghost use mathlib.Core.Bool.{cond, _&&_, _||_, not};
-ghost use Prim.Native.Nat.{_+_, _<_};
+ghost use Prim.Native.Nat.{_+_, _<_, _≤_};
 ghost use Rattle.seq.specs.Below.{allBelow};
 ghost use Rattle.model.specs.Parties.{mayAccess};
-ghost use Rattle.rules.specs.Sound.{pinAllowed, soundSlot, soundPages, soundRow, soundHolding, soundPins, sound};
-ghost use Rattle.sound.specs.Elements.{inRange, slotTest, onePage, dueIn, arrivedTest, awaitsTest, fetchingTest, waitingTest, rowTest, fitTest, heldTest, holdingTest, pinsTest};
+ghost use Rattle.rules.specs.Sound.{pinAllowed, soundSlot, soundRow, soundHolding, soundPins, sound};
+ghost use Rattle.sound.specs.Elements.{inRange, slotTest, placeIn, noPages, placeTaken, dueIn, arrivedTest, awaitsTest, fetchingTest, waitingTest, rowTest, fitTest, heldTest, holdingTest, pinsTest};
 
 fn both(a: bool, b: bool) -> bool
     ensures { λ r. ⌜ r ≡ a && b ⌝ }
@@ -31,6 +31,18 @@ fn either(a: bool, b: bool) -> bool
         return true;
     }
     b
+}
+
+fn unless(a: bool, b: bool) -> bool
+    ensures { λ r. ⌜ r ≡ a && not b ⌝ }
+{
+    if a {
+        if b {
+            return false;
+        }
+        return true;
+    }
+    false
 }
 
 // The count, one more where an element passed.
@@ -106,59 +118,58 @@ fn are_slots_sound(s: State) -> bool
     let size = s.size;
     let clock = s.clock;
     let latest = latest_arrival(clock, s.delay);
+    let slots = s.slots;
     let mut ok = true;
     for i in 0..64usize {
-        let x = s.slots[i];
+        let x = slots[i];
         let t = is_slot_sound(x, i, size, clock, latest);
         ok = both(ok, t);
     }
     ok
 }
 
-// The slots have no page in common.
-fn have_two_pages(x: Slot, y: Slot) -> bool
-    ensures { λ r. ⌜ r ≡ not (onePage x y) ⌝ }
+// Where the page of a slot is noted: at its number, and at 4096 where the slot has no page below 4096.
+fn place_of(x: Slot) -> usize
+    ensures { λ r. ⌜ (r ≡ placeIn (x .content)) × (r < 4097) ⌝ }
 {
     let c = x.content;
-    let d = y.content;
     match c {
         Content::Empty => {
-            return true;
+            return 4096;
         }
         Content::Filled {
             page,
             arrival: _,
             dirty: _,
             lowest: _,
-        } => match d {
-            Content::Empty => {
-                return true;
+        } => {
+            if page < 4096 {
+                return page as usize;
             }
-            Content::Filled {
-                page: other,
-                arrival: _,
-                dirty: _,
-                lowest: _,
-            } => {
-                return other != page;
-            }
-        },
+            return 4096;
+        }
     }
 }
 
-fn are_pages_sound(s: State) -> bool
-    ensures { λ r. ⌜ r ≡ soundPages s ⌝ }
+fn no_pages() -> [bool; 4097]
+    ensures { λ r. ⌜ r ≡ noPages ⌝ }
 {
+    [false; 4097]
+}
+
+// No page below 4096 is in two slots.
+fn are_pages_apart(s: State) -> bool
+    ensures { λ r. ⌜ r ≡ allBelow 64 (λ slot. not (placeTaken (s .slots) slot)) ⌝ }
+{
+    let slots = s.slots;
+    let mut seen = no_pages();
     let mut ok = true;
     for i in 0..64usize {
-        let x = s.slots[i];
-        let mut apart = true;
-        for j in 0..i {
-            let y = s.slots[j];
-            let t = have_two_pages(x, y);
-            apart = both(apart, t);
-        }
-        ok = both(ok, apart);
+        let x = slots[i];
+        let k = place_of(x);
+        let taken = seen[k];
+        seen[k] = k < 4096;
+        ok = unless(ok, taken);
     }
     ok
 }
@@ -271,48 +282,59 @@ fn is_row_sound(
     }
 }
 
+// How many of the 64 slots are looked at again: none where a test of them all passed.
+fn again(passed: bool) -> usize
+    ensures { λ r. ⌜ (r ≡ cond passed 0 64) × (r ≤ 64) ⌝ }
+{
+    if passed {
+        return 0;
+    }
+    64
+}
+
 fn are_rows_sound(s: State) -> bool
     ensures { λ r. ⌜ r ≡ allBelow 32 (soundRow s) ⌝ }
 {
-    let clock = s.clock;
+    let rows = s.rows;
+    let holdings = s.holdings;
     let mut ok = true;
     for r in 0..32usize {
-        let x = s.rows[r];
+        let x = rows[r];
         let c = x.condition;
         let due = due_of(c);
+        let mut quiet = true;
+        for i in 0..64usize {
+            let h = holdings[i * 32 + r];
+            let past = h.arrival <= s.clock;
+            quiet = both(quiet, past);
+        }
+        let n = again(quiet);
         let mut settled = true;
         let mut expected = true;
         let mut number: usize = 0;
-        for i in 0..64usize {
-            let h = s.holdings[i * 32 + r];
-            let here = has_arrived(h, clock);
+        for i in 0..n {
+            let h = holdings[i * 32 + r];
+            let here = has_arrived(h, s.clock);
             let awaited = is_awaited(h, due);
             let known = either(here, awaited);
             settled = both(settled, here);
             expected = both(expected, known);
             number = counted(number, awaited);
         }
-        let t = is_row_sound(x, r / 8, clock, settled, expected, number);
+        let t = is_row_sound(x, r / 8, s.clock, settled, expected, number);
         ok = both(ok, t);
     }
     ok
 }
 
-// The access rule for any page: past the last one the class is above every level.
+// The access rule for any page.
 fn may_access(level: usize, page: u32, mode: Mode) -> bool
-    requires { ⌜ level < 4 ⌝ }
     ensures { λ r. ⌜ r ≡ mayAccess level page mode ⌝ }
 {
-    if page <= 4095 {
-        return model::is_allowed(level, page, mode);
-    }
+    let class = (page / 1024) as usize;
     match mode {
-        Mode::Read => {
-            return false;
-        }
-        Mode::Write => {
-            return true;
-        }
+        Mode::Read => class <= level,
+        Mode::Write => level <= class,
     }
 }
 
@@ -418,17 +440,20 @@ fn are_pins_sound(wrote: bool, number: usize) -> bool
 fn are_holdings_sound(s: State) -> bool
     ensures { λ r. ⌜ r ≡ allBelow 64 (λ slot. allBelow 32 (soundHolding s slot)) && allBelow 64 (soundPins s) ⌝ }
 {
-    let latest = latest_arrival(s.clock, s.delay);
+    let rows = s.rows;
+    let slots = s.slots;
+    let holdings = s.holdings;
     let mut ok = true;
     let mut clear = true;
     for i in 0..64usize {
-        let x = s.slots[i];
+        let latest = latest_arrival(s.clock, s.delay);
+        let x = slots[i];
         let mut fit = true;
         let mut wrote = false;
         let mut number: usize = 0;
         for r in 0..32usize {
-            let h = s.holdings[i * 32 + r];
-            let y = s.rows[r];
+            let h = holdings[i * 32 + r];
+            let y = rows[r];
             let t = is_holding_sound(r / 8, y, x, h, latest);
             let p = h.pin;
             let write = model::is_write(p);
@@ -450,7 +475,7 @@ pub fn is_sound(s: State) -> bool
 {
     let numbers = is_in_range(s.size, s.delay, s.clock);
     let slots = are_slots_sound(s);
-    let pages = are_pages_sound(s);
+    let pages = are_pages_apart(s);
     let rows = are_rows_sound(s);
     let holdings = are_holdings_sound(s);
     both(both(both(both(numbers, slots), pages), rows), holdings)

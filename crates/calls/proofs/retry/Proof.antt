@@ -1,4 +1,4 @@
-use mathlib.Core.Path.{_≡_, _∙_, ap}
+use mathlib.Core.Path.{_∙_}
 use native.Mathlib.Omega.{arith}
 use Rattle.calls.proofs.CallLaws.{refused, taken, none-applies}
 use Rattle.rules.specs.Calls.{retried}

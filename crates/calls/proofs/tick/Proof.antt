@@ -15,7 +15,7 @@ use Rattle.calls.proofs.tick.Lts as lts
 use Rattle.calls.proofs.deliver_rows.Reads as deliver-rows-reads
 use Rattle.calls.proofs.late_rows.Reads as late-rows-reads
 use Rattle.calls.proofs.tick_refusal.Reads as tick-refusal-reads
-use Rattle.model.proofs.kill.Reads as kill-reads
+use Rattle.serve.proofs.kill_marked.Reads as kill-marked-reads
 
 tick-refusal-requires : tie.Need-tick-refusal-requires
 tick-refusal-requires c κs = search needs
@@ -33,14 +33,14 @@ deliver-rows-requires c κs = search needs
 late-rows-requires : tie.Need-late-rows-requires
 late-rows-requires c κs = search needs
 
-kill-requires : tie.Need-kill-requires
-kill-requires c κs = search needs
+kill-marked-requires : tie.Need-kill-marked-requires
+kill-marked-requires c κs = search needs
 
 returns-2 : tie.Need-returns-2
 unfolding ticked
 returns-2 c =
     let s = c .before .before .before .before .before .before .before .args .s in
-    let e = ticked-rows s (c .kill .result) (c .before .before .deliver-rows .result) (c .before .late-rows .result) (state-ok s _ (c .before .before .before .before .before .before .before .good .0) .sized) (c .before .before .deliver-rows .ensures) (c .before .late-rows .ensures) (c .kill .ensures) in
+    let e = ticked-rows s (c .kill-marked .result) (c .before .before .deliver-rows .result) (c .before .late-rows .result) (state-ok s _ (c .before .before .before .before .before .before .before .good .0) .sized) (c .before .before .deliver-rows .ensures) (c .before .late-rows .ensures) (c .kill-marked .ensures) in
     (λ j. record { state = e j; answer = Clock (s .clock + 1) }) ∙ taken _ _ _ _ (c .before .before .before .before .before .before .tick-refusal .ensures) (c .before .before .before .before .before .if1 .left)
 
 pub tick-spec : {M : Type 1} → statement M
@@ -52,5 +52,5 @@ tick-spec =
     add-clock
     deliver-rows-requires
     late-rows-requires
-    kill-requires
+    kill-marked-requires
     returns-2)

@@ -51,7 +51,7 @@ element-set-from-t c = search needs
 
 returns : tie.Need-returns
 unfolding unpinnedAt
-returns c = rw (c .marked-slot .ensures, c .before .is-written .ensures)
+returns c = simp (c .marked-slot .ensures, c .before .is-written .ensures)
 
 pub unpin-at-spec : {M : Type 1} → statement M
 unpin-at-spec =

@@ -1,67 +1,86 @@
-use mathlib.Core.Path.{_≡_, refl, sym, _∙_, ap}
-use Prim.Native.Nat.{ℕ, _≤_, _<_, _+_, _-_}
-use lib.ListN.{getD}
-use Rattle.choice.proofs.ScanLaws.{Scanned, scan-none, scan-turn}
-use Rattle.choice.specs.Summary.{dormantIn, dormantBefore, noSummary, pickFrom}
+use mathlib.Core.Path.{_≡_, _∙_, ap}
+use Prim.Native.Nat.{ℕ, _≤_, _<_, _-_}
 use native.Mathlib.Omega.{arith}
 use borrow.Author.Needs.{needs}
+use Rattle.choice.specs.Summary.{dormantIn, dormantBefore, pickFrom, foundAt}
+use Rattle.choice.proofs.ScanLaws.{scan-none, scan-turn, place-below}
 use Rattle.choice.proofs.first_dormant.Statement.{statement}
 use Rattle.choice.proofs.first_dormant.Tie as tie
 use Rattle.choice.proofs.first_dormant.Reads as reads
 use Rattle.choice.proofs.first_dormant.Lts as lts
+use Rattle.choice.proofs.either.Reads as either-reads
+use Rattle.choice.proofs.found_at.Reads as found-at-reads
 use Rattle.choice.proofs.is_dormant.Reads as is-dormant-reads
 use Rattle.choice.proofs.is_dormant_before.Reads as is-dormant-before-reads
-use Rattle.choice.proofs.pick_with.Reads as pick-with-reads
+use Rattle.choice.proofs.place_with.Reads as place-with-reads
 
 abbrev Inv-loop : tie.InvT-loop
-Inv-loop n m p₀ i₀ p i = (i ≤ n) × Scanned m dormantIn dormantBefore (p₀ .best) i p
+Inv-loop n m some₀ at₀ i₀ some at i = (i ≤ n) × (at < 64) × (foundAt some at ≡ pickFrom m i dormantIn dormantBefore)
 
 abbrev μ-loop : tie.MeasureT-loop
-μ-loop n m p₀ i₀ p i = n - i
+μ-loop n m some₀ at₀ i₀ some at i = n - i
 
--- src/lib.rt:538:17
-array-copy-out-start : tie.Need-array-copy-out-start Inv-loop μ-loop
-array-copy-out-start c = omega arith
-
--- src/lib.rt:543:5
+-- src/lib.rt:458:5
 loop-holds : tie.Need-loop-holds Inv-loop μ-loop
-loop-holds c = (omega arith, scan-none (c .before .args .t1) dormantIn dormantBefore (getD (c .before .args .t1) 0 noSummary))
+loop-holds c = (omega arith, omega arith, scan-none (c .args .t1) dormantIn dormantBefore)
 
--- src/lib.rt:544:17
+-- src/lib.rt:459:17
 mul-x : tie.Need-mul-x Inv-loop μ-loop
 mul-x c = omega arith
 
--- src/lib.rt:544:17
+-- src/lib.rt:459:17
 array-copy-out-x : tie.Need-array-copy-out-x Inv-loop μ-loop
 array-copy-out-x c = omega arith
 
--- src/lib.rt:546:13
+-- src/lib.rt:460:17
+mul-y : tie.Need-mul-y Inv-loop μ-loop
+mul-y c = omega arith
+
+-- src/lib.rt:460:17
+array-copy-out-y : tie.Need-array-copy-out-y Inv-loop μ-loop
+array-copy-out-y c = omega arith
+
+-- src/lib.rt:461:13
 is-dormant-requires : tie.Need-is-dormant-requires Inv-loop μ-loop
 is-dormant-requires c κs = search needs
 
--- src/lib.rt:547:13
+-- src/lib.rt:462:13
 is-dormant-before-requires : tie.Need-is-dormant-before-requires Inv-loop μ-loop
 is-dormant-before-requires c κs = search needs
 
--- src/lib.rt:548:9
-pick-with-requires : tie.Need-pick-with-requires Inv-loop μ-loop
-pick-with-requires c κs = search needs
+-- src/lib.rt:463:9
+place-with-requires : tie.Need-place-with-requires Inv-loop μ-loop
+place-with-requires c κs = search needs
 
--- src/lib.rt:543:9
+-- src/lib.rt:464:9
+either-requires : tie.Need-either-requires Inv-loop μ-loop
+either-requires c κs = search needs
+
+-- src/lib.rt:458:9
 add-i : tie.Need-add-i Inv-loop μ-loop
 add-i c = omega arith
 
--- src/lib.rt:543:5
+-- src/lib.rt:458:5
 loop-less : tie.Need-loop-less Inv-loop μ-loop
 loop-less c = omega arith
 
--- src/lib.rt:543:5
+-- src/lib.rt:458:5
 loop-again : tie.Need-loop-again Inv-loop μ-loop
-loop-again c = (omega arith, scan-turn (c .before .before .before .before .before .before .before .before .args .t1) dormantIn dormantBefore (getD (c .before .before .before .before .before .before .before .before .args .t1) 0 noSummary) (c .before .before .before .before .before .before .loop .i) (c .before .before .before .before .before .before .loop .p) (c .pick-with .result) (c .before .before .is-dormant .result) (c .before .is-dormant-before .result) (c .before .before .before .before .before .before .loop .inv .1) (c .before .before .is-dormant .ensures) (c .before .is-dormant-before .ensures) (c .pick-with .ensures))
+loop-again c = (
+  omega arith,
+  place-below (c .before .before .before .is-dormant .result) (c .before .before .before .before .before .before .before .loop .some) (c .before .before .is-dormant-before .result) (c .before .before .before .before .before .before .before .loop .at) (c .before .before .before .before .before .before .before .loop .i) 64 (c .before .place-with .result) (omega arith) (omega arith) (c .before .place-with .ensures),
+  scan-turn (c .before .before .before .before .before .before .before .before .args .t1) dormantIn dormantBefore (c .before .before .before .before .before .before .before .loop .i) (c .before .before .before .before .before .before .before .loop .at) (c .before .place-with .result) (c .before .before .before .before .before .before .before .loop .some) (c .before .before .before .is-dormant .result) (c .before .before .is-dormant-before .result) (c .either .result)
+      (c .before .before .before .before .before .before .before .loop .inv .2) (c .before .before .before .is-dormant .ensures) (c .before .before .is-dormant-before .ensures) (c .before .place-with .ensures) (c .either .ensures),
+)
 
--- src/lib.rt:534:1
+-- src/lib.rt:466:5
+found-at-requires : tie.Need-found-at-requires Inv-loop μ-loop
+found-at-requires c κs = search needs
+
+-- src/lib.rt:452:1
 returns : tie.Need-returns Inv-loop μ-loop
-returns c = let e : c .before .loop .i ≡ c .before .before .before .args .n = omega arith in c .before .loop .inv .1 .found ∙ ap (λ (k : ℕ). pickFrom (c .before .before .before .args .t1) k dormantIn dormantBefore) e
+returns c = let e : c .before .before .loop .i ≡ c .before .before .before .args .n = omega arith in
+    c .found-at .ensures ∙ c .before .before .loop .inv .2 ∙ ap (λ (k : ℕ). pickFrom (c .before .before .before .args .t1) k dormantIn dormantBefore) e
 
 pub first-dormant-spec : {M : Type 1} → statement M
 first-dormant-spec =
@@ -69,14 +88,17 @@ first-dormant-spec =
     (tie.spec
     Inv-loop
     μ-loop
-    array-copy-out-start
     loop-holds
     mul-x
     array-copy-out-x
+    mul-y
+    array-copy-out-y
     is-dormant-requires
     is-dormant-before-requires
-    pick-with-requires
+    place-with-requires
+    either-requires
     add-i
     loop-less
     loop-again
+    found-at-requires
     returns)

@@ -1,62 +1,75 @@
-use mathlib.Core.Path.{_≡_, refl, sym, _∙_, ap}
-use Prim.Native.Nat.{ℕ, _≤_, _<_, _+_, _-_}
-use lib.ListN.{getD}
-use Rattle.choice.proofs.ScanLaws.{Scanned, scan-none, scan-turn}
-use Rattle.choice.specs.Summary.{emptyIn, noOrder, noSummary, pickFrom}
+use mathlib.Core.Path.{_≡_, refl, _∙_, ap}
+use mathlib.Core.Bool.{false}
+use Prim.Native.Nat.{ℕ, _≤_, _<_, _-_}
 use native.Mathlib.Omega.{arith}
 use borrow.Author.Needs.{needs}
+use Rattle.choice.specs.Summary.{emptyIn, noOrder, pickFrom, foundAt}
+use Rattle.choice.proofs.ScanLaws.{scan-none, scan-turn, place-below}
 use Rattle.choice.proofs.first_empty.Statement.{statement}
 use Rattle.choice.proofs.first_empty.Tie as tie
 use Rattle.choice.proofs.first_empty.Reads as reads
 use Rattle.choice.proofs.first_empty.Lts as lts
-use Rattle.choice.proofs.is_empty.Reads as is-empty-reads
-use Rattle.choice.proofs.pick_with.Reads as pick-with-reads
+use Rattle.choice.proofs.either.Reads as either-reads
+use Rattle.choice.proofs.found_at.Reads as found-at-reads
+use Rattle.choice.proofs.negated.Reads as negated-reads
+use Rattle.choice.proofs.place_with.Reads as place-with-reads
 
 abbrev Inv-loop : tie.InvT-loop
-Inv-loop n m p₀ i₀ p i = (i ≤ n) × Scanned m emptyIn noOrder (p₀ .best) i p
+Inv-loop n m some₀ at₀ i₀ some at i = (i ≤ n) × (at < 64) × (foundAt some at ≡ pickFrom m i emptyIn noOrder)
 
 abbrev μ-loop : tie.MeasureT-loop
-μ-loop n m p₀ i₀ p i = n - i
+μ-loop n m some₀ at₀ i₀ some at i = n - i
 
--- src/lib.rt:520:17
-array-copy-out-start : tie.Need-array-copy-out-start Inv-loop μ-loop
-array-copy-out-start c = omega arith
-
--- src/lib.rt:525:5
+-- src/lib.rt:442:5
 loop-holds : tie.Need-loop-holds Inv-loop μ-loop
-loop-holds c = (omega arith, scan-none (c .before .args .t1) emptyIn noOrder (getD (c .before .args .t1) 0 noSummary))
+loop-holds c = (omega arith, omega arith, scan-none (c .args .t1) emptyIn noOrder)
 
--- src/lib.rt:526:17
+-- src/lib.rt:443:17
 mul-x : tie.Need-mul-x Inv-loop μ-loop
 mul-x c = omega arith
 
--- src/lib.rt:526:17
+-- src/lib.rt:443:17
 array-copy-out-x : tie.Need-array-copy-out-x Inv-loop μ-loop
 array-copy-out-x c = omega arith
 
--- src/lib.rt:527:13
-is-empty-requires : tie.Need-is-empty-requires Inv-loop μ-loop
-is-empty-requires c κs = search needs
+-- src/lib.rt:444:13
+negated-requires : tie.Need-negated-requires Inv-loop μ-loop
+negated-requires c κs = search needs
 
--- src/lib.rt:528:9
-pick-with-requires : tie.Need-pick-with-requires Inv-loop μ-loop
-pick-with-requires c κs = search needs
+-- src/lib.rt:445:9
+place-with-requires : tie.Need-place-with-requires Inv-loop μ-loop
+place-with-requires c κs = search needs
 
--- src/lib.rt:525:9
+-- src/lib.rt:446:9
+either-requires : tie.Need-either-requires Inv-loop μ-loop
+either-requires c κs = search needs
+
+-- src/lib.rt:442:9
 add-i : tie.Need-add-i Inv-loop μ-loop
 add-i c = omega arith
 
--- src/lib.rt:525:5
+-- src/lib.rt:442:5
 loop-less : tie.Need-loop-less Inv-loop μ-loop
 loop-less c = omega arith
 
--- src/lib.rt:525:5
+-- src/lib.rt:442:5
 loop-again : tie.Need-loop-again Inv-loop μ-loop
-loop-again c = (omega arith, scan-turn (c .before .before .before .before .before .before .args .t1) emptyIn noOrder (getD (c .before .before .before .before .before .before .args .t1) 0 noSummary) (c .before .before .before .before .loop .i) (c .before .before .before .before .loop .p) (c .pick-with .result) (c .before .is-empty .result) _ (c .before .before .before .before .loop .inv .1) (c .before .is-empty .ensures) refl (c .pick-with .ensures))
+unfolding emptyIn
+loop-again c = (
+  omega arith,
+  place-below (c .before .before .negated .result) (c .before .before .before .before .before .loop .some) false (c .before .before .before .before .before .loop .at) (c .before .before .before .before .before .loop .i) 64 (c .before .place-with .result) (omega arith) (omega arith) (c .before .place-with .ensures),
+  scan-turn (c .before .before .before .before .before .before .args .t1) emptyIn noOrder (c .before .before .before .before .before .loop .i) (c .before .before .before .before .before .loop .at) (c .before .place-with .result) (c .before .before .before .before .before .loop .some) (c .before .before .negated .result) false (c .either .result)
+      (c .before .before .before .before .before .loop .inv .2) (c .before .before .negated .ensures) refl (c .before .place-with .ensures) (c .either .ensures),
+)
 
--- src/lib.rt:516:1
+-- src/lib.rt:448:5
+found-at-requires : tie.Need-found-at-requires Inv-loop μ-loop
+found-at-requires c κs = search needs
+
+-- src/lib.rt:436:1
 returns : tie.Need-returns Inv-loop μ-loop
-returns c = let e : c .before .loop .i ≡ c .before .before .before .args .n = omega arith in c .before .loop .inv .1 .found ∙ ap (λ (k : ℕ). pickFrom (c .before .before .before .args .t1) k emptyIn noOrder) e
+returns c = let e : c .before .before .loop .i ≡ c .before .before .before .args .n = omega arith in
+    c .found-at .ensures ∙ c .before .before .loop .inv .2 ∙ ap (λ (k : ℕ). pickFrom (c .before .before .before .args .t1) k emptyIn noOrder) e
 
 pub first-empty-spec : {M : Type 1} → statement M
 first-empty-spec =
@@ -64,13 +77,14 @@ first-empty-spec =
     (tie.spec
     Inv-loop
     μ-loop
-    array-copy-out-start
     loop-holds
     mul-x
     array-copy-out-x
-    is-empty-requires
-    pick-with-requires
+    negated-requires
+    place-with-requires
+    either-requires
     add-i
     loop-less
     loop-again
+    found-at-requires
     returns)

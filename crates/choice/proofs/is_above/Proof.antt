@@ -1,24 +1,18 @@
-use Rattle.choice.specs.Summary.{aboveIn}
-use borrow.Author.Needs.{needs}
+use Rattle.choice.specs.Summary.{aboveBy}
 use Rattle.choice.proofs.is_above.Statement.{statement}
 use Rattle.choice.proofs.is_above.Tie as tie
 use Rattle.choice.proofs.is_above.Reads as reads
 use Rattle.choice.proofs.is_above.Lts as lts
-use Rattle.choice.proofs.both.Reads as both-reads
-use Rattle.choice.proofs.negated.Reads as negated-reads
 
--- src/lib.rt:403:18
-negated-requires : tie.Need-negated-requires
-negated-requires c κs = search needs
-
--- src/lib.rt:403:5
-both-requires : tie.Need-both-requires
-both-requires c κs = search needs
-
--- src/lib.rt:399:1
+-- src/lib.rt:238:9
 returns : tie.Need-returns
-unfolding aboveIn
-returns c = rw (c .both .ensures, c .before .negated .ensures)
+unfolding aboveBy
+returns c = simp (c .before .if1 .taken)
+
+-- src/lib.rt:234:1
+returns-2 : tie.Need-returns-2
+unfolding aboveBy
+returns-2 c = simp (c .if1 .left)
 
 pub is-above-spec : {M : Type 1} → statement M
-is-above-spec = tie.close (tie.spec negated-requires both-requires returns)
+is-above-spec = tie.close (tie.spec returns returns-2)

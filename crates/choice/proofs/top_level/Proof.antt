@@ -1,83 +1,88 @@
-use mathlib.Core.Path.{_≡_, refl, sym, _∙_, ap}
-use Prim.Native.Nat.{ℕ, _≤_, _<_, _+_, _-_}
-use lib.ListN.{getD}
-use Rattle.choice.proofs.ScanLaws.{Scanned, scan-none, scan-turn, top-none, top-some}
-use Rattle.choice.specs.Summary.{aboveIn, higher, noSummary, topFrom}
+use mathlib.Core.Path.{_≡_, refl}
+use Prim.Native.Nat.{_≤_, _<_, _-_}
 use native.Mathlib.Omega.{arith}
 use borrow.Author.Needs.{needs}
+use lib.ListN.{getD}
+use Rattle.choice.specs.Summary.{noSummary, aboveIn, higher, pickFrom, foundAt}
+use Rattle.choice.proofs.ScanLaws.{scan-none, scan-turn, place-below, top-none, top-some}
 use Rattle.choice.proofs.top_level.Statement.{statement}
 use Rattle.choice.proofs.top_level.Tie as tie
 use Rattle.choice.proofs.top_level.Reads as reads
 use Rattle.choice.proofs.top_level.Lts as lts
-use Rattle.choice.proofs.is_above.Reads as is-above-reads
+use Rattle.choice.proofs.either.Reads as either-reads
 use Rattle.choice.proofs.is_higher.Reads as is-higher-reads
-use Rattle.choice.proofs.level_in.Reads as level-in-reads
-use Rattle.choice.proofs.pick_with.Reads as pick-with-reads
+use Rattle.choice.proofs.place_with.Reads as place-with-reads
 
 abbrev Inv-loop : tie.InvT-loop
-Inv-loop n m p₀ i₀ p i = (i ≤ n) × Scanned m aboveIn higher (p₀ .best) i p
+Inv-loop n m some₀ at₀ i₀ some at i = (i ≤ n) × (at < 64) × (foundAt some at ≡ pickFrom m i aboveIn higher)
 
 abbrev μ-loop : tie.MeasureT-loop
-μ-loop n m p₀ i₀ p i = n - i
+μ-loop n m some₀ at₀ i₀ some at i = n - i
 
--- src/lib.rt:558:17
-array-copy-out-start : tie.Need-array-copy-out-start Inv-loop μ-loop
-array-copy-out-start c = omega arith
-
--- src/lib.rt:563:5
+-- src/lib.rt:476:5
 loop-holds : tie.Need-loop-holds Inv-loop μ-loop
-loop-holds c = (omega arith, scan-none (c .before .args .t1) aboveIn higher (getD (c .before .args .t1) 0 noSummary))
+loop-holds c = (omega arith, omega arith, scan-none (c .args .t1) aboveIn higher)
 
--- src/lib.rt:564:17
+-- src/lib.rt:477:17
 mul-x : tie.Need-mul-x Inv-loop μ-loop
 mul-x c = omega arith
 
--- src/lib.rt:564:17
+-- src/lib.rt:477:17
 array-copy-out-x : tie.Need-array-copy-out-x Inv-loop μ-loop
 array-copy-out-x c = omega arith
 
--- src/lib.rt:566:13
-is-above-requires : tie.Need-is-above-requires Inv-loop μ-loop
-is-above-requires c κs = search needs
+-- src/lib.rt:478:17
+mul-y : tie.Need-mul-y Inv-loop μ-loop
+mul-y c = omega arith
 
--- src/lib.rt:567:13
+-- src/lib.rt:478:17
+array-copy-out-y : tie.Need-array-copy-out-y Inv-loop μ-loop
+array-copy-out-y c = omega arith
+
+-- src/lib.rt:480:13
 is-higher-requires : tie.Need-is-higher-requires Inv-loop μ-loop
 is-higher-requires c κs = search needs
 
--- src/lib.rt:568:9
-pick-with-requires : tie.Need-pick-with-requires Inv-loop μ-loop
-pick-with-requires c κs = search needs
+-- src/lib.rt:481:9
+place-with-requires : tie.Need-place-with-requires Inv-loop μ-loop
+place-with-requires c κs = search needs
 
--- src/lib.rt:563:9
+-- src/lib.rt:482:9
+either-requires : tie.Need-either-requires Inv-loop μ-loop
+either-requires c κs = search needs
+
+-- src/lib.rt:476:9
 add-i : tie.Need-add-i Inv-loop μ-loop
 add-i c = omega arith
 
--- src/lib.rt:563:5
+-- src/lib.rt:476:5
 loop-less : tie.Need-loop-less Inv-loop μ-loop
 loop-less c = omega arith
 
--- src/lib.rt:563:5
+-- src/lib.rt:476:5
 loop-again : tie.Need-loop-again Inv-loop μ-loop
-loop-again c = (omega arith, scan-turn (c .before .before .before .before .before .before .before .before .args .t1) aboveIn higher (getD (c .before .before .before .before .before .before .before .before .args .t1) 0 noSummary) (c .before .before .before .before .before .before .loop .i) (c .before .before .before .before .before .before .loop .p) (c .pick-with .result) (c .before .before .is-above .result) (c .before .is-higher .result) (c .before .before .before .before .before .before .loop .inv .1) (c .before .before .is-above .ensures) (c .before .is-higher .ensures) (c .pick-with .ensures))
+loop-again c = (
+  omega arith,
+  place-below (getD (c .before .before .before .before .before .before .before .args .t1) (c .before .before .before .before .before .before .loop .i) noSummary .above) (c .before .before .before .before .before .before .loop .some) (c .before .before .is-higher .result) (c .before .before .before .before .before .before .loop .at) (c .before .before .before .before .before .before .loop .i) 64 (c .before .place-with .result) (omega arith) (omega arith) (c .before .place-with .ensures),
+  scan-turn (c .before .before .before .before .before .before .before .args .t1) aboveIn higher (c .before .before .before .before .before .before .loop .i) (c .before .before .before .before .before .before .loop .at) (c .before .place-with .result) (c .before .before .before .before .before .before .loop .some) (getD (c .before .before .before .before .before .before .before .args .t1) (c .before .before .before .before .before .before .loop .i) noSummary .above) (c .before .before .is-higher .result) (c .either .result)
+      (c .before .before .before .before .before .before .loop .inv .2) refl (c .before .before .is-higher .ensures) (c .before .place-with .ensures) (c .either .ensures),
+)
 
-enum-told : tie.Need-enum-told Inv-loop μ-loop
-enum-told c = omega arith
+-- src/lib.rt:484:15
+mul-top : tie.Need-mul-top Inv-loop μ-loop
+mul-top c = omega arith
 
--- src/lib.rt:572:9
-enum-told-2 : tie.Need-enum-told-2 Inv-loop μ-loop
-enum-told-2 c = omega arith
+-- src/lib.rt:484:15
+array-copy-out-top : tie.Need-array-copy-out-top Inv-loop μ-loop
+array-copy-out-top c = omega arith
 
--- src/lib.rt:572:9
+-- src/lib.rt:487:9
 returns : tie.Need-returns Inv-loop μ-loop
-returns c = top-none (c .before .before .before .before .before .args .t1) (getD (c .before .before .before .before .before .args .t1) 0 noSummary) (c .before .before .before .before .before .args .n) (c .before .before .before .loop .i) (c .before .before .before .loop .p) (omega arith) (c .before .before .before .loop .inv .1) (c .enum-told2 .given .1)
+returns c = top-some (c .before .before .before .before .before .before .args .t1) (c .before .before .before .before .before .before .args .n) (c .before .before .before .before .before .loop .i) (c .before .before .before .before .before .loop .at) (c .before .before .before .before .before .loop .some) (omega arith) (c .before .before .before .before .before .loop .inv .2) (c .before .if1 .taken)
 
--- src/lib.rt:576:5
-level-in-requires : tie.Need-level-in-requires Inv-loop μ-loop
-level-in-requires c κs = search needs
-
--- src/lib.rt:554:1
+-- src/lib.rt:470:1
 returns-2 : tie.Need-returns-2 Inv-loop μ-loop
-returns-2 c = top-some (c .before .before .before .before .before .before .before .before .args .t1) (getD (c .before .before .before .before .before .before .before .before .args .t1) 0 noSummary) (c .before .before .before .before .before .before .before .before .args .n) (c .before .before .before .before .before .before .loop .i) (c .before .before .before .before .before .before .loop .p) _ (c .level-in .result) (omega arith) (c .before .before .before .before .before .before .loop .inv .1) (c .before .before .before .enum-told .given .1) (c .level-in .ensures)
+returns-2 c = top-none (c .before .before .before .before .before .args .t1) (c .before .before .before .before .before .args .n) (c .before .before .before .before .loop .i) (c .before .before .before .before .loop .at) (c .before .before .before .before .loop .some) (omega arith) (c .before .before .before .before .loop .inv .2) (c .if1 .left)
 
 pub top-level-spec : {M : Type 1} → statement M
 top-level-spec =
@@ -85,18 +90,18 @@ top-level-spec =
     (tie.spec
     Inv-loop
     μ-loop
-    array-copy-out-start
     loop-holds
     mul-x
     array-copy-out-x
-    is-above-requires
+    mul-y
+    array-copy-out-y
     is-higher-requires
-    pick-with-requires
+    place-with-requires
+    either-requires
     add-i
     loop-less
     loop-again
-    enum-told
-    enum-told-2
+    mul-top
+    array-copy-out-top
     returns
-    level-in-requires
     returns-2)

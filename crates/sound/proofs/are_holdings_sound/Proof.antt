@@ -25,29 +25,29 @@ use Rattle.sound.proofs.is_holding_sound.Reads as is-holding-sound-read
 use Rattle.sound.proofs.latest_arrival.Reads as latest-arrival-reads
 
 abbrev Inv-loop2 : tie.InvT-loop2
-Inv-loop2 s latest ok clear i x fit₀ wrote₀ number₀ r₀ fit wrote number r = (r ≤ 32) × (fit ≡ allBelow r (soundHolding s i)) × (wrote ≡ anyBelow r (λ row. isWrite (holdingAt s i row .pin))) × (number ≡ countBelow r (λ row. isPin (holdingAt s i row .pin)))
+Inv-loop2 s rows slots holdings ok clear i latest x fit₀ wrote₀ number₀ r₀ fit wrote number r = (r ≤ 32) × (fit ≡ allBelow r (soundHolding s i)) × (wrote ≡ anyBelow r (λ row. isWrite (holdingAt s i row .pin))) × (number ≡ countBelow r (λ row. isPin (holdingAt s i row .pin)))
 
 abbrev μ-loop2 : tie.MeasureT-loop2
-μ-loop2 s latest ok clear i x fit₀ wrote₀ number₀ r₀ fit wrote number r = 32 - r
+μ-loop2 s rows slots holdings ok clear i latest x fit₀ wrote₀ number₀ r₀ fit wrote number r = 32 - r
 
 abbrev Inv-loop : tie.InvT-loop
-Inv-loop s latest ok₀ clear₀ i₀ ok clear i = (i ≤ 64) × (ok ≡ allBelow i (λ slot. allBelow 32 (soundHolding s slot))) × (clear ≡ allBelow i (soundPins s))
+Inv-loop s rows slots holdings ok₀ clear₀ i₀ ok clear i = (i ≤ 64) × (ok ≡ allBelow i (λ slot. allBelow 32 (soundHolding s slot))) × (clear ≡ allBelow i (soundPins s))
 
 abbrev μ-loop : tie.MeasureT-loop
-μ-loop s latest ok₀ clear₀ i₀ ok clear i = 64 - i
-
-latest-arrival-requires : tie.Need-latest-arrival-requires Inv-loop2 μ-loop2 Inv-loop μ-loop
-latest-arrival-requires c κs = search needs
+μ-loop s rows slots holdings ok₀ clear₀ i₀ ok clear i = 64 - i
 
 loop-holds : tie.Need-loop-holds Inv-loop2 μ-loop2 Inv-loop μ-loop
 unfolding allBelow
 loop-holds c = (omega arith, refl, refl)
 
+latest-arrival-requires : tie.Need-latest-arrival-requires Inv-loop2 μ-loop2 Inv-loop μ-loop
+latest-arrival-requires c κs = search needs
+
 mul-x : tie.Need-mul-x Inv-loop2 μ-loop2 Inv-loop μ-loop
 mul-x c = omega arith
 
-element-copy-out-x : tie.Need-element-copy-out-x Inv-loop2 μ-loop2 Inv-loop μ-loop
-element-copy-out-x c = omega arith
+array-copy-out-x : tie.Need-array-copy-out-x Inv-loop2 μ-loop2 Inv-loop μ-loop
+array-copy-out-x c = omega arith
 
 loop2-holds : tie.Need-loop2-holds Inv-loop2 μ-loop2 Inv-loop μ-loop
 unfolding allBelow anyBelow countBelow
@@ -62,14 +62,14 @@ add-h c = omega arith
 mul-h-2 : tie.Need-mul-h-2 Inv-loop2 μ-loop2 Inv-loop μ-loop
 mul-h-2 c = omega arith
 
-element-copy-out-h : tie.Need-element-copy-out-h Inv-loop2 μ-loop2 Inv-loop μ-loop
-element-copy-out-h c = omega arith
+array-copy-out-h : tie.Need-array-copy-out-h Inv-loop2 μ-loop2 Inv-loop μ-loop
+array-copy-out-h c = omega arith
 
 mul-y : tie.Need-mul-y Inv-loop2 μ-loop2 Inv-loop μ-loop
 mul-y c = omega arith
 
-element-copy-out-y : tie.Need-element-copy-out-y Inv-loop2 μ-loop2 Inv-loop μ-loop
-element-copy-out-y c = omega arith
+array-copy-out-y : tie.Need-array-copy-out-y Inv-loop2 μ-loop2 Inv-loop μ-loop
+array-copy-out-y c = omega arith
 
 is-holding-sound-requires : tie.Need-is-holding-sound-requires Inv-loop2 μ-loop2 Inv-loop μ-loop
 is-holding-sound-requires c κs = search needs
@@ -87,7 +87,9 @@ either-requires : tie.Need-either-requires Inv-loop2 μ-loop2 Inv-loop μ-loop
 either-requires c κs = search needs
 
 counted-requires : tie.Need-counted-requires Inv-loop2 μ-loop2 Inv-loop μ-loop
-counted-requires c κs = let s = c .before .before .before .before .before .before .before .before .before .before .before .before .before .args .t1 in let i = c .before .before .before .before .before .before .before .before .before .before .before .loop .i in omega (arith, c .before .before .before .before .before .before .before .before .loop2 .inv .3, count-at-most (λ row. isPin (holdingAt s i row .pin)) (c .before .before .before .before .before .before .before .before .loop2 .r))
+counted-requires c κs = let s = c .before .before .before .before .before .before .before .before .before .before .before .before .before .before .before .before .args .s in
+    let i = c .before .before .before .before .before .before .before .before .before .before .before .before .loop .i in
+    omega (arith, c .before .before .before .before .before .before .before .before .loop2 .inv .3, count-at-most (λ row. isPin (holdingAt s i row .pin)) (c .before .before .before .before .before .before .before .before .loop2 .r))
 
 add-r : tie.Need-add-r Inv-loop2 μ-loop2 Inv-loop μ-loop
 add-r c = omega arith
@@ -96,13 +98,13 @@ loop2-less : tie.Need-loop2-less Inv-loop2 μ-loop2 Inv-loop μ-loop
 loop2-less c = omega arith
 
 loop2-again : tie.Need-loop2-again Inv-loop2 μ-loop2 Inv-loop μ-loop
-loop2-again c = let s = c .before .before .before .before .before .before .before .before .before .before .before .before .before .before .args .t1 in
-    let i = c .before .before .before .before .before .before .before .before .before .before .before .before .loop .i in
+loop2-again c = let s = c .before .before .before .before .before .before .before .before .before .before .before .before .before .before .before .before .before .args .s in
+    let i = c .before .before .before .before .before .before .before .before .before .before .before .before .before .loop .i in
     let r = c .before .before .before .before .before .before .before .before .before .loop2 .r in
     let w = c .before .before .before .before .before .before .before .before .before .loop2 in (
       omega arith,
       all-turn (soundHolding s i) r (w .fit) (c .before .before .before .before .before .is-holding-sound .result) (c .before .before .both .result) (w .inv .1)
-          (c .before .before .before .before .before .is-holding-sound .ensures ∙ ap (λ (n : ℕ). holdingTest (levelOf r) (rowAt s r) (slotAt s i) (holdingAt s i r) n) (c .before .before .before .before .before .before .before .before .before .before .before .before .before .latest-arrival .ensures) ∙ holding-test s i r)
+          (c .before .before .before .before .before .is-holding-sound .ensures ∙ ap (λ (n : ℕ). holdingTest (levelOf r) (rowAt s r) (slotAt s i) (holdingAt s i r) n) (c .before .before .before .before .before .before .before .before .before .before .before .latest-arrival .ensures) ∙ holding-test s i r)
           (c .before .before .both .ensures),
       any-test-turn (λ row. isWrite (holdingAt s i row .pin)) r (w .wrote) (c .before .before .before .before .is-write .result) (c .before .either .result) (w .inv .2) (c .before .before .before .before .is-write .ensures) (c .before .either .ensures),
       count-turn (λ row. isPin (holdingAt s i row .pin)) r (w .number) (c .before .before .before .is-pin .result) (c .counted .result) (w .inv .3) (c .before .before .before .is-pin .ensures) (c .counted .ensures),
@@ -124,9 +126,9 @@ loop-less : tie.Need-loop-less Inv-loop2 μ-loop2 Inv-loop μ-loop
 loop-less c = omega arith
 
 loop-again : tie.Need-loop-again Inv-loop2 μ-loop2 Inv-loop μ-loop
-loop-again c = let s = c .before .before .before .before .before .before .before .before .before .args .t1 in
-    let i = c .before .before .before .before .before .before .before .loop .i in
-    let o = c .before .before .before .before .before .before .before .loop in
+loop-again c = let s = c .before .before .before .before .before .before .before .before .before .before .before .before .args .s in
+    let i = c .before .before .before .before .before .before .before .before .loop .i in
+    let o = c .before .before .before .before .before .before .before .before .loop in
     let w = c .before .before .before .before .loop2 in
     let e : c .before .before .before .before .loop2 .r ≡ 32 = omega arith in (
       omega arith,
@@ -139,7 +141,7 @@ both-requires-4 : tie.Need-both-requires-4 Inv-loop2 μ-loop2 Inv-loop μ-loop
 both-requires-4 c κs = search needs
 
 returns : tie.Need-returns Inv-loop2 μ-loop2 Inv-loop μ-loop
-returns c = let s = c .before .before .before .before .args .t1 in
+returns c = let s = c .before .before .before .before .before .before .args .s in
     let o = c .before .before .loop in
     let e : c .before .before .loop .i ≡ 64 = omega arith in
     c .both4 .ensures ∙ both-at (λ slot. allBelow 32 (soundHolding s slot)) (soundPins s) (o .i) 64 (o .ok) (o .clear) e (o .inv .1) (o .inv .2)
@@ -152,17 +154,17 @@ are-holdings-sound-spec =
     μ-loop2
     Inv-loop
     μ-loop
-    latest-arrival-requires
     loop-holds
+    latest-arrival-requires
     mul-x
-    element-copy-out-x
+    array-copy-out-x
     loop2-holds
     mul-h
     add-h
     mul-h-2
-    element-copy-out-h
+    array-copy-out-h
     mul-y
-    element-copy-out-y
+    array-copy-out-y
     is-holding-sound-requires
     is-write-requires
     is-pin-requires

@@ -1,10 +1,11 @@
 use mathlib.Core.Path.{_≡_, refl, _∙_, ap}
 use Prim.Native.Nat.{ℕ, _≤_, _-_}
+use lib.ListN.{getD}
 use native.Mathlib.Omega.{arith}
 use borrow.Author.Needs.{needs}
 use Rattle.seq.specs.Below.{allBelow}
-use Rattle.seq.proofs.BelowLaws.{all-turn}
-use Rattle.model.specs.State.{slotAt}
+use Rattle.seq.proofs.BelowLaws.{all-turn, all-same}
+use Rattle.model.specs.State.{emptySlot, slotAt}
 use Rattle.rules.specs.Sound.{soundSlot}
 use Rattle.sound.specs.Elements.{slotTest}
 use Rattle.sound.proofs.ElementLaws.{slot-test}
@@ -17,10 +18,10 @@ use Rattle.sound.proofs.is_slot_sound.Reads as is-slot-sound-reads
 use Rattle.sound.proofs.latest_arrival.Reads as latest-arrival-reads
 
 abbrev Inv-loop : tie.InvT-loop
-Inv-loop s size clock latest ok₀ i₀ ok i = (i ≤ 64) × (ok ≡ allBelow i (soundSlot s))
+Inv-loop size clock latest slots ok₀ i₀ ok i = (i ≤ 64) × (ok ≡ allBelow i (λ slot. slotTest (getD slots slot emptySlot) slot size clock latest))
 
 abbrev μ-loop : tie.MeasureT-loop
-μ-loop s size clock latest ok₀ i₀ ok i = 64 - i
+μ-loop size clock latest slots ok₀ i₀ ok i = 64 - i
 
 latest-arrival-requires : tie.Need-latest-arrival-requires Inv-loop μ-loop
 latest-arrival-requires c κs = search needs
@@ -32,8 +33,8 @@ loop-holds c = (omega arith, refl)
 mul-x : tie.Need-mul-x Inv-loop μ-loop
 mul-x c = omega arith
 
-element-copy-out-x : tie.Need-element-copy-out-x Inv-loop μ-loop
-element-copy-out-x c = omega arith
+array-copy-out-x : tie.Need-array-copy-out-x Inv-loop μ-loop
+array-copy-out-x c = omega arith
 
 is-slot-sound-requires : tie.Need-is-slot-sound-requires Inv-loop μ-loop
 is-slot-sound-requires c κs = search needs
@@ -48,16 +49,19 @@ loop-less : tie.Need-loop-less Inv-loop μ-loop
 loop-less c = omega arith
 
 loop-again : tie.Need-loop-again Inv-loop μ-loop
-loop-again c = let s = c .before .before .before .before .before .before .args .t1 in
-    let i = c .before .before .before .before .loop .i in (
+loop-again c = let s = c .before .before .before .before .before .before .before .args .s in
+    let latest = c .before .before .before .before .before .before .latest-arrival .result in (
       omega arith,
-      all-turn (soundSlot s) i (c .before .before .before .before .loop .ok) (c .before .is-slot-sound .result) (c .both .result) (c .before .before .before .before .loop .inv .1)
-          (c .before .is-slot-sound .ensures ∙ ap (λ (n : ℕ). slotTest (slotAt s i) i (s .size) (s .clock) n) (c .before .before .before .before .before .latest-arrival .ensures) ∙ slot-test s i)
-          (c .both .ensures),
+      all-turn (λ slot. slotTest (slotAt s slot) slot (s .size) (s .clock) latest) (c .before .before .before .before .loop .i) (c .before .before .before .before .loop .ok) (c .before .is-slot-sound .result) (c .both .result) (c .before .before .before .before .loop .inv .1)
+          (c .before .is-slot-sound .ensures) (c .both .ensures),
     )
 
 returns : tie.Need-returns Inv-loop μ-loop
-returns c = let e : c .before .loop .i ≡ 64 = omega arith in c .before .loop .inv .1 ∙ ap (λ (n : ℕ). allBelow n (soundSlot (c .before .before .before .args .t1))) e
+returns c = let s = c .before .before .before .before .args .s in
+    let e : c .before .loop .i ≡ 64 = omega arith in
+    let latest = c .before .before .before .latest-arrival in
+    c .before .loop .inv .1 ∙ ap (λ (n : ℕ). allBelow n (λ slot. slotTest (slotAt s slot) slot (s .size) (s .clock) (latest .result))) e
+    ∙ all-same _ (soundSlot s) 64 (λ i h. ap (λ (n : ℕ). slotTest (slotAt s i) i (s .size) (s .clock) n) (latest .ensures) ∙ slot-test s i)
 
 pub are-slots-sound-spec : {M : Type 1} → statement M
 are-slots-sound-spec =
@@ -68,7 +72,7 @@ are-slots-sound-spec =
     latest-arrival-requires
     loop-holds
     mul-x
-    element-copy-out-x
+    array-copy-out-x
     is-slot-sound-requires
     both-requires
     add-i

@@ -6,7 +6,7 @@ use Rattle.sound.proofs.is_sound.Tie as tie
 use Rattle.sound.proofs.is_sound.Reads as reads
 use Rattle.sound.proofs.is_sound.Lts as lts
 use Rattle.sound.proofs.are_holdings_sound.Reads as are-holdings-sound-reads
-use Rattle.sound.proofs.are_pages_sound.Reads as are-pages-sound-reads
+use Rattle.sound.proofs.are_pages_apart.Reads as are-pages-apart-reads
 use Rattle.sound.proofs.are_rows_sound.Reads as are-rows-sound-reads
 use Rattle.sound.proofs.are_slots_sound.Reads as are-slots-sound-reads
 use Rattle.sound.proofs.both.Reads as both-reads
@@ -18,8 +18,8 @@ is-in-range-requires c κs = search needs
 are-slots-sound-requires : tie.Need-are-slots-sound-requires
 are-slots-sound-requires c κs = search needs
 
-are-pages-sound-requires : tie.Need-are-pages-sound-requires
-are-pages-sound-requires c κs = search needs
+are-pages-apart-requires : tie.Need-are-pages-apart-requires
+are-pages-apart-requires c κs = search needs
 
 are-rows-sound-requires : tie.Need-are-rows-sound-requires
 are-rows-sound-requires c κs = search needs
@@ -43,8 +43,8 @@ returns : tie.Need-returns
 returns c =
     let s = c .before .before .before .before .before .before .before .before .before .args .s in
     sound-test s (state-ok s _ (c .before .before .before .before .before .before .before .before .before .good .0) .sized)
-    (c .before .before .before .before .before .before .before .before .is-in-range .result) (c .before .before .before .before .before .before .before .are-slots-sound .result) (c .before .before .before .before .before .before .are-pages-sound .result) (c .before .before .before .before .before .are-rows-sound .result) (c .before .before .before .before .are-holdings-sound .result) (c .before .before .before .both .result) (c .before .before .both2 .result) (c .before .both3 .result) (c .both4 .result)
-    (c .before .before .before .before .before .before .before .before .is-in-range .ensures) (c .before .before .before .before .before .before .before .are-slots-sound .ensures) (c .before .before .before .before .before .before .are-pages-sound .ensures) (c .before .before .before .before .before .are-rows-sound .ensures) (c .before .before .before .before .are-holdings-sound .ensures) (c .before .before .before .both .ensures) (c .before .before .both2 .ensures) (c .before .both3 .ensures) (c .both4 .ensures)
+    (c .before .before .before .before .before .before .before .before .is-in-range .result) (c .before .before .before .before .before .before .before .are-slots-sound .result) (c .before .before .before .before .before .before .are-pages-apart .result) (c .before .before .before .before .before .are-rows-sound .result) (c .before .before .before .before .are-holdings-sound .result) (c .before .before .before .both .result) (c .before .before .both2 .result) (c .before .both3 .result) (c .both4 .result)
+    (c .before .before .before .before .before .before .before .before .is-in-range .ensures) (c .before .before .before .before .before .before .before .are-slots-sound .ensures) (c .before .before .before .before .before .before .are-pages-apart .ensures) (c .before .before .before .before .before .are-rows-sound .ensures) (c .before .before .before .before .are-holdings-sound .ensures) (c .before .before .before .both .ensures) (c .before .before .both2 .ensures) (c .before .both3 .ensures) (c .both4 .ensures)
 
 pub is-sound-spec : {M : Type 1} → statement M
 is-sound-spec =
@@ -52,7 +52,7 @@ is-sound-spec =
     (tie.spec
     is-in-range-requires
     are-slots-sound-requires
-    are-pages-sound-requires
+    are-pages-apart-requires
     are-rows-sound-requires
     are-holdings-sound-requires
     both-requires

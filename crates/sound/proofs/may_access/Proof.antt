@@ -1,35 +1,31 @@
-use mathlib.Core.Path.{sym}
-use Prim.Native.Nat.{_/_}
-use native.Mathlib.Omega.{arith}
-use borrow.Author.Tests.{le-leb, lt-leb}
 use Rattle.model.specs.Parties.{allowed}
 use borrow.Author.Needs.{needs}
 use Rattle.sound.proofs.may_access.Statement.{statement}
 use Rattle.sound.proofs.may_access.Tie as tie
 use Rattle.sound.proofs.may_access.Reads as reads
 use Rattle.sound.proofs.may_access.Lts as lts
-use Rattle.model.proofs.is_allowed.Reads as is-allowed-reads
 
-is-allowed-requires : tie.Need-is-allowed-requires
-is-allowed-requires c κs = search needs
+-- src/lib.rt:307:17
+cast-class : tie.Need-cast-class
+cast-class c = search needs
 
-returns : tie.Need-returns
-returns c = search needs
-
+-- src/lib.rt:309:23
 enum-told : tie.Need-enum-told
 enum-told c = search needs
 
-returns-2 : tie.Need-returns-2
-unfolding allowed
-returns-2 c = rw (c .enum-told .given .1) (sym (lt-leb (c .before .before .before .args .page / 1024) (c .before .before .before .args .level) (omega arith)))
-
+-- src/lib.rt:310:24
 enum-told-2 : tie.Need-enum-told-2
 enum-told-2 c = search needs
 
-returns-3 : tie.Need-returns-3
+-- src/lib.rt:304:1
+returns : tie.Need-returns
 unfolding allowed
-returns-3 c = rw (c .enum-told2 .given .1) (sym (le-leb (c .before .before .before .args .level) (c .before .before .before .args .page / 1024) (omega arith)))
+returns c = rw (c .enum-told .given .1)
+
+-- src/lib.rt:304:1
+returns-2 : tie.Need-returns-2
+unfolding allowed
+returns-2 c = rw (c .enum-told2 .given .1)
 
 pub may-access-spec : {M : Type 1} → statement M
-may-access-spec =
-    tie.close (tie.spec is-allowed-requires returns enum-told returns-2 enum-told-2 returns-3)
+may-access-spec = tie.close (tie.spec cast-class enum-told enum-told-2 returns returns-2)

@@ -1,0 +1,93 @@
+use mathlib.Core.Path.{_≡_, refl, _∙_}
+use mathlib.Core.Bool.{Bool}
+use Prim.Native.Nat.{ℕ, _≤_, _-_}
+use native.Mathlib.Omega.{arith}
+use borrow.Author.Needs.{needs}
+use lib.Dec.{ltb}
+use Rattle.seq.specs.Below.{anyBelow, pickBelow, atFound}
+use Rattle.seq.proofs.BelowLaws.{any-test-turn}
+use Rattle.seq.proofs.ValueLaws.{value-turn}
+use Rattle.model.specs.declared.Pin.the-variants.{Absent}
+use Rattle.model.specs.Words.{strength, stronger}
+use Rattle.serve.specs.Elements.{seenTest}
+use Rattle.serve.specs.SlotHoldings.{heldBy}
+use Rattle.calls.specs.Elements.{strongestOf, strongestIn}
+use Rattle.calls.proofs.strongest_pin.Statement.{statement}
+use Rattle.calls.proofs.strongest_pin.Tie as tie
+use Rattle.calls.proofs.strongest_pin.Reads as reads
+use Rattle.calls.proofs.strongest_pin.Lts as lts
+use Rattle.calls.proofs.strongest_with.Reads as strongest-with-reads
+use Rattle.serve.proofs.either.Reads as either-reads
+use Rattle.serve.proofs.is_seen.Reads as is-seen-reads
+
+abbrev Inv-loop : tie.InvT-loop
+Inv-loop level held found₀ best₀ r₀ found best r = (r ≤ 32) × (found ≡ anyBelow r (λ row. seenTest level row (heldBy held row))) × (best ≡ atFound (pickBelow r (λ row. seenTest level row (heldBy held row)) (λ row other. ltb (strength (heldBy held other .pin)) (strength (heldBy held row .pin)))) (λ row. heldBy held row .pin) Absent)
+
+abbrev μ-loop : tie.MeasureT-loop
+μ-loop level held found₀ best₀ r₀ found best r = 32 - r
+
+-- src/lib.rt:553:5
+loop-holds : tie.Need-loop-holds Inv-loop μ-loop
+unfolding anyBelow pickBelow
+loop-holds c = (omega arith, refl, refl)
+
+-- src/lib.rt:554:17
+mul-h : tie.Need-mul-h Inv-loop μ-loop
+mul-h c = omega arith
+
+-- src/lib.rt:554:17
+array-copy-out-h : tie.Need-array-copy-out-h Inv-loop μ-loop
+array-copy-out-h c = omega arith
+
+-- src/lib.rt:556:13
+is-seen-requires : tie.Need-is-seen-requires Inv-loop μ-loop
+is-seen-requires c κs = search needs
+
+-- src/lib.rt:557:9
+strongest-with-requires : tie.Need-strongest-with-requires Inv-loop μ-loop
+strongest-with-requires c κs = search needs
+
+-- src/lib.rt:558:9
+either-requires : tie.Need-either-requires Inv-loop μ-loop
+either-requires c κs = search needs
+
+-- src/lib.rt:553:9
+add-r : tie.Need-add-r Inv-loop μ-loop
+add-r c = omega arith
+
+-- src/lib.rt:553:5
+loop-less : tie.Need-loop-less Inv-loop μ-loop
+loop-less c = omega arith
+
+-- src/lib.rt:553:5
+loop-again : tie.Need-loop-again Inv-loop μ-loop
+unfolding strongestOf stronger
+loop-again c = let held = c .before .before .before .before .before .before .args .t1 in
+    let p : ℕ → Bool = λ row. seenTest (c .before .before .before .before .before .before .args .level) row (heldBy held row) in
+    let w = c .before .before .before .before .before .loop in (
+      omega arith,
+      any-test-turn p (w .r) (w .found) (c .before .before .is-seen .result) (c .either .result) (w .inv .1) (c .before .before .is-seen .ensures) (c .either .ensures),
+      value-turn p (λ row. heldBy held row .pin) (λ x v. ltb (strength v) (strength x)) Absent (w .r) (c .before .before .is-seen .result) (heldBy held (w .r) .pin) (w .found) (w .best) (c .before .strongest-with .result) (c .before .before .is-seen .ensures) refl (w .inv .1) (w .inv .2) (c .before .strongest-with .ensures),
+    )
+
+-- src/lib.rt:548:1
+returns : tie.Need-returns Inv-loop μ-loop
+unfolding strongestIn
+returns c = let e : c .before .loop .r ≡ 32 = omega arith in c .before .loop .inv .2 ∙ rw e
+
+pub strongest-pin-spec : {M : Type 1} → statement M
+strongest-pin-spec =
+    tie.close
+    (tie.spec
+    Inv-loop
+    μ-loop
+    loop-holds
+    mul-h
+    array-copy-out-h
+    is-seen-requires
+    strongest-with-requires
+    either-requires
+    add-r
+    loop-less
+    loop-again
+    returns)
