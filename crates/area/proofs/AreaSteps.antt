@@ -1,0 +1,116 @@
+-- What the parts of decode and of encode come to together.
+use mathlib.Core.Path.{_≡_, refl, _∙_, sym, ap}
+use mathlib.Core.Bool.{Bool, true, false, _&&_}
+use mathlib.Core.List.{List, [], _∷_, _++_, append-assoc}
+use Prim.Native.Nat.{ℕ, _+_, _*_, _<_, _≤_}
+use native.Mathlib.Omega.{arith}
+use borrow.Author.Tests.{le-leb}
+use lib.ListN.{length, drop, set, replicate, length-append}
+use Rattle.seq.specs.Below.{allBelow}
+use Rattle.seq.proofs.BelowLaws.{all-more}
+use Rattle.words.specs.Bytes.{wordAt, hasWords, wordBytes, zeroWords, spliced}
+use Rattle.words.proofs.ByteLaws.{AllUnder}
+use Rattle.words.proofs.SpliceLaws.{spliced-more}
+use Rattle.model.specs.declared.Row.{Row}
+use Rattle.model.specs.declared.Slot.{Slot}
+use Rattle.model.specs.declared.Holding.{Holding}
+use Rattle.model.specs.declared.State.{State}
+use Rattle.model.specs.State.{withHoldings}
+use Rattle.rules.specs.Sound.{sound}
+use Rattle.area.specs.Layout.{mark, version, low, headerWords, exactRows, exactSlots, exactHoldings, decoded, encoded, exact, soundArea}
+use Rattle.area.proofs.Elements.{header-wide}
+use Rattle.area.proofs.Pieces.{rowsBytes, slotsBytes, holdingsBytes, rows-long, slots-long, holdings-long, zeros-long, exact-pieces}
+
+and-true-last : (z : Bool) → z && true ≡ z
+and-true-last true = refl
+and-true-last false = refl
+
+and-assoc : (x y z : Bool) → (x && y) && z ≡ x && (y && z)
+and-assoc true y z = refl
+and-assoc false y z = refl
+
+and-false-last : (z : Bool) → z && false ≡ false
+and-false-last true = refl
+and-false-last false = refl
+
+-- the tests in the order in which they are made, and in the order of the layout
+reordered : (h u v x y z : Bool) → ((h && (u && v)) && (x && y)) && z ≡ h && (u && (x && (y && (z && v))))
+reordered false u v x y z = refl
+reordered true false v x y z = refl
+reordered true true true x y z = rw (and-true-last z) (and-assoc x y z)
+reordered true true false x y z = rw (and-false-last z, and-false-last y, and-false-last x)
+
+pub exact-tests : (a : List ℕ) (f x y z p q g : Bool) → AllUnder 256 a → 65536 ≤ length a
+    → f ≡ hasWords a 0 (headerWords (decoded a)) && (hasWords a 40 (replicate 59 0) && hasWords a 55808 (replicate 1216 0))
+    → x ≡ exactRows a → y ≡ exactSlots a → z ≡ exactHoldings a → p ≡ x && y → q ≡ f && p → g ≡ q && z → g ≡ exact a
+unfolding exactRows exactSlots exactHoldings
+exact-tests a f x y z p q g u l ef ex ey ez ep eq eg =
+    let h = hasWords a 0 (headerWords (decoded a)) in
+    let w = hasWords a 40 (replicate 59 0) in
+    let v = hasWords a 55808 (replicate 1216 0) in
+    let m : g ≡ ((h && (w && v)) && (exactRows a && exactSlots a)) && exactHoldings a = rw (← ef, ← ex, ← ey, ← ez, ← ep, ← eq) eg in
+    m ∙ reordered h w v (exactRows a) (exactSlots a) (exactHoldings a) ∙ sym (exact-pieces a u l)
+
+-- the holdings read one after another into their place in the state
+pub holdings-still : (s : State) (l : List Holding) → s .holdings ≡ l → s ≡ withHoldings s l
+holdings-still s l e = λ i. record { size = s .size; delay = s .delay; clock = s .clock; rows = s .rows; slots = s .slots; holdings = e i }
+
+pub holdings-next : (s₀ s : State) (l m : List Holding) (k : ℕ) (x : Holding) → s ≡ withHoldings s₀ l → set l k x ≡ m → withHoldings s (set (s .holdings) k x) ≡ withHoldings s₀ m
+holdings-next s₀ s l m k x e f = rw (e, f)
+
+pub tests-next : (p : ℕ → Bool) (k : ℕ) (e₀ e t r : Bool) → e ≡ e₀ && allBelow k p → t ≡ p k → r ≡ e && t → r ≡ e₀ && allBelow (k + 1) p
+tests-next p k e₀ e t r a b c = rw (all-more p k, ← b) (rw a at c ∙ and-assoc e₀ (allBelow k p) t)
+
+-- the state that decode builds
+pub decode-state : (a : List ℕ) (s : State) → s .size ≡ wordAt a 16 → s .delay ≡ low (wordAt a 24) → s .clock ≡ low (wordAt a 32)
+    → s .rows ≡ decoded a .rows → s .slots ≡ decoded a .slots → s .holdings ≡ decoded a .holdings → s ≡ decoded a
+unfolding decoded
+decode-state a s e1 e2 e3 e4 e5 e6 = λ i. record { size = e1 i; delay = e2 i; clock = e3 i; rows = e4 i; slots = e5 i; holdings = e6 i }
+
+-- the header of the state that an area names
+pub framed : (a : List ℕ) (size delay clock : ℕ) → size ≡ wordAt a 16 → delay ≡ low (wordAt a 24) → clock ≡ low (wordAt a 32)
+    → hasWords a 0 (mark ∷ version ∷ size ∷ delay ∷ clock ∷ []) && (hasWords a 40 (replicate 59 0) && hasWords a 55808 (replicate 1216 0))
+    ≡ hasWords a 0 (headerWords (decoded a)) && (hasWords a 40 (replicate 59 0) && hasWords a 55808 (replicate 1216 0))
+unfolding headerWords decoded
+framed a size delay clock e1 e2 e3 = rw (e1, e2, e3)
+
+pub decode-sound : (a : List ℕ) (s : State) (t : Bool) → 65536 ≤ length a → exact a ≡ true → s ≡ decoded a → t ≡ sound s → t ≡ soundArea a
+unfolding soundArea
+decode-sound a s t l e f g = rw (le-leb 65536 (length a) l, e) (g ∙ ap sound f)
+
+pub decode-unsound : (a : List ℕ) → exact a ≡ false → 65536 ≤ length a → false ≡ soundArea a
+unfolding soundArea
+decode-unsound a e l = rw (le-leb 65536 (length a) l, e)
+
+-- six lists written one after another from the front
+pub six : (a a1 a2 a3 a4 a5 a6 p1 p2 p3 p4 p5 p6 : List ℕ) (n1 n2 n3 n4 n5 n6 : ℕ)
+    → length p1 ≡ n1 → n1 + length p2 ≡ n2 → n2 + length p3 ≡ n3 → n3 + length p4 ≡ n4 → n4 + length p5 ≡ n5 → n5 + length p6 ≡ n6 → n6 ≤ length a
+    → a1 ≡ spliced a 0 p1 → a2 ≡ spliced a1 n1 p2 → a3 ≡ spliced a2 n2 p3 → a4 ≡ spliced a3 n3 p4 → a5 ≡ spliced a4 n4 p5 → a6 ≡ spliced a5 n5 p6
+    → a6 ≡ (p1 ++ (p2 ++ (p3 ++ (p4 ++ (p5 ++ p6))))) ++ drop n6 a
+six a a1 a2 a3 a4 a5 a6 p1 p2 p3 p4 p5 p6 n1 n2 n3 n4 n5 n6 l1 l2 l3 l4 l5 l6 h e1 e2 e3 e4 e5 e6 =
+    let more : (x xs ys y : List ℕ) (n : ℕ) → length xs ≡ n → n ≤ length a → x ≡ spliced a 0 xs → y ≡ spliced x n ys → y ≡ spliced a 0 (xs ++ ys) =
+    λ x xs ys y n l b e f. f ∙ ap (λ (z : List ℕ). spliced z n ys) e ∙ spliced-more a 0 xs ys n (omega arith) b in
+    let m2 : length (p1 ++ p2) ≡ n2 = length-append p1 p2 ∙ omega arith in
+    let m3 : length (p1 ++ p2 ++ p3) ≡ n3 = length-append (p1 ++ p2) p3 ∙ omega arith in
+    let m4 : length (p1 ++ p2 ++ p3 ++ p4) ≡ n4 = length-append (p1 ++ p2 ++ p3) p4 ∙ omega arith in
+    let m5 : length (p1 ++ p2 ++ p3 ++ p4 ++ p5) ≡ n5 = length-append (p1 ++ p2 ++ p3 ++ p4) p5 ∙ omega arith in
+    let m6 : length (p1 ++ p2 ++ p3 ++ p4 ++ p5 ++ p6) ≡ n6 = length-append (p1 ++ p2 ++ p3 ++ p4 ++ p5) p6 ∙ omega arith in
+    let f2 = more a1 p1 p2 a2 n1 l1 (omega arith) e1 e2 in
+    let f3 = more a2 (p1 ++ p2) p3 a3 n2 m2 (omega arith) f2 e3 in
+    let f4 = more a3 (p1 ++ p2 ++ p3) p4 a4 n3 m3 (omega arith) f3 e4 in
+    let f5 = more a4 (p1 ++ p2 ++ p3 ++ p4) p5 a5 n4 m4 (omega arith) f4 e5 in
+    let f6 = more a5 (p1 ++ p2 ++ p3 ++ p4 ++ p5) p6 a6 n5 m5 (omega arith) f5 e6 in
+    let joined : p1 ++ p2 ++ p3 ++ p4 ++ p5 ++ p6 ≡ p1 ++ (p2 ++ (p3 ++ (p4 ++ (p5 ++ p6)))) = simp append-assoc in
+    let d : 0 + length (p1 ++ p2 ++ p3 ++ p4 ++ p5 ++ p6) ≡ n6 = omega (arith, m6) in
+    f6 ∙ ap (λ (m : ℕ). p1 ++ p2 ++ p3 ++ p4 ++ p5 ++ p6 ++ drop m a) d ∙ ap (λ (z : List ℕ). z ++ drop n6 a) joined
+
+pub encode-steps : (s : State) (a a1 a2 a3 a4 a5 a6 hw : List ℕ) → 65536 ≤ length a → hw ≡ mark ∷ version ∷ s .size ∷ s .delay ∷ s .clock ∷ []
+    → a1 ≡ spliced a 0 (wordBytes hw) → a2 ≡ spliced a1 40 (zeroWords 59) → a3 ≡ spliced a2 512 (rowsBytes s)
+    → a4 ≡ spliced a3 2560 (slotsBytes s) → a5 ≡ spliced a4 6656 (holdingsBytes s) → a6 ≡ spliced a5 55808 (zeroWords 1216)
+    → a6 ≡ encoded s ++ drop 65536 a
+unfolding encoded headerWords
+encode-steps s a a1 a2 a3 a4 a5 a6 hw h e e1 e2 e3 e4 e5 e6 =
+    six a a1 a2 a3 a4 a5 a6 (wordBytes (headerWords s)) (zeroWords 59) (rowsBytes s) (slotsBytes s) (holdingsBytes s) (zeroWords 1216)
+    40 512 2560 6656 55808 65536
+    (header-wide s) (omega (arith, zeros-long 59)) (omega (arith, rows-long s)) (omega (arith, slots-long s)) (omega (arith, holdings-long s)) (omega (arith, zeros-long 1216)) h
+    (e1 ∙ ap (λ (w : List ℕ). spliced a 0 (wordBytes w)) e) e2 e3 e4 e5 e6

@@ -1,0 +1,292 @@
+-- The words of the header, of a row, of a slot and of a holding: their number, their ranges, and that they read back.
+use mathlib.Core.Path.{_≡_, refl, ap, _∙_}
+use mathlib.Core.Bool.{Bool, true, false, cond, not}
+use mathlib.Core.List.{List, [], _++_}
+use Prim.Native.Nat.{ℕ, _+_, _*_, _^_, _<_}
+use native.Mathlib.Nat.{add-zero}
+use native.Mathlib.Omega.{arith}
+use native.Mathlib.Decide.{decLt}
+use lib.Dec.{eqb, lit<}
+use lib.ListN.{length, getD, length-replicate, List·getD-eq-default}
+use Rattle.seq.proofs.BuildLaws.{build-at}
+use Rattle.seq.proofs.EachLaws.{each-length}
+use Rattle.words.specs.Bytes.{wordAt, wordBytes}
+use Rattle.words.proofs.ByteLaws.{AllUnder, under-each, length-words, word-under, word-back, word-in}
+use Rattle.model.specs.declared.Cause.{Cause}
+use Rattle.model.specs.declared.Cause.the-variants.{Late, Taken}
+use Rattle.model.specs.declared.Mode.{Mode}
+use Rattle.model.specs.declared.Mode.the-variants as Mode
+use Rattle.model.specs.declared.Condition.{Condition}
+use Rattle.model.specs.declared.Condition.the-variants.{Free, Idle, Fetching, Waiting, Killed}
+use Rattle.model.specs.declared.Content.{Content}
+use Rattle.model.specs.declared.Content.the-variants.{Empty, Filled}
+use Rattle.model.specs.declared.Pin.{Pin}
+use Rattle.model.specs.declared.Pin.the-variants.{Absent, Unpinned, Read, Write}
+use Rattle.model.specs.declared.Row.{Row}
+use Rattle.model.specs.declared.Slot.{Slot}
+use Rattle.model.specs.declared.Holding.{Holding}
+use Rattle.model.specs.declared.State.{State}
+use Rattle.model.specs.Parties.{modeOf, modeNumber}
+use Rattle.model.specs.State.{freeRow, emptySlot, emptyHolding, emptyHoldings, rowAt, slotAt}
+use Rattle.model.specs.Words.{isFilled, pageIn, arrivalIn, dirtyIn, lowestIn, strength}
+use Rattle.model.proofs.StateLaws.{Sized}
+use Rattle.model.proofs.Ranges.{ConditionOk, ContentOk, RowOk, SlotOk, HoldingOk, StateOk}
+use Rattle.area.specs.Layout.{headerWords, conditionNumber, awaited, waitingMode, rowWords, bit, slotWords, holdingWords, low, conditionOf, pinNumbered, contentOf, rowFrom, slotFrom, holdingFrom, freeRows, emptySlots, decoded}
+
+-- ---- how long they are
+
+pub header-wide : (s : State) → length (wordBytes (headerWords s)) ≡ 40
+unfolding headerWords
+header-wide s = length-words (headerWords s)
+
+pub row-wide : (x : Row) → length (rowWords x) * 8 ≡ 64
+unfolding rowWords
+row-wide x = refl
+
+pub slot-wide : (x : Slot) → length (slotWords x) * 8 ≡ 64
+unfolding slotWords
+slot-wide x = refl
+
+pub holding-wide : (h : Holding) → length (holdingWords h) * 8 ≡ 24
+unfolding holdingWords
+holding-wide h = refl
+
+-- ---- their words are words
+
+mode-small : (m : Mode) → modeNumber m < 2 ^ 64
+mode-small Mode.Read = lit< tt
+mode-small Mode.Write = lit< tt
+
+cause-small : (c : Cause) → conditionNumber (Killed c) < 2 ^ 64
+cause-small Late = lit< tt
+cause-small Taken = lit< tt
+
+bit-small : (b : Bool) → bit b < 2 ^ 64
+bit-small true = lit< tt
+bit-small false = lit< tt
+
+strength-small : (p : Pin) → strength p < 2 ^ 64
+strength-small Absent = lit< tt
+strength-small Unpinned = lit< tt
+strength-small Read = lit< tt
+strength-small Write = lit< tt
+
+condition-small : (c : Condition) → ConditionOk c → (conditionNumber c < 2 ^ 64) × (awaited c < 2 ^ 64) × (waitingMode c < 2 ^ 64)
+condition-small Free k = (lit< tt, lit< tt, lit< tt)
+condition-small Idle k = (lit< tt, lit< tt, lit< tt)
+condition-small (Fetching due) k = (lit< tt, omega arith, lit< tt)
+condition-small (Waiting page mode) k = (lit< tt, omega arith, mode-small mode)
+condition-small (Killed cause) k = (cause-small cause, lit< tt, lit< tt)
+
+content-small : (c : Content) → ContentOk c → (pageIn c < 2 ^ 64) × (arrivalIn c < 2 ^ 64) × (lowestIn c < 2 ^ 64)
+content-small Empty k = (lit< tt, lit< tt, lit< tt)
+content-small (Filled page arrival dirty lowest) k = (omega (arith, k .0), omega (arith, k .1), k .2)
+
+pub header-small : (s : State) → StateOk s → AllUnder (2 ^ 64) (headerWords s)
+unfolding headerWords
+header-small s k = under-each (2 ^ 64) (lit< tt) (headerWords s) (lit< tt, (lit< tt, (k .size, (omega (arith, k .delay), (omega (arith, k .clock), tt)))))
+
+pub row-small : (x : Row) → RowOk x → AllUnder (2 ^ 64) (rowWords x)
+unfolding rowWords
+row-small x k =
+    let c = condition-small (x .condition) (k .condition) in
+    under-each (2 ^ 64) (lit< tt) (rowWords x) (c .0, (c .1, (c .2, (omega (arith, k .deadline), (lit< tt, (lit< tt, (lit< tt, (lit< tt, tt))))))))
+
+pub slot-small : (x : Slot) → SlotOk x → AllUnder (2 ^ 64) (slotWords x)
+unfolding slotWords
+slot-small x k =
+    let c = content-small (x .content) (k .content) in
+    under-each (2 ^ 64) (lit< tt) (slotWords x)
+    (bit-small (isFilled (x .content)), (c .0, (c .1, (bit-small (dirtyIn (x .content)), (c .2, (omega (arith, k .touch), (lit< tt, (lit< tt, tt))))))))
+
+pub holding-small : (h : Holding) → HoldingOk h → AllUnder (2 ^ 64) (holdingWords h)
+unfolding holdingWords
+holding-small h k = under-each (2 ^ 64) (lit< tt) (holdingWords h) (strength-small (h .pin), (omega (arith, k .arrival), (omega (arith, k .touch), tt)))
+
+-- ---- what is read from bytes has its ranges
+
+pub low-small : (w : ℕ) → low w < 2 ^ 32
+low-small w = omega arith
+
+pub low-same : (w : ℕ) → w < 2 ^ 32 → low w ≡ w
+low-same w h = omega arith
+
+condition-of-ok : (n w m : ℕ) → ConditionOk (conditionOf n w m)
+unfolding conditionOf
+condition-of-ok n w m = go (eqb n 0) (eqb n 1) (eqb n 2) (eqb n 3) (eqb n 4)
+  where
+    go : (b0 b1 b2 b3 b4 : Bool)
+        → ConditionOk (cond b0 Free (cond b1 Idle (cond b2 (Fetching (low w)) (cond b3 (Waiting (low w) (cond (eqb m 0) Mode.Read Mode.Write)) (cond b4 (Killed Late) (Killed Taken))))))
+    go true b1 b2 b3 b4 = tt
+    go false true b2 b3 b4 = tt
+    go false false true b3 b4 = low-small w
+    go false false false true b4 = low-small w
+    go false false false false true = tt
+    go false false false false false = tt
+
+content-of-ok : (f p r d l : ℕ) → l < 2 ^ 64 → ContentOk (contentOf f p r d l)
+unfolding contentOf
+content-of-ok f p r d l h = go (eqb f 0)
+  where
+    go : (b : Bool) → ContentOk (cond b Empty (Filled (low p) (low r) (not (eqb d 0)) l))
+    go true = tt
+    go false = (low-small p, low-small r, h)
+
+pub row-from-ok : (a : List ℕ) (at : ℕ) → RowOk (rowFrom a at)
+unfolding rowFrom
+row-from-ok a at = record {
+  condition = condition-of-ok (wordAt a at) (wordAt a (at + 8)) (wordAt a (at + 16));
+  deadline = low-small (wordAt a (at + 24));
+}
+
+pub slot-from-ok : (a : List ℕ) (at : ℕ) → AllUnder 256 a → SlotOk (slotFrom a at)
+unfolding slotFrom
+slot-from-ok a at u = record {
+  content = content-of-ok (wordAt a at) (wordAt a (at + 8)) (wordAt a (at + 16)) (wordAt a (at + 24)) (wordAt a (at + 32)) (word-under a (at + 32) u);
+  touch = low-small (wordAt a (at + 40));
+}
+
+pub holding-from-ok : (a : List ℕ) (at : ℕ) → HoldingOk (holdingFrom a at)
+unfolding holdingFrom
+holding-from-ok a at = record { arrival = low-small (wordAt a (at + 8)); touch = low-small (wordAt a (at + 16)) }
+
+-- ---- what stands in the state that an area names
+
+-- what holds of each element of an array, and of the default, holds at every place
+module _ {A : Type 0} (P : A → Type 0) (d : A) (pd : P d) where
+  pub at-each-place : (l : List A) → ((i : ℕ) → i < length l → P (getD l i d)) → (i : ℕ) → P (getD l i d)
+  at-each-place l f i = elim (decLt i (length l)) [
+    | yes b ↦ f i b
+    | no b ↦ rw (List·getD-eq-default l d {n = i} (omega arith)) pd
+  ]
+
+pub decoded-row : (a : List ℕ) (row : ℕ) → row < 32 → rowAt (decoded a) row ≡ rowFrom a (512 + row * 64)
+unfolding decoded freeRows emptySlots
+decoded-row a row h = build-at (λ i. rowFrom a (512 + i * 64)) 32 freeRow row freeRow h
+
+pub decoded-slot : (a : List ℕ) (slot : ℕ) → slot < 64 → slotAt (decoded a) slot ≡ slotFrom a (2560 + slot * 64)
+unfolding decoded freeRows emptySlots
+decoded-slot a slot h = build-at (λ i. slotFrom a (2560 + i * 64)) 64 emptySlot slot emptySlot h
+
+pub decoded-holding : (a : List ℕ) (k : ℕ) → k < 2048 → getD (decoded a .holdings) k emptyHolding ≡ holdingFrom a (6656 + k * 24)
+unfolding decoded freeRows emptySlots emptyHoldings
+decoded-holding a k h = build-at (λ i. holdingFrom a (6656 + i * 24)) 2048 emptyHolding k emptyHolding h
+
+pub decoded-sized : (a : List ℕ) → Sized (decoded a)
+unfolding decoded freeRows emptySlots emptyHoldings
+decoded-sized a = record {
+  rows = each-length (λ row _. rowFrom a (512 + row * 64)) _ ∙ length-replicate 32 freeRow;
+  slots = each-length (λ slot _. slotFrom a (2560 + slot * 64)) _ ∙ length-replicate 64 emptySlot;
+  holdings = each-length (λ k _. holdingFrom a (6656 + k * 24)) _ ∙ length-replicate 2048 emptyHolding;
+}
+
+pub decoded-row-ok : (a : List ℕ) (row : ℕ) → RowOk (rowAt (decoded a) row)
+decoded-row-ok a = at-each-place RowOk freeRow (record { condition = tt; deadline = lit< tt }) (decoded a .rows)
+    (λ i b. rw (decoded-row a i (rw (decoded-sized a .rows) at b)) (row-from-ok a (512 + i * 64)))
+
+pub decoded-slot-ok : (a : List ℕ) → AllUnder 256 a → (slot : ℕ) → SlotOk (slotAt (decoded a) slot)
+decoded-slot-ok a u = at-each-place SlotOk emptySlot (record { content = tt; touch = lit< tt }) (decoded a .slots)
+    (λ i b. rw (decoded-slot a i (rw (decoded-sized a .slots) at b)) (slot-from-ok a (2560 + i * 64) u))
+
+pub decoded-holding-ok : (a : List ℕ) (k : ℕ) → HoldingOk (getD (decoded a .holdings) k emptyHolding)
+decoded-holding-ok a = at-each-place HoldingOk emptyHolding (record { arrival = lit< tt; touch = lit< tt }) (decoded a .holdings)
+    (λ i b. rw (decoded-holding a i (rw (decoded-sized a .holdings) at b)) (holding-from-ok a (6656 + i * 24)))
+
+-- every deadline that an area names, whatever its bytes
+pub decoded-deadline : (a : List ℕ) (row : ℕ) → rowAt (decoded a) row .deadline < 2 ^ 32
+decoded-deadline a row = decoded-row-ok a row .deadline
+
+-- bytes name a state whose numbers have their ranges
+pub decoded-ok : (a : List ℕ) → AllUnder 256 a → StateOk (decoded a)
+unfolding decoded freeRows emptySlots
+decoded-ok a u = record {
+  size = word-under a 16 u;
+  delay = low-small (wordAt a 24);
+  clock = low-small (wordAt a 32);
+  sized = decoded-sized a;
+  row = decoded-row-ok a;
+  slot = decoded-slot-ok a u;
+  holding = decoded-holding-ok a;
+}
+
+-- ---- what is written reads back
+
+mode-back : (m : Mode) → modeOf (modeNumber m) ≡ m
+mode-back Mode.Read = refl
+mode-back Mode.Write = refl
+
+pub condition-back : (c : Condition) → ConditionOk c → conditionOf (conditionNumber c) (awaited c) (waitingMode c) ≡ c
+unfolding conditionOf
+condition-back Free k = refl
+condition-back Idle k = refl
+condition-back (Fetching due) k = ap Fetching (low-same due k)
+condition-back (Waiting page mode) k = λ i. Waiting (low-same page k i) (mode-back mode i)
+condition-back (Killed Late) k = refl
+condition-back (Killed Taken) k = refl
+
+bit-back : (b : Bool) → not (eqb (bit b) 0) ≡ b
+bit-back true = refl
+bit-back false = refl
+
+pub content-back : (c : Content) → ContentOk c → contentOf (bit (isFilled c)) (pageIn c) (arrivalIn c) (bit (dirtyIn c)) (lowestIn c) ≡ c
+unfolding contentOf
+content-back Empty k = refl
+content-back (Filled page arrival dirty lowest) k = λ i. Filled (low-same page (k .0) i) (low-same arrival (k .1) i) (bit-back dirty i) lowest
+
+pub pin-back : (p : Pin) → pinNumbered (strength p) ≡ p
+unfolding pinNumbered
+pin-back Absent = refl
+pin-back Unpinned = refl
+pin-back Read = refl
+pin-back Write = refl
+
+-- with p before them and r after them
+module _ (p r : List ℕ) (at : ℕ) (e : length p ≡ at) where
+  pub row-back : (x : Row) → RowOk x → rowFrom (p ++ (wordBytes (rowWords x) ++ r)) at ≡ x
+  unfolding rowFrom rowWords
+  row-back x k =
+      let a = p ++ (wordBytes (rowWords x) ++ r) in
+      let w : (j : ℕ) → j < 8 → wordAt a (at + j * 8) ≡ getD (rowWords x) j 0 = λ j b. word-in p (rowWords x) r at j e b (row-small x k) in
+      let w0 : wordAt a at ≡ conditionNumber (x .condition) = rw add-zero at (w 0 (lit< tt)) in
+      let w1 : wordAt a (at + 8) ≡ awaited (x .condition) = w 1 (lit< tt) in
+      let w2 : wordAt a (at + 16) ≡ waitingMode (x .condition) = w 2 (lit< tt) in
+      let w3 : wordAt a (at + 24) ≡ x .deadline = w 3 (lit< tt) in
+      λ i. record {
+        condition = ((λ j. conditionOf (w0 j) (w1 j) (w2 j)) ∙ condition-back (x .condition) (k .condition)) i;
+        deadline = (ap low w3 ∙ low-same (x .deadline) (k .deadline)) i;
+      }
+
+  pub slot-back : (x : Slot) → SlotOk x → slotFrom (p ++ (wordBytes (slotWords x) ++ r)) at ≡ x
+  unfolding slotFrom slotWords
+  slot-back x k =
+      let a = p ++ (wordBytes (slotWords x) ++ r) in
+      let w : (j : ℕ) → j < 8 → wordAt a (at + j * 8) ≡ getD (slotWords x) j 0 = λ j b. word-in p (slotWords x) r at j e b (slot-small x k) in
+      let w0 : wordAt a at ≡ bit (isFilled (x .content)) = rw add-zero at (w 0 (lit< tt)) in
+      let w1 : wordAt a (at + 8) ≡ pageIn (x .content) = w 1 (lit< tt) in
+      let w2 : wordAt a (at + 16) ≡ arrivalIn (x .content) = w 2 (lit< tt) in
+      let w3 : wordAt a (at + 24) ≡ bit (dirtyIn (x .content)) = w 3 (lit< tt) in
+      let w4 : wordAt a (at + 32) ≡ lowestIn (x .content) = w 4 (lit< tt) in
+      let w5 : wordAt a (at + 40) ≡ x .touch = w 5 (lit< tt) in
+      λ i. record {
+        content = ((λ j. contentOf (w0 j) (w1 j) (w2 j) (w3 j) (w4 j)) ∙ content-back (x .content) (k .content)) i;
+        touch = (ap low w5 ∙ low-same (x .touch) (k .touch)) i;
+      }
+
+  pub holding-back : (h : Holding) → HoldingOk h → holdingFrom (p ++ (wordBytes (holdingWords h) ++ r)) at ≡ h
+  unfolding holdingFrom holdingWords
+  holding-back h k =
+      let a = p ++ (wordBytes (holdingWords h) ++ r) in
+      let w : (j : ℕ) → j < 3 → wordAt a (at + j * 8) ≡ getD (holdingWords h) j 0 = λ j b. word-in p (holdingWords h) r at j e b (holding-small h k) in
+      let w0 : wordAt a at ≡ strength (h .pin) = rw add-zero at (w 0 (lit< tt)) in
+      let w1 : wordAt a (at + 8) ≡ h .arrival = w 1 (lit< tt) in
+      let w2 : wordAt a (at + 16) ≡ h .touch = w 2 (lit< tt) in
+      λ i. record {
+        pin = (ap pinNumbered w0 ∙ pin-back (h .pin)) i;
+        arrival = (ap low w1 ∙ low-same (h .arrival) (k .arrival)) i;
+        touch = (ap low w2 ∙ low-same (h .touch) (k .touch)) i;
+      }
+
+-- the five words of the header
+pub header-back : (s : State) → StateOk s → (r : List ℕ) (j : ℕ) → j < 5 → wordAt (wordBytes (headerWords s) ++ r) (j * 8) ≡ getD (headerWords s) j 0
+unfolding headerWords
+header-back s k r j b = word-back (headerWords s) r j b (header-small s k)

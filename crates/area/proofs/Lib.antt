@@ -1,0 +1,5 @@
+pub mod LoopLaws
+pub mod Elements
+pub mod Pieces
+pub mod RoundTrip
+pub mod AreaSteps

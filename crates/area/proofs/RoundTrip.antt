@@ -1,0 +1,181 @@
+-- A state's bytes name that state again; an area that is exact is the bytes of the state that it names; what a sound area is.
+use mathlib.Core.Path.{_≡_, sym, ap, _∙_}
+use mathlib.Core.Bool.{true, _&&_}
+use mathlib.Core.List.{List, [], _++_, append-assoc}
+use Prim.Native.Nat.{ℕ, _+_, _*_, _<_, _≤_}
+use native.Mathlib.Omega.{arith}
+use borrow.Author.Tests.{leb-true, le-leb}
+use lib.Dec.{leb, lit<}
+use lib.ListN.{length, getD, take, drop, replicate, length-append, length-replicate, take-append-drop}
+use lib.Seq.{ext-getD, take-at}
+use Rattle.seq.specs.Each.{each}
+use Rattle.seq.proofs.Tests.{and-true, both-true}
+use Rattle.seq.proofs.EachLaws.{each-length}
+use Rattle.seq.proofs.BuildLaws.{build-at}
+use Rattle.words.specs.Bytes.{wordAt, wordBytes, zeroWords}
+use Rattle.words.proofs.ByteLaws.{AllUnder, under-append, words-under, length-words}
+use Rattle.words.proofs.JoinLaws.{under-joined, piece-back}
+use Rattle.words.proofs.SameLaws.{same-true, true-same}
+use Rattle.model.specs.declared.Holding.{Holding}
+use Rattle.model.specs.declared.State.{State}
+use Rattle.model.specs.State.{freeRow, emptySlot, emptyHolding, emptyHoldings, rowAt, slotAt}
+use Rattle.model.proofs.Ranges.{StateOk}
+use Rattle.rules.specs.Sound.{sound}
+use Rattle.area.specs.Layout.{headerWords, rowWords, slotWords, holdingWords, encoded, low, rowFrom, slotFrom, holdingFrom, freeRows, emptySlots, decoded, exact, soundArea}
+use Rattle.area.proofs.Elements.{header-wide, row-wide, slot-wide, holding-wide, low-same, row-back, slot-back, holding-back, header-back}
+use Rattle.area.proofs.Pieces.{rowsBytes, slotsBytes, holdingsBytes, rows-long, slots-long, holdings-long, zeros-long}
+
+-- ---- the bytes of a state
+
+six-long : (x₀ x₁ x₂ x₃ x₄ x₅ : List ℕ)
+    → length x₀ ≡ 40 → length x₁ ≡ 472 → length x₂ ≡ 2048 → length x₃ ≡ 4096 → length x₄ ≡ 49152 → length x₅ ≡ 9728
+    → length (x₀ ++ (x₁ ++ (x₂ ++ (x₃ ++ (x₄ ++ x₅))))) ≡ 65536
+six-long x₀ x₁ x₂ x₃ x₄ x₅ e₀ e₁ e₂ e₃ e₄ e₅ = simp length-append (omega arith)
+
+pub encoded-long : (s : State) → length (encoded s) ≡ 65536
+unfolding encoded
+encoded-long s =
+    six-long (wordBytes (headerWords s)) (zeroWords 59) (rowsBytes s) (slotsBytes s) (holdingsBytes s) (zeroWords 1216)
+    (header-wide s) (zeros-long 59) (rows-long s) (slots-long s) (holdings-long s) (zeros-long 1216)
+
+pub encoded-under : (s : State) → AllUnder 256 (encoded s)
+unfolding encoded
+encoded-under s =
+    let rows = under-joined 256 (lit< tt) 32 (λ row. wordBytes (rowWords (rowAt s row))) (λ row. words-under (rowWords (rowAt s row))) in
+    let slots = under-joined 256 (lit< tt) 64 (λ slot. wordBytes (slotWords (slotAt s slot))) (λ slot. words-under (slotWords (slotAt s slot))) in
+    let holdings = under-joined 256 (lit< tt) 2048 (λ k. wordBytes (holdingWords (getD (s .holdings) k emptyHolding))) (λ k. words-under (holdingWords (getD (s .holdings) k emptyHolding))) in
+    under-append 256 (wordBytes (headerWords s)) (zeroWords 59 ++ (rowsBytes s ++ (slotsBytes s ++ (holdingsBytes s ++ zeroWords 1216)))) (words-under (headerWords s))
+    (under-append 256 (zeroWords 59) (rowsBytes s ++ (slotsBytes s ++ (holdingsBytes s ++ zeroWords 1216))) (words-under (replicate 59 0))
+    (under-append 256 (rowsBytes s) (slotsBytes s ++ (holdingsBytes s ++ zeroWords 1216)) rows
+    (under-append 256 (slotsBytes s) (holdingsBytes s ++ zeroWords 1216) slots
+    (under-append 256 (holdingsBytes s) (zeroWords 1216) holdings (words-under (replicate 1216 0))))))
+
+-- ---- and back
+
+-- six regions and a rest, seen from the first, the third, the fourth and the fifth of them
+module _ (x₀ x₁ x₂ x₃ x₄ x₅ r : List ℕ) where
+  before-first : (x₀ ++ (x₁ ++ (x₂ ++ (x₃ ++ (x₄ ++ x₅))))) ++ r ≡ x₀ ++ (x₁ ++ (x₂ ++ (x₃ ++ (x₄ ++ (x₅ ++ r)))))
+  before-first = simp append-assoc
+
+  before-third : (x₀ ++ (x₁ ++ (x₂ ++ (x₃ ++ (x₄ ++ x₅))))) ++ r ≡ (x₀ ++ x₁) ++ (x₂ ++ (x₃ ++ (x₄ ++ (x₅ ++ r))))
+  before-third = simp append-assoc
+
+  before-fourth : (x₀ ++ (x₁ ++ (x₂ ++ (x₃ ++ (x₄ ++ x₅))))) ++ r ≡ (x₀ ++ (x₁ ++ x₂)) ++ (x₃ ++ (x₄ ++ (x₅ ++ r)))
+  before-fourth = simp append-assoc
+
+  before-fifth : (x₀ ++ (x₁ ++ (x₂ ++ (x₃ ++ (x₄ ++ x₅))))) ++ r ≡ (x₀ ++ (x₁ ++ (x₂ ++ x₃))) ++ (x₄ ++ (x₅ ++ r))
+  before-fifth = simp append-assoc
+
+-- an array of n elements made of what is read at each place
+module _ {A : Type 0} (f : ℕ → A) (d : A) where
+  built : (n : ℕ) (l : List A) → length l ≡ n → ((i : ℕ) → i < n → f i ≡ getD l i d) → each (λ k _. f k) (replicate n d) ≡ l
+  built n l e g =
+      let m : length (each (λ k _. f k) (replicate n d)) ≡ n = each-length (λ k _. f k) (replicate n d) ∙ length-replicate n d in
+      ext-getD d (each (λ k _. f k) (replicate n d)) l (m ∙ sym e)
+      (λ i b. let b′ = rw m at b in build-at f n d i d b′ ∙ g i b′)
+
+module _ (s : State) (k : StateOk s) (r : List ℕ) where
+  row-there : (i : ℕ) → i < 32 → rowFrom (encoded s ++ r) (512 + i * 64) ≡ rowAt s i
+  unfolding encoded
+  row-there i b =
+      let h = wordBytes (headerWords s) in
+      let e : length (h ++ zeroWords 59) ≡ 512 = length-append h (zeroWords 59) ∙ (λ j. header-wide s j + zeros-long 59 j) in
+      ap (λ (a : List ℕ). rowFrom a (512 + i * 64)) (before-third h (zeroWords 59) (rowsBytes s) (slotsBytes s) (holdingsBytes s) (zeroWords 1216) r)
+      ∙ piece-back 64 (λ row. wordBytes (rowWords (rowAt s row))) (λ row. length-words (rowWords (rowAt s row)) ∙ row-wide (rowAt s row)) rowFrom (rowAt s)
+      (λ row p q at l. row-back p q at l (rowAt s row) (k .row row))
+      (h ++ zeroWords 59) (slotsBytes s ++ (holdingsBytes s ++ (zeroWords 1216 ++ r))) 512 32 i e b
+
+  slot-there : (i : ℕ) → i < 64 → slotFrom (encoded s ++ r) (2560 + i * 64) ≡ slotAt s i
+  unfolding encoded
+  slot-there i b =
+      let h = wordBytes (headerWords s) in
+      let e : length (h ++ (zeroWords 59 ++ rowsBytes s)) ≡ 2560 =
+      length-append h (zeroWords 59 ++ rowsBytes s)
+      ∙ ap (λ (m : ℕ). length h + m) (length-append (zeroWords 59) (rowsBytes s))
+      ∙ (λ j. header-wide s j + (zeros-long 59 j + rows-long s j)) in
+      ap (λ (a : List ℕ). slotFrom a (2560 + i * 64)) (before-fourth h (zeroWords 59) (rowsBytes s) (slotsBytes s) (holdingsBytes s) (zeroWords 1216) r)
+      ∙ piece-back 64 (λ slot. wordBytes (slotWords (slotAt s slot))) (λ slot. length-words (slotWords (slotAt s slot)) ∙ slot-wide (slotAt s slot)) slotFrom (slotAt s)
+      (λ slot p q at l. slot-back p q at l (slotAt s slot) (k .slot slot))
+      (h ++ (zeroWords 59 ++ rowsBytes s)) (holdingsBytes s ++ (zeroWords 1216 ++ r)) 2560 64 i e b
+
+  holding-there : (i : ℕ) → i < 2048 → holdingFrom (encoded s ++ r) (6656 + i * 24) ≡ getD (s .holdings) i emptyHolding
+  unfolding encoded
+  holding-there i b =
+      let h = wordBytes (headerWords s) in
+      let x : ℕ → Holding = λ i. getD (s .holdings) i emptyHolding in
+      let e : length (h ++ (zeroWords 59 ++ (rowsBytes s ++ slotsBytes s))) ≡ 6656 =
+      length-append h (zeroWords 59 ++ (rowsBytes s ++ slotsBytes s))
+      ∙ ap (λ (m : ℕ). length h + m) (length-append (zeroWords 59) (rowsBytes s ++ slotsBytes s) ∙ ap (λ (m : ℕ). length (zeroWords 59) + m) (length-append (rowsBytes s) (slotsBytes s)))
+      ∙ (λ j. header-wide s j + (zeros-long 59 j + (rows-long s j + slots-long s j))) in
+      ap (λ (a : List ℕ). holdingFrom a (6656 + i * 24)) (before-fifth h (zeroWords 59) (rowsBytes s) (slotsBytes s) (holdingsBytes s) (zeroWords 1216) r)
+      ∙ piece-back 24 (λ i. wordBytes (holdingWords (x i))) (λ i. length-words (holdingWords (x i)) ∙ holding-wide (x i)) holdingFrom x
+      (λ i p q at l. holding-back p q at l (x i) (k .holding i))
+      (h ++ (zeroWords 59 ++ (rowsBytes s ++ slotsBytes s))) (zeroWords 1216 ++ r) 6656 2048 i e b
+
+  header-there : (j : ℕ) → j < 5 → wordAt (encoded s ++ r) (j * 8) ≡ getD (headerWords s) j 0
+  unfolding encoded
+  header-there j b =
+      let h = wordBytes (headerWords s) in
+      ap (λ (a : List ℕ). wordAt a (j * 8)) (before-first h (zeroWords 59) (rowsBytes s) (slotsBytes s) (holdingsBytes s) (zeroWords 1216) r)
+      ∙ header-back s k (zeroWords 59 ++ (rowsBytes s ++ (slotsBytes s ++ (holdingsBytes s ++ (zeroWords 1216 ++ r))))) j b
+
+  pub decode-encode : decoded (encoded s ++ r) ≡ s
+  unfolding decoded headerWords freeRows emptySlots emptyHoldings
+  decode-encode =
+      let a = encoded s ++ r in
+      let w2 : wordAt a 16 ≡ s .size = header-there 2 (lit< tt) in
+      let w3 : wordAt a 24 ≡ s .delay = header-there 3 (lit< tt) in
+      let w4 : wordAt a 32 ≡ s .clock = header-there 4 (lit< tt) in
+      λ i. record {
+        size = w2 i;
+        delay = (ap low w3 ∙ low-same (s .delay) (k .delay)) i;
+        clock = (ap low w4 ∙ low-same (s .clock) (k .clock)) i;
+        rows = built (λ row. rowFrom a (512 + row * 64)) freeRow 32 (s .rows) (k .sized .rows) row-there i;
+        slots = built (λ slot. slotFrom a (2560 + slot * 64)) emptySlot 64 (s .slots) (k .sized .slots) slot-there i;
+        holdings = built (λ h. holdingFrom a (6656 + h * 24)) emptyHolding 2048 (s .holdings) (k .sized .holdings) holding-there i;
+      }
+
+  pub encode-exact : exact (encoded s ++ r) ≡ true
+  unfolding exact
+  encode-exact =
+      let a = encoded s ++ r in
+      true-same (take 65536 a) (encoded (decoded a)) (take-at (encoded s) r 65536 (encoded-long s) ∙ sym (ap encoded decode-encode))
+
+  pub encode-sound : sound s ≡ true → soundArea (encoded s ++ r) ≡ true
+  unfolding soundArea
+  encode-sound h =
+      let l : 65536 ≤ length (encoded s ++ r) = rw (length-append (encoded s) r, encoded-long s) (omega arith) in
+      both-true (le-leb 65536 (length (encoded s ++ r)) l) (both-true encode-exact (rw decode-encode h))
+
+-- ---- exact areas
+
+pub exact-area : (a : List ℕ) → exact a ≡ true → encoded (decoded a) ++ drop 65536 a ≡ a
+unfolding exact
+exact-area a e = rw (← same-true (take 65536 a) (encoded (decoded a)) e) (take-append-drop 65536 a)
+
+pub exact-long : (a : List ℕ) → exact a ≡ true → 65536 ≤ length a
+exact-long a e =
+    let n = ap length (exact-area a e) in
+    omega (arith, length-append (encoded (decoded a)) (drop 65536 a), encoded-long (decoded a))
+
+-- ---- sound areas
+
+-- what the test says of an area
+pub record SoundArea (a : List ℕ) : Type 0 where
+  pub long : 65536 ≤ length a
+  pub exactly : exact a ≡ true
+  pub sound-state : sound (decoded a) ≡ true
+
+pub sound-area : (a : List ℕ) → soundArea a ≡ true → SoundArea a
+unfolding soundArea
+sound-area a e =
+    let p = and-true (leb 65536 (length a)) (exact a && sound (decoded a)) e in
+    let q = and-true (exact a) (sound (decoded a)) (p .1) in
+    record { long = leb-true 65536 (length a) (p .0); exactly = q .0; sound-state = q .1 }
+
+pub area-sound : (a : List ℕ) → 65536 ≤ length a → exact a ≡ true → sound (decoded a) ≡ true → soundArea a ≡ true
+unfolding soundArea
+area-sound a l e h = both-true (le-leb 65536 (length a) l) (both-true e h)
+
+pub sound-area-bytes : (a : List ℕ) → soundArea a ≡ true → encoded (decoded a) ++ drop 65536 a ≡ a
+sound-area-bytes a e = exact-area a (sound-area a e .exactly)

@@ -1,0 +1,203 @@
+use native.Mathlib.Omega.{arith}
+use mathlib.Core.Path.{_≡_, refl, _∙_, sym, ap}
+use mathlib.Core.Bool.{Bool, true, false, _&&_}
+use mathlib.Core.List.{List}
+use Prim.Native.Nat.{ℕ, _≤_, _-_, _+_, _*_}
+use Rattle.seq.specs.Below.{allBelow}
+use Rattle.seq.specs.Each.{each, eachBelow}
+use Rattle.seq.proofs.EachLaws.{each-below-none}
+use Rattle.words.specs.Bytes.{hasWords}
+use Rattle.model.specs.State.{withHoldings, emptyHolding, emptyHoldings}
+use Rattle.area.specs.Layout.{low, exact, decoded, exactHoldings, holdingFrom, holdingWords}
+use Rattle.area.proofs.LoopLaws.{empty-holdings-long, read-turn, read-all, read-test}
+use Rattle.area.proofs.AreaSteps.{decode-state, exact-tests, holdings-still, holdings-next, tests-next, framed, decode-sound, decode-unsound}
+use Rattle.area.proofs.decode.Statement.{statement}
+use Rattle.area.proofs.decode.Tie as tie
+use Rattle.area.proofs.decode.Reads as reads
+use Rattle.area.proofs.decode.Lts as lts
+use Rattle.area.proofs.both.Reads as both-reads
+use Rattle.area.proofs.get_holding.Reads as get-holding-reads
+use Rattle.area.proofs.get_rows.Reads as get-rows-reads
+use Rattle.area.proofs.get_slots.Reads as get-slots-reads
+use Rattle.area.proofs.holding_words.Reads as holding-words-reads
+use Rattle.area.proofs.is_frame.Reads as is-frame-reads
+use Rattle.area.proofs.low.Reads as low-reads
+use Rattle.model.proofs.empty_holdings.Reads as empty-holdings-reads
+use Rattle.sound.proofs.is_sound.Reads as is-sound-reads
+use Rattle.words.proofs.has_words.Reads as has-words-reads
+use Rattle.words.proofs.word.Reads as word-reads
+
+and-true : (b : Bool) → b && true ≡ b
+and-true true = refl
+and-true false = refl
+
+all-exact : (a : List ℕ) → allBelow 2048 (λ j. hasWords a (6656 + j * 24) (holdingWords (holdingFrom a (6656 + j * 24)))) ≡ exactHoldings a
+unfolding exactHoldings
+all-exact a = refl
+
+all-read : (a : List ℕ) → each (λ j _. holdingFrom a (6656 + j * 24)) emptyHoldings ≡ decoded a .holdings
+unfolding decoded
+all-read a = refl
+
+abbrev Inv-loop : tie.InvT-loop
+Inv-loop a size delay clock frame exact₀ state₀ k₀ exact state k = (k ≤ 2048) × (state ≡ withHoldings state₀ (eachBelow k (λ j _. holdingFrom a (6656 + j * 24)) emptyHoldings)) × (exact ≡ exact₀ && allBelow k (λ j. hasWords a (6656 + j * 24) (holdingWords (holdingFrom a (6656 + j * 24)))))
+
+abbrev μ-loop : tie.MeasureT-loop
+μ-loop a size delay clock frame exact₀ state₀ k₀ exact state k = 2048 - k
+
+-- src/lib.rt:321:16
+word-requires : tie.Need-word-requires Inv-loop μ-loop
+word-requires c κs = omega arith
+
+-- src/lib.rt:322:21
+word-requires-2 : tie.Need-word-requires-2 Inv-loop μ-loop
+word-requires-2 c κs = omega arith
+
+-- src/lib.rt:322:9
+low-requires : tie.Need-low-requires Inv-loop μ-loop
+low-requires c κs = omega arith
+
+-- src/lib.rt:323:21
+word-requires-3 : tie.Need-word-requires-3 Inv-loop μ-loop
+word-requires-3 c κs = omega arith
+
+-- src/lib.rt:323:9
+low-requires-2 : tie.Need-low-requires-2 Inv-loop μ-loop
+low-requires-2 c κs = omega arith
+
+-- src/lib.rt:324:9
+get-rows-requires : tie.Need-get-rows-requires Inv-loop μ-loop
+get-rows-requires c κs = omega arith
+
+-- src/lib.rt:325:9
+get-slots-requires : tie.Need-get-slots-requires Inv-loop μ-loop
+get-slots-requires c κs = omega arith
+
+-- src/lib.rt:326:9
+is-frame-requires : tie.Need-is-frame-requires Inv-loop μ-loop
+is-frame-requires c κs = omega arith
+
+-- src/lib.rt:327:33
+both-requires : tie.Need-both-requires Inv-loop μ-loop
+both-requires c κs = omega arith
+
+-- src/lib.rt:327:9
+both-requires-2 : tie.Need-both-requires-2 Inv-loop μ-loop
+both-requires-2 c κs = omega arith
+
+-- src/lib.rt:330:9
+empty-holdings-requires : tie.Need-empty-holdings-requires Inv-loop μ-loop
+empty-holdings-requires c κs = omega arith
+
+-- src/lib.rt:339:5
+loop-holds : tie.Need-loop-holds Inv-loop μ-loop
+unfolding allBelow
+loop-holds c = (omega arith, holdings-still _ _ (c .empty-holdings .ensures ∙ each-below-none (λ j _. holdingFrom (c .before .before .before .before .before .before .before .before .before .before .before .before .before .before .args .a .now) (6656 + j * 24)) emptyHoldings), sym (and-true _))
+
+-- src/lib.rt:340:25
+mul-at : tie.Need-mul-at Inv-loop μ-loop
+mul-at c = omega arith
+
+-- src/lib.rt:340:18
+add-at : tie.Need-add-at Inv-loop μ-loop
+add-at c = omega arith
+
+-- src/lib.rt:341:13
+get-holding-requires : tie.Need-get-holding-requires Inv-loop μ-loop
+get-holding-requires c κs = omega arith
+
+-- src/lib.rt:342:18
+holding-words-requires : tie.Need-holding-words-requires Inv-loop μ-loop
+holding-words-requires c κs = omega arith
+
+-- src/lib.rt:343:53
+slice-aggregate-has-words : tie.Need-slice-aggregate-has-words Inv-loop μ-loop
+slice-aggregate-has-words c = omega arith
+
+-- src/lib.rt:343:29
+has-words-requires : tie.Need-has-words-requires Inv-loop μ-loop
+has-words-requires c κs = omega arith
+
+-- src/lib.rt:343:9
+both-requires-3 : tie.Need-both-requires-3 Inv-loop μ-loop
+both-requires-3 c κs = omega arith
+
+-- src/lib.rt:344:9
+mul-x : tie.Need-mul-x Inv-loop μ-loop
+mul-x c = omega arith
+
+-- src/lib.rt:344:9
+element-set-from-x : tie.Need-element-set-from-x Inv-loop μ-loop
+element-set-from-x c = omega arith
+
+-- src/lib.rt:339:9
+add-k : tie.Need-add-k Inv-loop μ-loop
+add-k c = omega arith
+
+-- src/lib.rt:339:5
+loop-less : tie.Need-loop-less Inv-loop μ-loop
+loop-less c = omega arith
+
+-- src/lib.rt:339:5
+loop-again : tie.Need-loop-again Inv-loop μ-loop
+loop-again c = (
+  omega arith,
+  holdings-next (record { size = c .before .before .before .before .before .before .before .before .before .before .before .before .before .before .before .before .before .before .before .word .result; delay = c .before .before .before .before .before .before .before .before .before .before .before .before .before .before .before .before .before .low .result; clock = c .before .before .before .before .before .before .before .before .before .before .before .before .before .before .before .low2 .result; rows = c .before .before .before .before .before .before .before .before .before .before .before .before .before .before .get-rows .result .rows; slots = c .before .before .before .before .before .before .before .before .before .before .before .before .before .get-slots .result .slots; holdings = c .before .before .before .before .before .before .before .empty-holdings .result }) (c .before .before .before .before .before .before .loop .state) _ _ (c .before .before .before .before .before .before .loop .k) _ (c .before .before .before .before .before .before .loop .inv .1) (read-turn (λ j. holdingFrom (c .before .before .before .before .before .before .before .before .before .before .before .before .before .before .before .before .before .before .before .before .before .args .a .now) (6656 + j * 24)) emptyHoldings emptyHolding 2048 empty-holdings-long (c .before .before .before .before .before .before .loop .k) _ _ (omega arith) refl (c .before .before .before .before .get-holding .ensures)),
+  tests-next (λ j. hasWords (c .before .before .before .before .before .before .before .before .before .before .before .before .before .before .before .before .before .before .before .before .before .args .a .now) (6656 + j * 24) (holdingWords (holdingFrom (c .before .before .before .before .before .before .before .before .before .before .before .before .before .before .before .before .before .before .before .before .before .args .a .now) (6656 + j * 24)))) (c .before .before .before .before .before .before .loop .k) (c .before .before .before .before .before .before .before .before .before .before .both2 .result) (c .before .before .before .before .before .before .loop .exact) _ _ (c .before .before .before .before .before .before .loop .inv .2)
+      (read-test holdingWords (c .before .before .before .before .before .before .before .before .before .before .before .before .before .before .before .before .before .before .before .before .before .args .a .now) (6656 + c .before .before .before .before .before .before .loop .k * 24) _ (c .before .before .before .before .get-holding .result) _ (c .before .before .before .holding-words .result) (c .before .has-words .ensures) (c .before .before .before .holding-words .ensures) (c .before .before .before .before .get-holding .ensures))
+      (c .both3 .ensures),
+)
+
+-- src/lib.rt:347:13
+is-sound-requires : tie.Need-is-sound-requires Inv-loop μ-loop
+is-sound-requires c κs = omega arith
+
+-- src/lib.rt:348:9
+returns : tie.Need-returns Inv-loop μ-loop
+returns c =
+    let e : c .before .before .before .loop .k ≡ 2048 = omega arith in
+    let s = c .before .before .before .loop .inv .1 ∙ decode-state (c .before .before .before .before .before .before .before .before .before .before .before .before .before .before .before .before .before .before .args .a .now) _ (c .before .before .before .before .before .before .before .before .before .before .before .before .before .before .before .before .word .ensures) (c .before .before .before .before .before .before .before .before .before .before .before .before .before .before .low .ensures ∙ ap low (c .before .before .before .before .before .before .before .before .before .before .before .before .before .before .before .word2 .ensures)) (c .before .before .before .before .before .before .before .before .before .before .before .before .low2 .ensures ∙ ap low (c .before .before .before .before .before .before .before .before .before .before .before .before .before .word3 .ensures)) (c .before .before .before .before .before .before .before .before .before .before .before .get-rows .ensures .0) (c .before .before .before .before .before .before .before .before .before .before .get-slots .ensures .0) (read-all (λ j. holdingFrom (c .before .before .before .before .before .before .before .before .before .before .before .before .before .before .before .before .before .before .args .a .now) (6656 + j * 24)) emptyHoldings emptyHolding 2048 empty-holdings-long (c .before .before .before .loop .k) _ e refl ∙ all-read (c .before .before .before .before .before .before .before .before .before .before .before .before .before .before .before .before .before .before .args .a .now)) in
+    let t = exact-tests (c .before .before .before .before .before .before .before .before .before .before .before .before .before .before .before .before .before .before .args .a .now) _ _ _ _ _ _ _ (λ i. omega (arith, c .before .before .before .before .before .before .before .before .before .before .before .before .before .before .before .before .before .shared-slice-known .given i)) (omega arith) (c .before .before .before .before .before .before .before .before .before .is-frame .ensures ∙ framed (c .before .before .before .before .before .before .before .before .before .before .before .before .before .before .before .before .before .before .args .a .now) _ _ _ (c .before .before .before .before .before .before .before .before .before .before .before .before .before .before .before .before .word .ensures) (c .before .before .before .before .before .before .before .before .before .before .before .before .before .before .low .ensures ∙ ap low (c .before .before .before .before .before .before .before .before .before .before .before .before .before .before .before .word2 .ensures)) (c .before .before .before .before .before .before .before .before .before .before .before .before .low2 .ensures ∙ ap low (c .before .before .before .before .before .before .before .before .before .before .before .before .before .word3 .ensures))) (c .before .before .before .before .before .before .before .before .before .before .before .get-rows .ensures .1) (c .before .before .before .before .before .before .before .before .before .before .get-slots .ensures .1) (all-exact (c .before .before .before .before .before .before .before .before .before .before .before .before .before .before .before .before .before .before .args .a .now)) (c .before .before .before .before .before .before .before .before .both .ensures) (c .before .before .before .before .before .before .before .both2 .ensures) (c .before .before .before .loop .inv .2 ∙ rw e) in
+    (s, decode-sound (c .before .before .before .before .before .before .before .before .before .before .before .before .before .before .before .before .before .before .args .a .now) _ _ (omega arith) (sym t ∙ c .before .if1 .taken) s (c .is-sound .ensures))
+
+-- src/lib.rt:317:1
+returns-2 : tie.Need-returns-2 Inv-loop μ-loop
+returns-2 c =
+    let e : c .before .before .loop .k ≡ 2048 = omega arith in
+    let s = c .before .before .loop .inv .1 ∙ decode-state (c .before .before .before .before .before .before .before .before .before .before .before .before .before .before .before .before .before .args .a .now) _ (c .before .before .before .before .before .before .before .before .before .before .before .before .before .before .before .word .ensures) (c .before .before .before .before .before .before .before .before .before .before .before .before .before .low .ensures ∙ ap low (c .before .before .before .before .before .before .before .before .before .before .before .before .before .before .word2 .ensures)) (c .before .before .before .before .before .before .before .before .before .before .before .low2 .ensures ∙ ap low (c .before .before .before .before .before .before .before .before .before .before .before .before .word3 .ensures)) (c .before .before .before .before .before .before .before .before .before .before .get-rows .ensures .0) (c .before .before .before .before .before .before .before .before .before .get-slots .ensures .0) (read-all (λ j. holdingFrom (c .before .before .before .before .before .before .before .before .before .before .before .before .before .before .before .before .before .args .a .now) (6656 + j * 24)) emptyHoldings emptyHolding 2048 empty-holdings-long (c .before .before .loop .k) _ e refl ∙ all-read (c .before .before .before .before .before .before .before .before .before .before .before .before .before .before .before .before .before .args .a .now)) in
+    let t = exact-tests (c .before .before .before .before .before .before .before .before .before .before .before .before .before .before .before .before .before .args .a .now) _ _ _ _ _ _ _ (λ i. omega (arith, c .before .before .before .before .before .before .before .before .before .before .before .before .before .before .before .before .shared-slice-known .given i)) (omega arith) (c .before .before .before .before .before .before .before .before .is-frame .ensures ∙ framed (c .before .before .before .before .before .before .before .before .before .before .before .before .before .before .before .before .before .args .a .now) _ _ _ (c .before .before .before .before .before .before .before .before .before .before .before .before .before .before .before .word .ensures) (c .before .before .before .before .before .before .before .before .before .before .before .before .before .low .ensures ∙ ap low (c .before .before .before .before .before .before .before .before .before .before .before .before .before .before .word2 .ensures)) (c .before .before .before .before .before .before .before .before .before .before .before .low2 .ensures ∙ ap low (c .before .before .before .before .before .before .before .before .before .before .before .before .word3 .ensures))) (c .before .before .before .before .before .before .before .before .before .before .get-rows .ensures .1) (c .before .before .before .before .before .before .before .before .before .get-slots .ensures .1) (all-exact (c .before .before .before .before .before .before .before .before .before .before .before .before .before .before .before .before .before .args .a .now)) (c .before .before .before .before .before .before .before .both .ensures) (c .before .before .before .before .before .before .both2 .ensures) (c .before .before .loop .inv .2 ∙ rw e) in
+    (s, decode-unsound (c .before .before .before .before .before .before .before .before .before .before .before .before .before .before .before .before .before .args .a .now) (sym t ∙ c .if1 .left) (omega arith))
+
+pub decode-spec : {M : Type 1} → statement M
+decode-spec =
+    tie.close
+    (tie.spec
+    Inv-loop
+    μ-loop
+    word-requires
+    word-requires-2
+    low-requires
+    word-requires-3
+    low-requires-2
+    get-rows-requires
+    get-slots-requires
+    is-frame-requires
+    both-requires
+    both-requires-2
+    empty-holdings-requires
+    loop-holds
+    mul-at
+    add-at
+    get-holding-requires
+    holding-words-requires
+    slice-aggregate-has-words
+    has-words-requires
+    both-requires-3
+    mul-x
+    element-set-from-x
+    add-k
+    loop-less
+    loop-again
+    is-sound-requires
+    returns
+    returns-2)

@@ -1,0 +1,155 @@
+-- docs/LAYOUT.md: a state as the first 65,536 bytes of a lent area, the state that an area names, and what a sound area is.
+use mathlib.Core.Bool.{Bool, cond, not, _&&_}
+use mathlib.Core.List.{List, [], _∷_, _++_}
+use Prim.Native.Nat.{ℕ, _+_, _*_, _%_}
+use lib.Dec.{eqb, leb}
+use lib.ListN.{length, getD, take, replicate}
+use Rattle.seq.specs.Below.{allBelow}
+use Rattle.seq.specs.Each.{each}
+use Rattle.words.specs.Bytes.{wordAt, hasWords, wordBytes, zeroWords, joined, same}
+use Rattle.model.specs.declared.Mode.{Mode}
+use Rattle.model.specs.declared.Cause.{Cause}
+use Rattle.model.specs.declared.Cause.the-variants.{Late, Taken}
+use Rattle.model.specs.declared.Condition.{Condition}
+use Rattle.model.specs.declared.Condition.the-variants.{Free, Idle, Fetching, Waiting, Killed}
+use Rattle.model.specs.declared.Content.{Content}
+use Rattle.model.specs.declared.Content.the-variants.{Empty, Filled}
+use Rattle.model.specs.declared.Pin.{Pin}
+use Rattle.model.specs.declared.Pin.the-variants.{Absent, Unpinned, Read, Write}
+use Rattle.model.specs.declared.Row.{Row}
+use Rattle.model.specs.declared.Slot.{Slot}
+use Rattle.model.specs.declared.Holding.{Holding}
+use Rattle.model.specs.declared.State.{State}
+use Rattle.model.specs.Parties.{modeOf, modeNumber}
+use Rattle.model.specs.State.{freeRow, emptySlot, emptyHolding, emptyHoldings, rowAt, slotAt}
+use Rattle.model.specs.Words.{isFilled, pageIn, arrivalIn, dirtyIn, lowestIn, strength}
+use Rattle.rules.specs.Sound.{sound}
+
+-- the letters SABREBUF, the first the least byte
+abbrev pub mark : ℕ
+mark = 5068029821175611731
+
+abbrev pub version : ℕ
+version = 1
+
+-- the number of slots started with, the delay and the clock stand behind the mark and the version
+unfoldable pub headerWords : State → List ℕ
+headerWords s = mark ∷ version ∷ s .size ∷ s .delay ∷ s .clock ∷ []
+
+abbrev pub causeNumber : Cause → ℕ
+causeNumber Late = 4
+causeNumber Taken = 5
+
+abbrev pub conditionNumber : Condition → ℕ
+conditionNumber Free = 0
+conditionNumber Idle = 1
+conditionNumber (Fetching due) = 2
+conditionNumber (Waiting page mode) = 3
+conditionNumber (Killed cause) = causeNumber cause
+
+-- the due tick of a fetching row, the page of a waiting one
+abbrev pub awaited : Condition → ℕ
+awaited Free = 0
+awaited Idle = 0
+awaited (Fetching due) = due
+awaited (Waiting page mode) = page
+awaited (Killed cause) = 0
+
+abbrev pub waitingMode : Condition → ℕ
+waitingMode Free = 0
+waitingMode Idle = 0
+waitingMode (Fetching due) = 0
+waitingMode (Waiting page mode) = modeNumber mode
+waitingMode (Killed cause) = 0
+
+unfoldable pub rowWords : Row → List ℕ
+rowWords x = conditionNumber (x .condition) ∷ awaited (x .condition) ∷ waitingMode (x .condition) ∷ x .deadline ∷ 0 ∷ 0 ∷ 0 ∷ 0 ∷ []
+
+-- a Bool as 0 or 1
+abbrev pub bit : Bool → ℕ
+bit b = cond b 1 0
+
+unfoldable pub slotWords : Slot → List ℕ
+slotWords x =
+    bit (isFilled (x .content)) ∷ pageIn (x .content) ∷ arrivalIn (x .content) ∷ bit (dirtyIn (x .content)) ∷ lowestIn (x .content) ∷ x .touch ∷ 0 ∷ 0 ∷ []
+
+unfoldable pub holdingWords : Holding → List ℕ
+holdingWords h = strength (h .pin) ∷ h .arrival ∷ h .touch ∷ []
+
+-- the 65,536 bytes of a state
+unfoldable pub encoded : State → List ℕ
+encoded s =
+    wordBytes (headerWords s) ++ (zeroWords 59
+    ++ (joined 32 (λ row. wordBytes (rowWords (rowAt s row)))
+    ++ (joined 64 (λ slot. wordBytes (slotWords (slotAt s slot)))
+    ++ (joined 2048 (λ k. wordBytes (holdingWords (getD (s .holdings) k emptyHolding)))
+    ++ zeroWords 1216))))
+
+-- a tick, a page or a deadline has the lower four bytes of its word
+abbrev pub low : ℕ → ℕ
+low w = w % 4294967296
+
+unfoldable pub conditionOf : ℕ → ℕ → ℕ → Condition
+conditionOf number what mode =
+    cond (eqb number 0) Free
+    (cond (eqb number 1) Idle
+    (cond (eqb number 2) (Fetching (low what))
+    (cond (eqb number 3) (Waiting (low what) (modeOf mode))
+    (cond (eqb number 4) (Killed Late) (Killed Taken)))))
+
+unfoldable pub pinNumbered : ℕ → Pin
+pinNumbered number = cond (eqb number 0) Absent (cond (eqb number 1) Unpinned (cond (eqb number 2) Read Write))
+
+unfoldable pub contentOf : ℕ → ℕ → ℕ → ℕ → ℕ → Content
+contentOf filled page arrival dirty lowest = cond (eqb filled 0) Empty (Filled (low page) (low arrival) (not (eqb dirty 0)) lowest)
+
+-- the row, the slot and the holding whose words begin at a place
+unfoldable pub rowFrom : List ℕ → ℕ → Row
+rowFrom a at = record {
+  condition = conditionOf (wordAt a at) (wordAt a (at + 8)) (wordAt a (at + 16));
+  deadline = low (wordAt a (at + 24));
+}
+
+unfoldable pub slotFrom : List ℕ → ℕ → Slot
+slotFrom a at = record {
+  content = contentOf (wordAt a at) (wordAt a (at + 8)) (wordAt a (at + 16)) (wordAt a (at + 24)) (wordAt a (at + 32));
+  touch = low (wordAt a (at + 40));
+}
+
+unfoldable pub holdingFrom : List ℕ → ℕ → Holding
+holdingFrom a at = record { pin = pinNumbered (wordAt a at); arrival = low (wordAt a (at + 8)); touch = low (wordAt a (at + 16)) }
+
+unfoldable pub freeRows : List Row
+freeRows = replicate 32 freeRow
+
+unfoldable pub emptySlots : List Slot
+emptySlots = replicate 64 emptySlot
+
+-- the state that an area names
+unfoldable pub decoded : List ℕ → State
+decoded a = record {
+  size = wordAt a 16;
+  delay = low (wordAt a 24);
+  clock = low (wordAt a 32);
+  rows = each (λ row _. rowFrom a (512 + row * 64)) freeRows;
+  slots = each (λ slot _. slotFrom a (2560 + slot * 64)) emptySlots;
+  holdings = each (λ k _. holdingFrom a (6656 + k * 24)) emptyHoldings;
+}
+
+-- the words of each row, slot and holding are exactly those of what they name
+unfoldable pub exactRows : List ℕ → Bool
+exactRows a = allBelow 32 (λ row. hasWords a (512 + row * 64) (rowWords (rowFrom a (512 + row * 64))))
+
+unfoldable pub exactSlots : List ℕ → Bool
+exactSlots a = allBelow 64 (λ slot. hasWords a (2560 + slot * 64) (slotWords (slotFrom a (2560 + slot * 64))))
+
+unfoldable pub exactHoldings : List ℕ → Bool
+exactHoldings a = allBelow 2048 (λ k. hasWords a (6656 + k * 24) (holdingWords (holdingFrom a (6656 + k * 24))))
+
+-- the first 65,536 bytes are exactly those of the state that they name
+unfoldable pub exact : List ℕ → Bool
+exact a = same (take 65536 a) (encoded (decoded a))
+
+-- an area that every call but start accepts
+unfoldable pub soundArea : List ℕ → Bool
+soundArea a = leb 65536 (length a) && (exact a && sound (decoded a))

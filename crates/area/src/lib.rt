@@ -1,0 +1,396 @@
+// A state as the bytes of a lent area, and back: docs/LAYOUT.md.
+use model::Cause;
+use model::Condition;
+use model::Content;
+use model::Holding;
+use model::Mode;
+use model::Pin;
+use model::Row;
+use model::Slot;
+use model::State;
+ghost use mathlib.Core.Path.{_≡_};
+ghost use mathlib.Core.Bool.{_&&_};
+ghost use mathlib.Core.List.{[], _∷_, _++_};
+ghost use Prim.Native.Nat.{_+_, _*_, _≤_};
+ghost use lib.ListN.{length, getD, drop, replicate};
+ghost use Rattle.words.specs.Bytes.{hasWords, spliced, joined, wordBytes};
+ghost use Rattle.model.specs.Parties.{modeOf};
+ghost use Rattle.model.specs.State.{freeRow, emptySlot, emptyHolding};
+ghost use Rattle.area.specs.Layout.{mark, version, bit, low, causeNumber, conditionOf, pinNumbered, contentOf, rowFrom, slotFrom, holdingFrom, headerWords, rowWords, slotWords, holdingWords, freeRows, emptySlots, exactRows, exactSlots, exactHoldings, decoded, encoded, soundArea};
+
+// The state that an area names, and whether the area is sound.
+pub struct Lent {
+    pub state: State,
+    pub sound: bool,
+}
+
+// The rows and slots that an area names, and whether its bytes there are exactly theirs.
+struct Rows {
+    rows: [Row; 32],
+    exact: bool,
+}
+
+struct Slots {
+    slots: [Slot; 64],
+    exact: bool,
+}
+
+fn low(w: u64) -> u32
+    ensures { λ r. ⌜ r ≡ low w ⌝ }
+{
+    (w % 4294967296) as u32
+}
+
+fn bit(b: bool) -> u64
+    ensures { λ r. ⌜ r ≡ bit b ⌝ }
+{
+    if b {
+        return 1;
+    }
+    0
+}
+
+fn both(a: bool, b: bool) -> bool
+    ensures { λ r. ⌜ r ≡ a && b ⌝ }
+{
+    if a {
+        return b;
+    }
+    false
+}
+
+fn mode_of(mode: u64) -> Mode
+    ensures { λ r. ⌜ r ≡ modeOf mode ⌝ }
+{
+    if mode == 0 {
+        return Mode::Read;
+    }
+    Mode::Write
+}
+
+fn condition_of(number: u64, what: u64, mode: u64) -> Condition
+    ensures { λ r. ⌜ r ≡ conditionOf number what mode ⌝ }
+{
+    if number == 0 {
+        return Condition::Free;
+    }
+    if number == 1 {
+        return Condition::Idle;
+    }
+    if number == 2 {
+        return Condition::Fetching(low(what));
+    }
+    if number == 3 {
+        return Condition::Waiting {
+            page: low(what),
+            mode: mode_of(mode),
+        };
+    }
+    if number == 4 {
+        return Condition::Killed(Cause::Late);
+    }
+    Condition::Killed(Cause::Taken)
+}
+
+fn pin_numbered(number: u64) -> Pin
+    ensures { λ r. ⌜ r ≡ pinNumbered number ⌝ }
+{
+    if number == 0 {
+        return Pin::Absent;
+    }
+    if number == 1 {
+        return Pin::Unpinned;
+    }
+    if number == 2 {
+        return Pin::Read;
+    }
+    Pin::Write
+}
+
+fn content_of(filled: u64, page: u64, arrival: u64, dirty: u64, lowest: u64) -> Content
+    ensures { λ r. ⌜ r ≡ contentOf filled page arrival dirty lowest ⌝ }
+{
+    if filled == 0 {
+        return Content::Empty;
+    }
+    Content::Filled {
+        page: low(page),
+        arrival: low(arrival),
+        dirty: dirty != 0,
+        lowest: lowest as usize,
+    }
+}
+
+// The row whose words begin at a place.
+fn get_row(a: &[u8], at: usize) -> Row
+    requires { ⌜ at + 64 ≤ length (now a) ⌝ }
+    ensures { λ r. ⌜ r ≡ rowFrom (now (a .entry)) at ⌝ }
+{
+    let number = words::word(a, at);
+    let what = words::word(a, at + 8);
+    let mode = words::word(a, at + 16);
+    let deadline = words::word(a, at + 24);
+    let condition = condition_of(number, what, mode);
+    Row {
+        condition,
+        deadline: low(deadline),
+    }
+}
+
+fn get_slot(a: &[u8], at: usize) -> Slot
+    requires { ⌜ at + 64 ≤ length (now a) ⌝ }
+    ensures { λ r. ⌜ r ≡ slotFrom (now (a .entry)) at ⌝ }
+{
+    let filled = words::word(a, at);
+    let page = words::word(a, at + 8);
+    let arrival = words::word(a, at + 16);
+    let dirty = words::word(a, at + 24);
+    let lowest = words::word(a, at + 32);
+    let touch = words::word(a, at + 40);
+    let content = content_of(filled, page, arrival, dirty, lowest);
+    Slot {
+        content,
+        touch: low(touch),
+    }
+}
+
+fn get_holding(a: &[u8], at: usize) -> Holding
+    requires { ⌜ at + 24 ≤ length (now a) ⌝ }
+    ensures { λ r. ⌜ r ≡ holdingFrom (now (a .entry)) at ⌝ }
+{
+    let number = words::word(a, at);
+    let arrival = words::word(a, at + 8);
+    let touch = words::word(a, at + 16);
+    let pin = pin_numbered(number);
+    Holding {
+        pin,
+        arrival: low(arrival),
+        touch: low(touch),
+    }
+}
+
+// The words of a row, a slot, a holding and the header.
+fn row_words(x: Row) -> [u64; 8]
+    ensures { λ r. ⌜ r ≡ rowWords x ⌝ }
+{
+    let deadline = x.deadline as u64;
+    let c = x.condition;
+    match c {
+        Condition::Free => [0, 0, 0, deadline, 0, 0, 0, 0],
+        Condition::Idle => [1, 0, 0, deadline, 0, 0, 0, 0],
+        Condition::Fetching(due) => [2, due as u64, 0, deadline, 0, 0, 0, 0],
+        Condition::Waiting { page, mode } => {
+            let m = model::mode_number(mode);
+            [3, page as u64, m as u64, deadline, 0, 0, 0, 0]
+        }
+        Condition::Killed(cause) => {
+            let n = cause_number(cause);
+            [n, 0, 0, deadline, 0, 0, 0, 0]
+        }
+    }
+}
+
+fn cause_number(cause: Cause) -> u64
+    ensures { λ r. ⌜ r ≡ causeNumber cause ⌝ }
+{
+    match cause {
+        Cause::Late => 4,
+        Cause::Taken => 5,
+    }
+}
+
+fn slot_words(x: Slot) -> [u64; 8]
+    ensures { λ r. ⌜ r ≡ slotWords x ⌝ }
+{
+    let touch = x.touch as u64;
+    let c = x.content;
+    match c {
+        Content::Empty => [0, 0, 0, 0, 0, touch, 0, 0],
+        Content::Filled {
+            page,
+            arrival,
+            dirty,
+            lowest,
+        } => {
+            let d = bit(dirty);
+            [
+                1,
+                page as u64,
+                arrival as u64,
+                d,
+                lowest as u64,
+                touch,
+                0,
+                0,
+            ]
+        }
+    }
+}
+
+fn holding_words(h: Holding) -> [u64; 3]
+    ensures { λ r. ⌜ r ≡ holdingWords h ⌝ }
+{
+    let p = h.pin;
+    let n = model::pin_strength(p);
+    [n as u64, h.arrival as u64, h.touch as u64]
+}
+
+// The mark SABREBUF, the version and the numbers of the whole state.
+fn header_words(size: usize, delay: u32, clock: u32) -> [u64; 5]
+    ensures { λ r. ⌜ r ≡ mark ∷ version ∷ size ∷ delay ∷ clock ∷ [] ⌝ }
+{
+    [
+        5068029821175611731,
+        1,
+        size as u64,
+        delay as u64,
+        clock as u64,
+    ]
+}
+
+fn free_rows() -> [Row; 32]
+    ensures { λ r. ⌜ r ≡ freeRows ⌝ }
+{
+    [Row {
+        condition: Condition::Free,
+        deadline: 0,
+    }; 32]
+}
+
+fn empty_slots() -> [Slot; 64]
+    ensures { λ r. ⌜ r ≡ emptySlots ⌝ }
+{
+    [Slot {
+        content: Content::Empty,
+        touch: 0,
+    }; 64]
+}
+
+fn get_rows(a: &[u8]) -> Rows
+    requires { ⌜ 65536 ≤ length (now a) ⌝ }
+    ensures { λ r. ⌜ (r .rows ≡ decoded (now (a .entry)) .rows) × (r .exact ≡ exactRows (now (a .entry))) ⌝ }
+{
+    let mut rows = free_rows();
+    let mut exact = true;
+    for i in 0..32usize {
+        let at = 512 + i * 64;
+        let x = get_row(a, at);
+        let ws = row_words(x);
+        exact = both(exact, words::has_words(a, at, &ws));
+        rows[i] = x;
+    }
+    Rows { rows, exact }
+}
+
+fn get_slots(a: &[u8]) -> Slots
+    requires { ⌜ 65536 ≤ length (now a) ⌝ }
+    ensures { λ r. ⌜ (r .slots ≡ decoded (now (a .entry)) .slots) × (r .exact ≡ exactSlots (now (a .entry))) ⌝ }
+{
+    let mut slots = empty_slots();
+    let mut exact = true;
+    for i in 0..64usize {
+        let at = 2560 + i * 64;
+        let x = get_slot(a, at);
+        let ws = slot_words(x);
+        exact = both(exact, words::has_words(a, at, &ws));
+        slots[i] = x;
+    }
+    Slots { slots, exact }
+}
+
+// The mark, the version, the numbers of the whole state and the unused words are those of the layout.
+fn is_frame(a: &[u8], size: usize, delay: u32, clock: u32) -> bool
+    requires { ⌜ 65536 ≤ length (now a) ⌝ }
+    ensures { λ r. ⌜ r ≡ hasWords (now (a .entry)) 0 (mark ∷ version ∷ size ∷ delay ∷ clock ∷ []) && (hasWords (now (a .entry)) 40 (replicate 59 0) && hasWords (now (a .entry)) 55808 (replicate 1216 0)) ⌝ }
+{
+    let ws = header_words(size, delay, clock);
+    if words::has_words(a, 0, &ws) {
+        if words::has_zeros(a, 40, 59) {
+            return words::has_zeros(a, 55808, 1216);
+        }
+        return false;
+    }
+    false
+}
+
+// The state that an area of at least 65,536 bytes names, and whether the area is sound. The holdings are read into their place.
+pub fn decode(a: &[u8]) -> Lent
+    requires { ⌜ 65536 ≤ length (now a) ⌝ }
+    ensures { λ r. ⌜ (r .state ≡ decoded (now (a .entry))) × (r .sound ≡ soundArea (now (a .entry))) ⌝ }
+{
+    let size = words::word(a, 16) as usize;
+    let delay = low(words::word(a, 24));
+    let clock = low(words::word(a, 32));
+    let r = get_rows(a);
+    let s = get_slots(a);
+    let frame = is_frame(a, size, delay, clock);
+    let mut exact = both(frame, both(r.exact, s.exact));
+    let rows = r.rows;
+    let slots = s.slots;
+    let holdings = model::empty_holdings();
+    let mut state = State {
+        size,
+        delay,
+        clock,
+        rows,
+        slots,
+        holdings,
+    };
+    for k in 0..2048usize {
+        let at = 6656 + k * 24;
+        let x = get_holding(a, at);
+        let ws = holding_words(x);
+        exact = both(exact, words::has_words(a, at, &ws));
+        state.holdings[k] = x;
+    }
+    if exact {
+        let sound = sound::is_sound(state);
+        return Lent { state, sound };
+    }
+    Lent {
+        state,
+        sound: false,
+    }
+}
+
+fn put_rows(a: &mut [u8], rows: [Row; 32])
+    requires { ⌜ 65536 ≤ length (now a) ⌝ }
+    ensures { λ _. ⌜ now (a .exit) ≡ spliced (now (a .entry)) 512 (joined 32 (λ i. wordBytes (rowWords (getD rows i freeRow)))) ⌝ }
+{
+    for i in 0..32usize {
+        let x = rows[i];
+        let ws = row_words(x);
+        words::put_words(a, 512 + i * 64, &ws);
+    }
+}
+
+fn put_slots(a: &mut [u8], slots: [Slot; 64])
+    requires { ⌜ 65536 ≤ length (now a) ⌝ }
+    ensures { λ _. ⌜ now (a .exit) ≡ spliced (now (a .entry)) 2560 (joined 64 (λ i. wordBytes (slotWords (getD slots i emptySlot)))) ⌝ }
+{
+    for i in 0..64usize {
+        let x = slots[i];
+        let ws = slot_words(x);
+        words::put_words(a, 2560 + i * 64, &ws);
+    }
+}
+
+// The state written over the first 65,536 bytes; the others are left. The holdings are written from their place.
+pub fn encode(a: &mut [u8], s: State)
+    requires { ⌜ 65536 ≤ length (now a) ⌝ }
+    ensures { λ _. ⌜ now (a .exit) ≡ encoded s ++ drop 65536 (now (a .entry)) ⌝ }
+{
+    let ws = header_words(s.size, s.delay, s.clock);
+    words::put_words(a, 0, &ws);
+    words::put_zeros(a, 40, 59);
+    let rows = s.rows;
+    put_rows(a, rows);
+    let slots = s.slots;
+    put_slots(a, slots);
+    for k in 0..2048usize {
+        let x = s.holdings[k];
+        let hs = holding_words(x);
+        words::put_words(a, 6656 + k * 24, &hs);
+    }
+    words::put_zeros(a, 55808, 1216);
+}

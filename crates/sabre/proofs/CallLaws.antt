@@ -1,0 +1,165 @@
+-- What each exit of an exported call comes to, and what a sound area gives to the call on its state.
+use mathlib.Core.Path.{_≡_, refl, _∙_, sym, ap}
+use mathlib.Core.Bool.{Bool, true, false, cond, not}
+use mathlib.Core.List.{List, [], _∷_, _++_}
+use Prim.Native.Nat.{ℕ, zero, suc, _+_, _<_, _≤_, _^_}
+use native.Mathlib.Omega.{arith}
+use borrow.Author.Tests.{lt-ltb, le-ltb, lt-leb}
+use lib.Dec.{eqb, lit<}
+use lib.ListN.{length, drop}
+use Rattle.seq.proofs.Tests.{true-false}
+use Rattle.model.specs.declared.State.{State}
+use Rattle.model.specs.declared.Outcome.{Outcome}
+use Rattle.model.specs.declared.Cause.{Cause}
+use Rattle.model.specs.declared.Cause.the-variants.{Late, Taken}
+use Rattle.model.specs.declared.Back.{Back}
+use Rattle.model.specs.declared.Answer.{Answer}
+use Rattle.model.specs.declared.Answer.the-variants.{
+  Refused,
+  Started,
+  Begun,
+  Ready,
+  Fetch,
+  Wait,
+  Unpinned,
+  Ended,
+  Clock,
+  RowFree,
+  RowIdle,
+  RowFetching,
+  RowWaiting,
+  RowKilled,
+  PageUnseen,
+  PageActive,
+  PageRead,
+  PageWrite,
+  PageDormant,
+  Open,
+}
+use Rattle.model.specs.State.{fresh}
+use Rattle.rules.specs.Sound.{sound}
+use Rattle.rules.specs.Answers.{word, value, slotTold, backTold}
+use Rattle.rules.specs.Refusals.{startRefusal}
+use Rattle.rules.specs.Calls.{unless, started}
+use Rattle.rules.specs.Run.{Call, start, outcome}
+use Rattle.rules.proofs.SoundFacts.{Sound, facts}
+use Rattle.rules.proofs.Granting.{grant-ready, granted-answer}
+use Rattle.rules.proofs.CallCases.{isServed}
+use Rattle.rules.proofs.WaitFetch.{granted-alone}
+use Rattle.area.specs.Layout.{encoded, decoded, soundArea}
+use Rattle.area.proofs.RoundTrip.{sound-area}
+use Rattle.sabre.specs.Lent.{unfit, isRefused, answerOn, areaAfter, status, answerNumbers}
+
+-- a short area, and an area that is not sound
+pub short-unsound : (a : List ℕ) → length a < 65536 → soundArea a ≡ false
+unfolding soundArea
+short-unsound a h = rw (lt-leb 65536 (length a) h)
+
+-- what is promised of a call that returns r, tells ns and leaves b
+pub record Promise (a : List ℕ) (c : Call) (r : ℕ) (ns b : List ℕ) : Type 0 where
+  pub returned : r ≡ status (answerOn a c)
+  pub told : ns ≡ answerNumbers (answerOn a c)
+  pub left : b ≡ areaAfter a c
+
+module _ (a : List ℕ) (c : Call) where
+  pub refused-1 : (r : ℕ) (ns : List ℕ) → unfit a c ≡ true → r ≡ 1 → ns ≡ 0 ∷ 1 ∷ 0 ∷ 0 ∷ [] → Promise a c r ns a
+  unfolding answerOn areaAfter status answerNumbers word value slotTold backTold
+  refused-1 r ns u e f = record { returned = rw u e; told = rw u f; left = rw u }
+
+  pub finished : (o : Outcome) (r : ℕ) (ns b : List ℕ) → unfit a c ≡ false → o ≡ outcome (decoded a) c
+      → r ≡ status (o .answer) → ns ≡ answerNumbers (o .answer) → b ≡ cond (isRefused (o .answer)) a (encoded (o .state) ++ drop 65536 a) → Promise a c r ns b
+  unfolding answerOn areaAfter
+  finished o r ns b u e p q t = record { returned = rw (u, ← e) p; told = rw (u, ← e) q; left = rw (u, ← e) t }
+
+-- a sound area's state is small enough for the call
+pub sound-state : (a : List ℕ) (s : State) → s ≡ decoded a → soundArea a ≡ true → Sound s
+sound-state a s e h = facts s (ap sound e ∙ sound-area a h .sound-state)
+
+pub fits-clock : (s : State) → Sound s → (s .size ≤ 64) × (s .clock + s .delay < 2 ^ 32)
+fits-clock s z = (z .size-most, let b : 4000000255 < 2 ^ 32 = lit< tt in omega (arith, z .clock-most, z .delay-most))
+
+-- a slot that is told is below 64
+pub fits-slot : (s : State) → sound s ≡ true → (c : Call) → slotTold (outcome s c .answer) ≤ 64
+unfolding slotTold
+fits-slot s z c = go (outcome s c .answer) refl
+  where
+    told : (slot : ℕ) → slot < 64 → slot + 1 ≤ 64
+    told slot h = omega arith
+
+    fetched : (due slot : ℕ) (back : Back) → outcome s c .answer ≡ Fetch due slot back → slot < 64
+    fetched due slot back w =
+        let x = granted-alone s z c (ap isServed w) (λ e. let n : _≡_ {A = ℕ} 0 1 = cc in omega arith) in
+        let g = x .5 in
+        granted-answer (g .before) (x .0) (g .slot) (x .2) (g .arrival) (g .back) (Fetch due slot back) (ap (λ (o : Outcome). o .answer) (sym (g .same)) ∙ w)
+        (λ q k. true-false (cc))
+        (λ q k. let d : slot ≡ g .slot = cc in rw d (g .ground .slot-is))
+
+    readied : (slot : ℕ) (back : Back) → outcome s c .answer ≡ Ready slot back → slot < 64
+    readied slot back w =
+        let x = granted-alone s z c (ap isServed w) (λ e. let n : _≡_ {A = ℕ} 0 1 = cc in omega arith) in
+        grant-ready s (x .0) (x .1) (x .2) (x .4) (outcome s c) (x .5) slot back w .0
+
+    go : (x : Answer) → outcome s c .answer ≡ x → slotTold x ≤ 64
+    go (Refused number) e = omega arith
+    go Started e = omega arith
+    go Begun e = omega arith
+    go (Ready slot back) e = told slot (readied slot back e)
+    go (Fetch due slot back) e = told slot (fetched due slot back e)
+    go Wait e = omega arith
+    go Unpinned e = omega arith
+    go Ended e = omega arith
+    go (Clock clock) e = omega arith
+    go RowFree e = omega arith
+    go RowIdle e = omega arith
+    go (RowFetching due) e = omega arith
+    go RowWaiting e = omega arith
+    go (RowKilled cause) e = omega arith
+    go PageUnseen e = omega arith
+    go (PageActive arrival) e = omega arith
+    go (PageRead arrival) e = omega arith
+    go (PageWrite arrival) e = omega arith
+    go (PageDormant arrival) e = omega arith
+    go (Open count) e = omega arith
+
+pub ready-slot : (x : Answer) (slot : ℕ) (back : Back) → x ≡ Ready slot back → slotTold x ≤ 64 → slot + 1 ≤ 64
+unfolding slotTold
+ready-slot x slot back e h = rw e at h
+
+pub fetch-slot : (x : Answer) (due slot : ℕ) (back : Back) → x ≡ Fetch due slot back → slotTold x ≤ 64 → slot + 1 ≤ 64
+unfolding slotTold
+fetch-slot x due slot back e h = rw e at h
+
+-- a look at a killed row is no refusal
+pub killed-told : (x : Answer) (cause : Cause) → x ≡ RowKilled cause → false ≡ isRefused x
+unfolding word
+killed-told x Late e = rw e
+killed-told x Taken e = rw e
+
+pub killed-status : (x : Answer) (cause : Cause) → x ≡ RowKilled cause → 0 ≡ status x
+unfolding status
+killed-status x cause e = rw (sym (killed-told x cause e))
+
+-- the area that a refused call leaves, and one that is accepted
+pub finish-refused : (x : Answer) (a b : List ℕ) (t : Bool) → t ≡ isRefused x → t ≡ true → a ≡ cond (isRefused x) a b
+finish-refused x a b t e f = rw (sym e ∙ f)
+
+pub finish-left : (x : Answer) (a b d : List ℕ) (t : Bool) → t ≡ isRefused x → t ≡ false → d ≡ b → d ≡ cond (isRefused x) a b
+finish-left x a b d t e f g = rw (sym e ∙ f) g
+
+-- the call on the state that decode gives
+pub on-area : (a : List ℕ) (c : Call) (s : State) (o : Outcome) → s ≡ decoded a → o ≡ outcome s c → o ≡ outcome (decoded a) c
+on-area a c s o e f = f ∙ ap (λ (t : State). outcome t c) e
+
+pub answered-slot : (a : List ℕ) (c : Call) (s : State) (o : Outcome) → s ≡ decoded a → soundArea a ≡ true → o ≡ outcome s c → slotTold (o .answer) ≤ 64
+answered-slot a c s o e h f = rw f (fits-slot s (ap sound e ∙ sound-area a h .sound-state) c)
+
+-- a start that is refused by its numbers, and one that is accepted
+module _ (a : List ℕ) (slots delay r : ℕ) (ns b : List ℕ) (l : 65536 ≤ length a) where
+  pub start-refused : (n : ℕ) → n ≡ startRefusal slots delay → (n ≡ 0 → ⊥) → r ≡ status (Refused n) → ns ≡ answerNumbers (Refused n) → b ≡ a → Promise a (start slots delay) r ns b
+  unfolding unfit outcome started status word value
+  start-refused zero e k p q t = absurd (k refl)
+  start-refused (suc n) e k p q t = finished a (start slots delay) (record { state = decoded a; answer = Refused (suc n) }) r ns b (le-ltb (length a) 65536 l) (rw (← e)) p q t
+
+  pub start-accepted : (n : ℕ) → n ≡ startRefusal slots delay → n ≡ 0 → r ≡ status Started → ns ≡ answerNumbers Started → b ≡ encoded (fresh slots delay) ++ drop 65536 a → Promise a (start slots delay) r ns b
+  unfolding unfit outcome started status word value
+  start-accepted n e k p q t = finished a (start slots delay) (record { state = fresh slots delay; answer = Started }) r ns b (le-ltb (length a) 65536 l) (rw (← e, k)) p q t

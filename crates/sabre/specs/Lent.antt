@@ -1,0 +1,43 @@
+-- Demands 1 and 2 over the bytes of a lent area: what each exported call answers, and the area that it leaves.
+use mathlib.Core.Bool.{Bool, cond, not}
+use mathlib.Core.List.{List, [], _∷_, _++_}
+use Prim.Native.Nat.{ℕ}
+use lib.Dec.{eqb, ltb}
+use lib.ListN.{length, drop}
+use Rattle.model.specs.declared.Answer.{Answer}
+use Rattle.model.specs.declared.Answer.the-variants.{Refused}
+use Rattle.rules.specs.Answers.{word, value, slotTold, backTold}
+use Rattle.rules.specs.Run.{Call, start, begin, request, retry, unpin, end, tick, look, view, count, outcome}
+use Rattle.area.specs.Layout.{encoded, decoded, soundArea}
+
+-- refusal 1: the area is under 65,536 bytes, or (not for start) unsound
+unfoldable pub unfit : List ℕ → Call → Bool
+unfit a (start slots delay) = ltb (length a) 65536
+unfit a (begin level number deadline) = not (soundArea a)
+unfit a (request level number page mode) = not (soundArea a)
+unfit a (retry level number) = not (soundArea a)
+unfit a (unpin level number page) = not (soundArea a)
+unfit a (end level number) = not (soundArea a)
+unfit a tick = not (soundArea a)
+unfit a (look level number) = not (soundArea a)
+unfit a (view level page) = not (soundArea a)
+unfit a (count level) = not (soundArea a)
+
+-- the answer of a call on an area
+unfoldable pub answerOn : List ℕ → Call → Answer
+answerOn a c = cond (unfit a c) (Refused 1) (outcome (decoded a) c .answer)
+
+abbrev pub isRefused : Answer → Bool
+isRefused x = eqb (word x) 0
+
+-- the area that a call leaves: after a refusal every byte as before; else the bytes of the next state, and those past 65,536 as before
+unfoldable pub areaAfter : List ℕ → Call → List ℕ
+areaAfter a c = cond (isRefused (answerOn a c)) a (encoded (outcome (decoded a) c .state) ++ drop 65536 a)
+
+-- what a call returns: 0 where it is accepted, else the refusal's number
+unfoldable pub status : Answer → ℕ
+status x = cond (isRefused x) (value x) 0
+
+-- the four numbers of an answer: word, value, and for the server alone slot + 1 or 0 and page to write back + 1 or 0
+unfoldable pub answerNumbers : Answer → List ℕ
+answerNumbers x = word x ∷ value x ∷ slotTold x ∷ backTold x ∷ []

@@ -1,0 +1,366 @@
+// The exported calls: each tests the lent area, makes the call on the state by value, and writes the next state over the area.
+use model::Answer;
+use model::Back;
+use model::Cause;
+use model::Outcome;
+ghost use mathlib.Core.Path.{_≡_};
+ghost use mathlib.Core.Bool.{cond};
+ghost use mathlib.Core.List.{[], _∷_, _++_};
+ghost use Prim.Native.Nat.{_≤_};
+ghost use lib.ListN.{length, drop};
+ghost use Rattle.rules.specs.Answers.{causeWord, pageBack, slotTold};
+ghost use Rattle.rules.specs.Run.{start, begin, request, retry, unpin, end, tick, look, view, count};
+ghost use Rattle.area.specs.Layout.{encoded};
+ghost use Rattle.sabre.specs.Lent.{isRefused, answerOn, areaAfter, status, answerNumbers};
+
+fn cause_word(cause: Cause) -> u64
+    ensures { λ r. ⌜ r ≡ causeWord cause ⌝ }
+{
+    match cause {
+        Cause::Late => 11,
+        Cause::Taken => 12,
+    }
+}
+
+fn back_number(back: Back) -> u64
+    ensures { λ r. ⌜ r ≡ pageBack back ⌝ }
+{
+    match back {
+        Back::Nothing => 0,
+        Back::Page(page) => page as u64 + 1,
+    }
+}
+
+// The word, the value, and for the server alone slot + 1 and page to write back + 1, 0 if none.
+fn answer_numbers(x: Answer) -> [u64; 4]
+    requires { ⌜ slotTold x ≤ 64 ⌝ }
+    ensures { λ r. ⌜ r ≡ answerNumbers x ⌝ }
+{
+    match x {
+        Answer::Refused(number) => [0, number as u64, 0, 0],
+        Answer::Started => [1, 0, 0, 0],
+        Answer::Begun => [2, 0, 0, 0],
+        Answer::Ready { slot, back } => {
+            let page = back_number(back);
+            [3, 0, slot as u64 + 1, page]
+        }
+        Answer::Fetch { due, slot, back } => {
+            let page = back_number(back);
+            [4, due as u64, slot as u64 + 1, page]
+        }
+        Answer::Wait => [5, 0, 0, 0],
+        Answer::Unpinned => [6, 0, 0, 0],
+        Answer::Ended => [7, 0, 0, 0],
+        Answer::Clock(clock) => [8, clock as u64, 0, 0],
+        Answer::RowFree => [9, 0, 0, 0],
+        Answer::RowIdle => [10, 0, 0, 0],
+        Answer::RowFetching(due) => [4, due as u64, 0, 0],
+        Answer::RowWaiting => [5, 0, 0, 0],
+        Answer::RowKilled(cause) => {
+            let word = cause_word(cause);
+            [word, 0, 0, 0]
+        }
+        Answer::PageUnseen => [13, 0, 0, 0],
+        Answer::PageActive(arrival) => [14, arrival as u64, 0, 0],
+        Answer::PageRead(arrival) => [15, arrival as u64, 0, 0],
+        Answer::PageWrite(arrival) => [16, arrival as u64, 0, 0],
+        Answer::PageDormant(arrival) => [17, arrival as u64, 0, 0],
+        Answer::Open(count) => [18, count as u64, 0, 0],
+    }
+}
+
+// What a call returns: 0 where it is accepted, else the refusal's number.
+fn status_of(x: Answer) -> u32
+    ensures { λ r. ⌜ r ≡ status x ⌝ }
+{
+    match x {
+        Answer::Refused(number) => number,
+        Answer::Started => 0,
+        Answer::Begun => 0,
+        Answer::Ready { slot: _, back: _ } => 0,
+        Answer::Fetch {
+            due: _,
+            slot: _,
+            back: _,
+        } => 0,
+        Answer::Wait => 0,
+        Answer::Unpinned => 0,
+        Answer::Ended => 0,
+        Answer::Clock(_) => 0,
+        Answer::RowFree => 0,
+        Answer::RowIdle => 0,
+        Answer::RowFetching(_) => 0,
+        Answer::RowWaiting => 0,
+        Answer::RowKilled(_) => 0,
+        Answer::PageUnseen => 0,
+        Answer::PageActive(_) => 0,
+        Answer::PageRead(_) => 0,
+        Answer::PageWrite(_) => 0,
+        Answer::PageDormant(_) => 0,
+        Answer::Open(_) => 0,
+    }
+}
+
+fn is_refused(x: Answer) -> bool
+    ensures { λ r. ⌜ r ≡ isRefused x ⌝ }
+{
+    match x {
+        Answer::Refused(_) => true,
+        Answer::Started => false,
+        Answer::Begun => false,
+        Answer::Ready { slot: _, back: _ } => false,
+        Answer::Fetch {
+            due: _,
+            slot: _,
+            back: _,
+        } => false,
+        Answer::Wait => false,
+        Answer::Unpinned => false,
+        Answer::Ended => false,
+        Answer::Clock(_) => false,
+        Answer::RowFree => false,
+        Answer::RowIdle => false,
+        Answer::RowFetching(_) => false,
+        Answer::RowWaiting => false,
+        Answer::RowKilled(_) => false,
+        Answer::PageUnseen => false,
+        Answer::PageActive(_) => false,
+        Answer::PageRead(_) => false,
+        Answer::PageWrite(_) => false,
+        Answer::PageDormant(_) => false,
+        Answer::Open(_) => false,
+    }
+}
+
+// Refusal 1.
+fn refuse(answer: &mut [u64; 4]) -> u32
+    ensures { λ r. ⌜ (r ≡ 1) × (now (answer .exit) ≡ 0 ∷ 1 ∷ 0 ∷ 0 ∷ []) ⌝ }
+{
+    *answer = [0, 1, 0, 0];
+    1
+}
+
+// The answer told.
+fn tell(answer: &mut [u64; 4], x: Answer) -> u32
+    requires { ⌜ slotTold x ≤ 64 ⌝ }
+    ensures { λ r. ⌜ (r ≡ status x) × (now (answer .exit) ≡ answerNumbers x) ⌝ }
+{
+    let numbers = answer_numbers(x);
+    *answer = numbers;
+    status_of(x)
+}
+
+// The answer told and, where the call is accepted, the next state written over the area.
+fn finish(area: &mut [u8], answer: &mut [u64; 4], o: Outcome) -> u32
+    requires { ⌜ (65536 ≤ length (now area)) × (slotTold (o .answer) ≤ 64) ⌝ }
+    ensures { λ r. ⌜ (r ≡ status (o .answer)) × (now (answer .exit) ≡ answerNumbers (o .answer)) × (now (area .exit) ≡ cond (isRefused (o .answer)) (now (area .entry)) (encoded (o .state) ++ drop 65536 (now (area .entry)))) ⌝ }
+{
+    let x = o.answer;
+    let n = tell(answer, x);
+    if is_refused(x) {
+        return n;
+    }
+    let s = o.state;
+    area::encode(area, s);
+    n
+}
+
+// A fresh start on any area of at least 65,536 bytes.
+#[no_mangle]
+pub extern "C" fn sabre_start(area: &mut [u8], slots: u32, delay: u32, answer: &mut [u64; 4]) -> u32
+    ensures returned { λ r. ⌜ r ≡ status (answerOn (now (area .entry)) (start slots delay)) ⌝ }
+    ensures told { λ _. ⌜ now (answer .exit) ≡ answerNumbers (answerOn (now (area .entry)) (start slots delay)) ⌝ }
+    ensures left { λ _. ⌜ now (area .exit) ≡ areaAfter (now (area .entry)) (start slots delay) ⌝ }
+{
+    if area.len() < 65536 {
+        return refuse(answer);
+    }
+    let number = calls::start_refusal(slots, delay);
+    if number != 0 {
+        return tell(answer, Answer::Refused(number));
+    }
+    let s = model::fresh_state(slots as usize, delay);
+    area::encode(area, s);
+    tell(answer, Answer::Started)
+}
+
+#[no_mangle]
+pub extern "C" fn sabre_begin(
+    area: &mut [u8],
+    level: u32,
+    row: u32,
+    deadline: u32,
+    answer: &mut [u64; 4],
+) -> u32
+    ensures returned { λ r. ⌜ r ≡ status (answerOn (now (area .entry)) (begin level row deadline)) ⌝ }
+    ensures told { λ _. ⌜ now (answer .exit) ≡ answerNumbers (answerOn (now (area .entry)) (begin level row deadline)) ⌝ }
+    ensures left { λ _. ⌜ now (area .exit) ≡ areaAfter (now (area .entry)) (begin level row deadline) ⌝ }
+{
+    if area.len() < 65536 {
+        return refuse(answer);
+    }
+    let lent = area::decode(area);
+    if lent.sound {
+        let s = lent.state;
+        let o = calls::begin(s, level, row, deadline);
+        return finish(area, answer, o);
+    }
+    refuse(answer)
+}
+
+#[no_mangle]
+pub extern "C" fn sabre_request(
+    area: &mut [u8],
+    level: u32,
+    row: u32,
+    page: u32,
+    mode: u32,
+    answer: &mut [u64; 4],
+) -> u32
+    ensures returned { λ r. ⌜ r ≡ status (answerOn (now (area .entry)) (request level row page mode)) ⌝ }
+    ensures told { λ _. ⌜ now (answer .exit) ≡ answerNumbers (answerOn (now (area .entry)) (request level row page mode)) ⌝ }
+    ensures left { λ _. ⌜ now (area .exit) ≡ areaAfter (now (area .entry)) (request level row page mode) ⌝ }
+{
+    if area.len() < 65536 {
+        return refuse(answer);
+    }
+    let lent = area::decode(area);
+    if lent.sound {
+        let s = lent.state;
+        let o = calls::request(s, level, row, page, mode);
+        return finish(area, answer, o);
+    }
+    refuse(answer)
+}
+
+#[no_mangle]
+pub extern "C" fn sabre_retry(area: &mut [u8], level: u32, row: u32, answer: &mut [u64; 4]) -> u32
+    ensures returned { λ r. ⌜ r ≡ status (answerOn (now (area .entry)) (retry level row)) ⌝ }
+    ensures told { λ _. ⌜ now (answer .exit) ≡ answerNumbers (answerOn (now (area .entry)) (retry level row)) ⌝ }
+    ensures left { λ _. ⌜ now (area .exit) ≡ areaAfter (now (area .entry)) (retry level row) ⌝ }
+{
+    if area.len() < 65536 {
+        return refuse(answer);
+    }
+    let lent = area::decode(area);
+    if lent.sound {
+        let s = lent.state;
+        let o = calls::retry(s, level, row);
+        return finish(area, answer, o);
+    }
+    refuse(answer)
+}
+
+#[no_mangle]
+pub extern "C" fn sabre_unpin(
+    area: &mut [u8],
+    level: u32,
+    row: u32,
+    page: u32,
+    answer: &mut [u64; 4],
+) -> u32
+    ensures returned { λ r. ⌜ r ≡ status (answerOn (now (area .entry)) (unpin level row page)) ⌝ }
+    ensures told { λ _. ⌜ now (answer .exit) ≡ answerNumbers (answerOn (now (area .entry)) (unpin level row page)) ⌝ }
+    ensures left { λ _. ⌜ now (area .exit) ≡ areaAfter (now (area .entry)) (unpin level row page) ⌝ }
+{
+    if area.len() < 65536 {
+        return refuse(answer);
+    }
+    let lent = area::decode(area);
+    if lent.sound {
+        let s = lent.state;
+        let o = calls::unpin(s, level, row, page);
+        return finish(area, answer, o);
+    }
+    refuse(answer)
+}
+
+#[no_mangle]
+pub extern "C" fn sabre_end(area: &mut [u8], level: u32, row: u32, answer: &mut [u64; 4]) -> u32
+    ensures returned { λ r. ⌜ r ≡ status (answerOn (now (area .entry)) (end level row)) ⌝ }
+    ensures told { λ _. ⌜ now (answer .exit) ≡ answerNumbers (answerOn (now (area .entry)) (end level row)) ⌝ }
+    ensures left { λ _. ⌜ now (area .exit) ≡ areaAfter (now (area .entry)) (end level row) ⌝ }
+{
+    if area.len() < 65536 {
+        return refuse(answer);
+    }
+    let lent = area::decode(area);
+    if lent.sound {
+        let s = lent.state;
+        let o = calls::end(s, level, row);
+        return finish(area, answer, o);
+    }
+    refuse(answer)
+}
+
+#[no_mangle]
+pub extern "C" fn sabre_tick(area: &mut [u8], answer: &mut [u64; 4]) -> u32
+    ensures returned { λ r. ⌜ r ≡ status (answerOn (now (area .entry)) tick) ⌝ }
+    ensures told { λ _. ⌜ now (answer .exit) ≡ answerNumbers (answerOn (now (area .entry)) tick) ⌝ }
+    ensures left { λ _. ⌜ now (area .exit) ≡ areaAfter (now (area .entry)) tick ⌝ }
+{
+    if area.len() < 65536 {
+        return refuse(answer);
+    }
+    let lent = area::decode(area);
+    if lent.sound {
+        let s = lent.state;
+        let o = calls::tick(s);
+        return finish(area, answer, o);
+    }
+    refuse(answer)
+}
+
+#[no_mangle]
+pub extern "C" fn sabre_look(area: &[u8], level: u32, row: u32, answer: &mut [u64; 4]) -> u32
+    ensures returned { λ r. ⌜ r ≡ status (answerOn (now (area .entry)) (look level row)) ⌝ }
+    ensures told { λ _. ⌜ now (answer .exit) ≡ answerNumbers (answerOn (now (area .entry)) (look level row)) ⌝ }
+{
+    if area.len() < 65536 {
+        return refuse(answer);
+    }
+    let lent = area::decode(area);
+    if lent.sound {
+        let s = lent.state;
+        let o = calls::look(s, level, row);
+        let x = o.answer;
+        return tell(answer, x);
+    }
+    refuse(answer)
+}
+
+#[no_mangle]
+pub extern "C" fn sabre_view(area: &[u8], level: u32, page: u32, answer: &mut [u64; 4]) -> u32
+    ensures returned { λ r. ⌜ r ≡ status (answerOn (now (area .entry)) (view level page)) ⌝ }
+    ensures told { λ _. ⌜ now (answer .exit) ≡ answerNumbers (answerOn (now (area .entry)) (view level page)) ⌝ }
+{
+    if area.len() < 65536 {
+        return refuse(answer);
+    }
+    let lent = area::decode(area);
+    if lent.sound {
+        let s = lent.state;
+        let o = calls::view(s, level, page);
+        let x = o.answer;
+        return tell(answer, x);
+    }
+    refuse(answer)
+}
+
+#[no_mangle]
+pub extern "C" fn sabre_count(area: &[u8], level: u32, answer: &mut [u64; 4]) -> u32
+    ensures returned { λ r. ⌜ r ≡ status (answerOn (now (area .entry)) (count level)) ⌝ }
+    ensures told { λ _. ⌜ now (answer .exit) ≡ answerNumbers (answerOn (now (area .entry)) (count level)) ⌝ }
+{
+    if area.len() < 65536 {
+        return refuse(answer);
+    }
+    let lent = area::decode(area);
+    if lent.sound {
+        let s = lent.state;
+        let o = calls::count(s, level);
+        let x = o.answer;
+        return tell(answer, x);
+    }
+    refuse(answer)
+}

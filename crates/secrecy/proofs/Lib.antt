@@ -1,0 +1,13 @@
+-- which areas a call accepts
+pub mod Areas
+-- demand 1
+pub mod Refusals
+pub mod Smallest
+-- demand 2
+pub mod Steps
+pub mod OneSlot
+pub mod Arrived
+pub mod LetsGo
+-- demand 3
+pub mod RunStates
+pub mod Blind

@@ -1,0 +1,5 @@
+pub mod SpliceLaws
+pub mod ByteLaws
+pub mod JoinLaws
+pub mod SameLaws
+pub mod ZeroLaws

@@ -1,0 +1,151 @@
+/*
+ * A record server in small: two slots, a disk of 4,096 pages, and the calls of sabre.h.
+ * The look-back room (level 3) reads the page of a donation while the issue desk
+ * (level 0) books on it. The program prints each answer and ends with 1 if one is not
+ * as expected. README.md has the command that builds and runs it.
+ */
+#include "sabre.h"
+
+#include <stdio.h>
+#include <stdlib.h>
+#include <string.h>
+
+#define SLOTS 2
+#define DELAY 1
+#define PAGES 4096
+#define RECORD 16
+#define NO_PAGE PAGES
+
+static const char *const words[] = {
+    "refused", "started", "begun", "ready", "fetch", "wait", "unpinned", "ended", "clock", "none",
+    "idle", "late", "taken", "unseen", "active", "read", "write", "dormant", "open"
+};
+
+static uint8_t area[SABRE_AREA_SIZE];
+static uint64_t answer[4];
+
+/* What the server itself has: the disk, the slots, and which page it read into each slot. */
+static char disk[PAGES][RECORD];
+static char slots[SLOTS][RECORD];
+static uint32_t page_in[SLOTS];
+
+static void fail(const char *text)
+{
+    fprintf(stderr, "embed: %s\n", text);
+    exit(1);
+}
+
+/* One line: number, word, value, and for the server alone slot and page to write back. */
+static void print_answer(void)
+{
+    static unsigned number = 0;
+    int i;
+
+    number++;
+    if (answer[0] > SABRE_OPEN) {
+        fail("a word that this program does not know");
+    }
+    printf("%u %s %lu |", number, words[answer[0]], (unsigned long)answer[1]);
+    for (i = 2; i < 4; i++) {
+        if (answer[i] == 0) {
+            printf(" -");
+        } else {
+            printf(" %lu", (unsigned long)(answer[i] - 1));
+        }
+    }
+    printf("\n");
+}
+
+/* The call was accepted and the answer is this word with this value. */
+static void expect(uint32_t status, enum sabre_word word, uint64_t value)
+{
+    print_answer();
+    if (status != SABRE_ACCEPTED) {
+        fail("refused");
+    }
+    if (answer[0] != (uint64_t)word || answer[1] != value) {
+        fail("another answer than expected");
+    }
+}
+
+/* The call was refused by this number. */
+static void expect_refusal(uint32_t status, enum sabre_refusal number)
+{
+    print_answer();
+    if (status != (uint32_t)number || answer[0] != SABRE_REFUSED || answer[1] != status) {
+        fail("not refused, or by another number");
+    }
+}
+
+/* The part of the server on ready and fetch; returns the slot of the page. */
+static uint32_t into_slot(uint32_t page)
+{
+    uint32_t slot = (uint32_t)answer[2] - 1;
+
+    if (answer[3] != 0) {
+        memcpy(disk[answer[3] - 1], slots[slot], RECORD);
+    }
+    if (page_in[slot] != page) {
+        memcpy(slots[slot], disk[page], RECORD);
+        page_in[slot] = page;
+    }
+    return slot;
+}
+
+int main(void)
+{
+    static uint8_t before[SABRE_AREA_SIZE];
+    uint32_t slot;
+    uint32_t status;
+
+    strcpy(disk[7], "bag in stock");
+    for (slot = 0; slot < SLOTS; slot++) {
+        page_in[slot] = NO_PAGE;
+    }
+    printf("call word value | slot back\n");
+
+    expect(sabre_start(area, sizeof area, SLOTS, DELAY, answer), SABRE_STARTED, 0);
+
+    /* The look-back room reads page 7. */
+    expect(sabre_begin(area, sizeof area, 3, 0, 100, answer), SABRE_BEGUN, 0);
+    expect(sabre_request(area, sizeof area, 3, 0, 7, SABRE_MODE_READ, answer), SABRE_FETCH, 1);
+    into_slot(7);
+    expect(sabre_tick(area, sizeof area, answer), SABRE_CLOCK, 1);
+    expect(sabre_look(area, sizeof area, 3, 0, answer), SABRE_IDLE, 0);
+
+    /* The desk does not see that. It books on the page, which stays in its one slot. */
+    expect(sabre_count(area, sizeof area, 0, answer), SABRE_OPEN, 2);
+    expect(sabre_view(area, sizeof area, 0, 7, answer), SABRE_UNSEEN, 0);
+    expect(sabre_begin(area, sizeof area, 0, 0, 50, answer), SABRE_BEGUN, 0);
+    expect(sabre_request(area, sizeof area, 0, 0, 7, SABRE_MODE_WRITE, answer), SABRE_FETCH, 2);
+    slot = into_slot(7);
+    expect(sabre_look(area, sizeof area, 3, 0, answer), SABRE_TAKEN, 0);
+    expect(sabre_tick(area, sizeof area, answer), SABRE_CLOCK, 2);
+    expect(sabre_look(area, sizeof area, 0, 0, answer), SABRE_IDLE, 0);
+    strcpy(slots[slot], "bag issued");
+    expect(sabre_view(area, sizeof area, 0, 7, answer), SABRE_WRITE, 2);
+    expect(sabre_unpin(area, sizeof area, 0, 0, 7, answer), SABRE_UNPINNED, 0);
+    expect(sabre_end(area, sizeof area, 0, 0, answer), SABRE_ENDED, 0);
+
+    /* Level 1 may not read a page of class 2. After the refusal every byte is as before. */
+    expect(sabre_begin(area, sizeof area, 1, 0, 60, answer), SABRE_BEGUN, 0);
+    memcpy(before, area, sizeof area);
+    status = sabre_request(area, sizeof area, 1, 0, 2048, SABRE_MODE_READ, answer);
+    expect_refusal(status, SABRE_REFUSAL_READ_ABOVE);
+    if (memcmp(before, area, sizeof area) != 0) {
+        fail("a refused call changed the area");
+    }
+
+    /* Level 1 takes the empty slot, then that of page 7, which is written back first. */
+    expect(sabre_request(area, sizeof area, 1, 0, 1024, SABRE_MODE_READ, answer), SABRE_FETCH, 3);
+    into_slot(1024);
+    expect(sabre_tick(area, sizeof area, answer), SABRE_CLOCK, 3);
+    expect(sabre_request(area, sizeof area, 1, 0, 1025, SABRE_MODE_READ, answer), SABRE_FETCH, 4);
+    into_slot(1025);
+    expect(sabre_count(area, sizeof area, 1, answer), SABRE_OPEN, 0);
+
+    if (strcmp(disk[7], "bag issued") != 0) {
+        fail("the booking is lost");
+    }
+    return 0;
+}

@@ -1,0 +1,383 @@
+//! Damaged areas. Unsound ones must be refused with 1 and left as they are, sound ones must be
+//! answered as the model answers them.
+
+use crate::calls::*;
+use crate::compare::check;
+use crate::lent::Lent;
+use crate::model::{self, holding_at, row_at, set_word, slot_at, word, State, Tally, CLAUSES};
+use crate::random::Random;
+use crate::scenario::{made_up, wild, Scenario};
+use std::collections::BTreeMap;
+
+pub const AREAS: u64 = 120_000;
+
+const LEVELS: &[u64] = &[0, 1, 2, 3];
+
+/// A number that lies at a border, or near something in the state.
+fn number(random: &mut Random, state: &State) -> u64 {
+    let clock = state.clock;
+    match random.below(12) {
+        0..=2 => random.below(6),
+        3..=5 => {
+            let near = [
+                clock.wrapping_sub(1),
+                clock,
+                clock + 1,
+                clock + state.delay - 1,
+                clock + state.delay,
+                clock + state.delay + 1,
+            ];
+            random.pick(&near)
+        }
+        6 => random.pick(&[0, 1, 63, 64, 65, 255, 256, 1023, 1024, 2048, 3072, 4095, 4096]),
+        7 => u64::from(wild(random)),
+        8 => random.next(),
+        9 => random.pick(&[1 << 32, (1 << 32) + 1, 1 << 40, 1 << 63, u64::MAX, u64::MAX - 1]),
+        10 => (random.between(1, 255) << 32) | random.below(5),
+        _ => {
+            let pages: Vec<u64> = state.filled.values().map(|slot| slot.page).collect();
+            if pages.is_empty() {
+                random.below(4096)
+            } else {
+                random.pick(&pages)
+            }
+        }
+    }
+}
+
+fn some_row(random: &mut Random, state: &State) -> (u64, u64) {
+    let live: Vec<(u64, u64)> =
+        state.rows.iter().filter(|(_, row)| row.live()).map(|(id, _)| *id).collect();
+    if live.is_empty() || random.percent(25) {
+        (random.below(4), random.below(8))
+    } else {
+        random.pick(&live)
+    }
+}
+
+fn some_slot(random: &mut Random, state: &State) -> u64 {
+    let filled: Vec<u64> = state.filled.keys().copied().collect();
+    if filled.is_empty() || random.percent(25) {
+        random.below(64)
+    } else {
+        random.pick(&filled)
+    }
+}
+
+fn some_holding(random: &mut Random, state: &State) -> (u64, (u64, u64)) {
+    let held: Vec<(u64, (u64, u64))> = state.holdings.keys().copied().collect();
+    if held.is_empty() || random.percent(25) {
+        (some_slot(random, state), some_row(random, state))
+    } else {
+        random.pick(&held)
+    }
+}
+
+fn swap(bytes: &mut [u8], one: usize, other: usize, length: usize) {
+    for at in 0..length {
+        bytes.swap(one + at, other + at);
+    }
+}
+
+fn near_number(random: &mut Random, old: u64) -> u64 {
+    match random.below(4) {
+        0 => old.wrapping_add(1),
+        1 => old.wrapping_sub(1),
+        2 => old ^ (1 << random.below(64)),
+        _ => old ^ (1 << random.below(3)),
+    }
+}
+
+/// Changes something in the bytes.
+fn damage(random: &mut Random, bytes: &mut [u8], state: &State) {
+    match random.below(24) {
+        // single bytes anywhere
+        0 => bytes[random.below(SIZE as u64) as usize] = random.next() as u8,
+        1 => bytes[random.below(SIZE as u64) as usize] ^= 1 << random.below(8),
+        // the header
+        2 => bytes[random.below(40) as usize] ^= 1 << random.below(8),
+        3 => {
+            let at = random.pick(&[0, 8, 16, 24, 32, 32]);
+            let value = if random.percent(50) {
+                number(random, state)
+            } else {
+                near_number(random, word(bytes, at))
+            };
+            set_word(bytes, at, value);
+        }
+        4 => match random.below(3) {
+            0 => set_word(bytes, 16, random.pick(&[0, 1, 64, 65, 256, (1 << 32) + 1])),
+            1 => set_word(bytes, 24, random.pick(&[0, 1, 255, 256, 511, (1 << 32) + 1])),
+            _ => {
+                let far = (1 << 32) + state.clock;
+                set_word(bytes, 32, random.pick(&[0, LAST_CLOCK, LAST_CLOCK + 1, 1 << 32, far]));
+            }
+        },
+        // unused bytes, the first and the last of them often
+        5 => {
+            let (first, last) = random.pick(&[(40, 511), (55_808, 65_535)]);
+            let any = random.between(first, last);
+            let at = random.pick(&[first, last, last - 7, any, any, any]);
+            bytes[at as usize] ^= 1 << random.below(8);
+        }
+        // one field of a row, a slot, a holding
+        6..=8 => {
+            let at = row_at(some_row(random, state)) + random.pick(&[0, 0, 8, 8, 16, 24, 24, 32, 56]);
+            let value = if random.percent(60) {
+                number(random, state)
+            } else {
+                near_number(random, word(bytes, at))
+            };
+            set_word(bytes, at, value);
+        }
+        9..=11 => {
+            let at = slot_at(some_slot(random, state))
+                + random.pick(&[0, 8, 8, 16, 16, 24, 24, 32, 32, 40, 40, 48, 56]);
+            let value = if random.percent(60) {
+                number(random, state)
+            } else {
+                near_number(random, word(bytes, at))
+            };
+            set_word(bytes, at, value);
+        }
+        12..=15 => {
+            let (slot, row) = some_holding(random, state);
+            let at = holding_at(slot, row) + random.pick(&[0, 0, 8, 8, 16]);
+            let value = if random.percent(60) {
+                number(random, state)
+            } else {
+                near_number(random, word(bytes, at))
+            };
+            set_word(bytes, at, value);
+        }
+        // whole holdings, slots and rows moved, doubled or removed
+        16 => {
+            let (one, other) = (some_holding(random, state), some_holding(random, state));
+            swap(bytes, holding_at(one.0, one.1), holding_at(other.0, other.1), 24);
+        }
+        17 => {
+            let (one, other) = (some_holding(random, state), some_holding(random, state));
+            let from = holding_at(one.0, one.1);
+            bytes.copy_within(from..from + 24, holding_at(other.0, other.1));
+        }
+        18 => {
+            let (one, other) = (some_slot(random, state), some_slot(random, state));
+            swap(bytes, slot_at(one), slot_at(other), 64);
+        }
+        19 => {
+            let (one, other) = (some_slot(random, state), some_slot(random, state));
+            if random.percent(50) {
+                bytes.copy_within(slot_at(one)..slot_at(one) + 64, slot_at(other));
+            } else {
+                let page = word(bytes, slot_at(one) + 8);
+                set_word(bytes, slot_at(other) + 8, page);
+            }
+        }
+        20 => {
+            let (one, other) = (some_row(random, state), some_row(random, state));
+            if random.percent(50) {
+                swap(bytes, row_at(one), row_at(other), 64);
+            } else {
+                bytes.copy_within(row_at(one)..row_at(one) + 64, row_at(other));
+            }
+        }
+        21 => match random.below(3) {
+            0 => {
+                let at = row_at(some_row(random, state));
+                bytes[at..at + 64].fill(0);
+                if random.percent(50) {
+                    set_word(bytes, at, random.pick(&[1, 2, 4, 5, 6]));
+                }
+            }
+            1 => {
+                let at = slot_at(some_slot(random, state));
+                bytes[at..at + 64].fill(0);
+            }
+            _ => {
+                let (slot, row) = some_holding(random, state);
+                let at = holding_at(slot, row);
+                bytes[at..at + 24].fill(0);
+            }
+        },
+        // a holding or a slot put where none was
+        22 => {
+            let at = holding_at(some_slot(random, state), some_row(random, state));
+            set_word(bytes, at, random.between(1, 3));
+            let arrival = if random.percent(70) { 0 } else { number(random, state) };
+            set_word(bytes, at + 8, arrival);
+            set_word(bytes, at + 16, 0);
+        }
+        // a row whose numbers belong to another condition
+        _ => {
+            let at = row_at(some_row(random, state));
+            let condition = random.below(6);
+            set_word(bytes, at, condition);
+            let due = random.pick(&[0, state.clock, state.clock + 1, state.clock + state.delay]);
+            let page = number(random, state);
+            set_word(bytes, at + 8, if condition == 3 { page } else { due });
+            if random.percent(30) {
+                set_word(bytes, at + 16, random.below(3));
+            }
+            if random.percent(30) {
+                let deadline = state.clock + random.below(3);
+                set_word(bytes, at + 24, deadline);
+            }
+        }
+    }
+}
+
+/// A call that shows as much as possible of a state: half of them on what is there.
+fn some_call(random: &mut Random, scenario: &Scenario, state: &State) -> Call {
+    let kind = random.pick(&[0, 1, 2, 2, 2, 3, 3, 4, 5, 6, 6, 7, 8, 9]);
+    scenario.call_of_kind(random, kind, state, LEVELS)
+}
+
+#[derive(Default)]
+struct Found {
+    sound: u64,
+    accepted: u64,
+    unsound: u64,
+    started: u64,
+    alone: BTreeMap<&'static str, u64>,
+}
+
+fn one_area(
+    manager: &Manager,
+    random: &mut Random,
+    scenario: &Scenario,
+    state: &State,
+    times: u64,
+    found: &mut Found,
+    tally: &mut Tally,
+) -> Result<(), String> {
+    let mut lent = Lent::new(random.below(8) as usize, SIZE + random.below(9) as usize, 0xC3);
+    lent.area()[..SIZE].copy_from_slice(&state.bytes());
+    for _ in 0..times {
+        damage(random, &mut lent.area()[..SIZE], state);
+    }
+    call_on(manager, random, scenario, state, &mut lent, found, tally)
+}
+
+/// A random call on the lent area, which is the state's own or a damaged one.
+fn call_on(
+    manager: &Manager,
+    random: &mut Random,
+    scenario: &Scenario,
+    state: &State,
+    lent: &mut Lent,
+    found: &mut Found,
+    tally: &mut Tally,
+) -> Result<(), String> {
+    let read = model::read(lent.state_bytes());
+    let call = some_call(random, scenario, read.as_ref().unwrap_or(state));
+    let before = lent.state_bytes().to_vec();
+    let mut bytes = before.clone();
+    let expected = match &read {
+        Ok(sound) => {
+            found.sound += 1;
+            let mut next = sound.clone();
+            let expected = next.call(&call, tally);
+            if expected.status == 0 {
+                found.accepted += 1;
+                bytes = next.bytes();
+                if let Err(broken) = model::read(&bytes) {
+                    return Err(format!("{call:?}: the model leaves an unsound area: {broken:?}"));
+                }
+            }
+            expected
+        }
+        Err(broken) => {
+            if broken.len() == 1 {
+                *found.alone.entry(broken.first().unwrap()).or_insert(0) += 1;
+            }
+            let expected = model::call(&mut bytes, &call, tally);
+            match call {
+                Call::Start { .. } => found.started += 1,
+                _ => {
+                    found.unsound += 1;
+                    if expected != Outcome::refused(1) || bytes != before {
+                        return Err(format!("{call:?}: the model takes an unsound area"));
+                    }
+                }
+            }
+            expected
+        }
+    };
+    check(manager, lent, &bytes, &call, &expected).map_err(|text| match read {
+        Ok(_) => format!("sound area: {text}"),
+        Err(broken) => format!("area that breaks {broken:?}: {text}"),
+    })
+}
+
+/// Changes each byte of an area in turn. The area is another one every 256 bytes.
+fn sweep(manager: &Manager, seed: u64, found: &mut Found, tally: &mut Tally) -> Result<(), String> {
+    let random = &mut Random::new(seed, u64::MAX);
+    let mut scenario = Scenario::random(random);
+    let mut state = State::fresh(1, 1);
+    for at in 0..SIZE {
+        if at % 256 == 0 {
+            scenario = Scenario::random(random);
+            state = State::fresh(scenario.slots.into(), scenario.delay.into());
+            for _ in 0..random.below(200) {
+                let call = scenario.call(random, &state, LEVELS);
+                state.call(&call, &mut Tally::default());
+            }
+        }
+        let mut lent = Lent::new(random.below(8) as usize, SIZE, 0x3C);
+        lent.area().copy_from_slice(&state.bytes());
+        lent.area()[at] ^= random.between(1, 255) as u8;
+        call_on(manager, random, &scenario, &state, &mut lent, found, tally)
+            .map_err(|text| format!("damage: seed {seed}, byte {at}: {text}"))?;
+    }
+    Ok(())
+}
+
+pub fn damage_areas(manager: &Manager, areas: u64, seed: u64) -> Result<(), String> {
+    println!(
+        "damage: each byte in turn and {areas} areas, seed {seed}, model against {}",
+        manager.name
+    );
+    let mut found = Found::default();
+    let mut tally = Tally::default();
+    sweep(manager, seed, &mut found, &mut tally)?;
+    let mut made = 0;
+    let mut run = 0;
+    while made < areas {
+        let random = &mut Random::new(seed, run);
+        let scenario = Scenario::random(random);
+        let mut state = State::fresh(scenario.slots.into(), scenario.delay.into());
+        for step in 0..scenario.length.min(400) {
+            let call = scenario.call(random, &state, LEVELS);
+            state.call(&call, &mut Tally::default());
+            if step % 3 != 0 || made >= areas {
+                continue;
+            }
+            made += 1;
+            // Reached areas and made-up ones, most of them damaged in one place.
+            let times = random.pick(&[0, 1, 1, 1, 1, 1, 2, 3]);
+            let given = if random.percent(40) { made_up(random) } else { state.clone() };
+            one_area(manager, random, &scenario, &given, times, &mut found, &mut tally).map_err(
+                |text| format!("damage: seed {seed}, run {run}, area {made}: {text}"),
+            )?;
+        }
+        run += 1;
+    }
+    println!(
+        "  {} unsound areas refused and left alone, {} started anew, {} sound areas ({} calls accepted) agree",
+        found.unsound, found.started, found.sound, found.accepted
+    );
+    println!("  how often each clause of soundness was the only one named as broken");
+    let mut missing = Vec::new();
+    for clause in CLAUSES {
+        let times = found.alone.get(clause).copied().unwrap_or(0);
+        println!("    {times:>9}  {clause}");
+        if times == 0 {
+            missing.push(*clause);
+        }
+    }
+    if missing.is_empty() {
+        Ok(())
+    } else {
+        Err(format!("damage: seed {seed}: these were never the only one named: {}", missing.join("; ")))
+    }
+}

@@ -1,0 +1,257 @@
+//! Short, long and unaligned areas, starts on any former content, and areas between pages of memory
+//! that may not be touched.
+
+use crate::calls::*;
+use crate::compare::check;
+use crate::lent::Lent;
+use crate::model::{self, State, Tally};
+use crate::random::Random;
+use crate::scenario::Scenario;
+
+const LEVELS: &[u64] = &[0, 1, 2, 3];
+
+/// One call of each kind, then one of each with numbers out of range.
+fn every_call() -> Vec<Call> {
+    let mut calls = Vec::new();
+    for wild in [0, u32::MAX] {
+        let n = |tame: u32| tame | wild;
+        calls.extend([
+            Call::Start { slots: n(4), delay: n(2) },
+            Call::Begin { level: n(1), row: n(2), deadline: n(50) },
+            Call::Request { level: n(1), row: n(0), page: n(1024), mode: n(0) },
+            Call::Retry { level: n(1), row: n(1) },
+            Call::Unpin { level: n(1), row: n(0), page: n(1024) },
+            Call::End { level: n(1), row: n(0) },
+            Call::Tick,
+            Call::Look { level: n(1), row: n(0) },
+            Call::View { level: n(1), page: n(1024) },
+            Call::Count { level: n(1) },
+        ]);
+    }
+    calls
+}
+
+/// A state that a random run reaches.
+fn reached(seed: u64, slots: u64) -> State {
+    let random = &mut Random::new(seed, slots);
+    let scenario = Scenario::with_slots(slots, random);
+    let mut state = State::fresh(slots, scenario.delay.into());
+    for _ in 0..300 {
+        let call = scenario.call(random, &state, LEVELS);
+        if !matches!(call, Call::Start { .. }) {
+            state.call(&call, &mut Tally::default());
+        }
+    }
+    state
+}
+
+fn compare_on(manager: &Manager, lent: &mut Lent, call: &Call) -> Result<(), String> {
+    let mut bytes = lent.state_bytes().to_vec();
+    let expected = model::call(&mut bytes, call, &mut Tally::default());
+    check(manager, lent, &bytes, call, &expected)
+}
+
+pub fn lengths(manager: &Manager, seed: u64) -> Result<(), String> {
+    println!("lengths: {}, seed {seed}", manager.name);
+    let random = &mut Random::new(seed, 0);
+    let sound = [State::fresh(4, 2), reached(seed, 3), reached(seed, 64)];
+    let mut made = 0;
+
+    // Short areas: refusal 1 for every call, every byte as before.
+    for length in [0, 1, 2, 7, 8, 40, 100, 511, 512, 4_096, 32_768, 65_528, 65_534, 65_535] {
+        for state in &sound {
+            for call in every_call() {
+                for offset in [0, 1] {
+                    let mut lent = Lent::new(offset, length, 0xA7);
+                    lent.area().copy_from_slice(&state.bytes()[..length]);
+                    let before = lent.state_bytes().to_vec();
+                    check(manager, &mut lent, &before, &call, &Outcome::refused(1))
+                        .map_err(|text| format!("lengths: {length} bytes: {text}"))?;
+                    made += 1;
+                }
+            }
+        }
+    }
+    println!("  {made} calls on short areas refused");
+
+    // Long areas at any address: as on 65,536 bytes, the rest untouched.
+    made = 0;
+    for length in [SIZE, SIZE + 1, SIZE + 8, SIZE + 1000, 2 * SIZE, 1 << 20] {
+        for offset in 0..16 {
+            for state in &sound {
+                for call in every_call() {
+                    // Past the area stand other bytes each time, so that none can matter.
+                    let mut lent = Lent::new(offset, length, random.next() as u8);
+                    lent.area()[..SIZE].copy_from_slice(&state.bytes());
+                    compare_on(manager, &mut lent, &call).map_err(|text| {
+                        format!("lengths: {length} bytes at offset {offset}: {text}")
+                    })?;
+                    made += 1;
+                    if length > 2 * SIZE && made % 4 != 0 {
+                        break;
+                    }
+                }
+            }
+        }
+    }
+    println!("  {made} calls on long and unaligned areas agree");
+
+    // A start takes any former content.
+    made = 0;
+    for round in 0..400 {
+        let mut lent = Lent::random(random);
+        match round % 5 {
+            0 => random.fill(&mut lent.area()[..SIZE]),
+            1 => {
+                let byte = random.next() as u8;
+                lent.area()[..SIZE].fill(byte);
+            }
+            2 => lent.area()[..SIZE].copy_from_slice(&sound[round % 3].bytes()),
+            3 => {
+                let half = random.below(SIZE as u64) as usize;
+                let bytes = sound[round % 3].bytes();
+                lent.area()[..half].copy_from_slice(&bytes[..half]);
+            }
+            _ => {}
+        }
+        let slots = random.between(0, 66) as u32;
+        let delay = random.between(0, 257) as u32;
+        for call in [Call::Start { slots, delay }, Call::Start { slots: slots.clamp(1, 64), delay: delay.clamp(1, 255) }] {
+            compare_on(manager, &mut lent, &call)
+                .map_err(|text| format!("lengths: start, round {round}: {text}"))?;
+            made += 1;
+        }
+        let fresh = lent.state_bytes();
+        if model::read(fresh) != Ok(State::fresh(slots.clamp(1, 64).into(), delay.clamp(1, 255).into())) {
+            return Err(format!("lengths: start, round {round}: the area is not fresh"));
+        }
+    }
+    println!("  {made} starts on any former content agree");
+
+    // The answer: four numbers written, nothing around them.
+    let mut numbers = [0x5A5A_5A5A_5A5A_5A5A_u64; 12];
+    let (before, rest) = numbers.split_at_mut(4);
+    let (answer, after) = rest.split_at_mut(4);
+    let mut bytes = sound[1].bytes();
+    (manager.tick)(&mut bytes, answer.try_into().unwrap());
+    (manager.count)(&bytes, 2, answer.try_into().unwrap());
+    (manager.tick)(&mut bytes[..100], answer.try_into().unwrap());
+    if before.iter().chain(after.iter()).any(|number| *number != 0x5A5A_5A5A_5A5A_5A5A) {
+        return Err("lengths: numbers beside the answer were written".to_string());
+    }
+    if answer != [0, 1, 0, 0] {
+        return Err(format!("lengths: answer {answer:?} for a short area"));
+    }
+
+    #[cfg(target_os = "linux")]
+    fenced::fenced(manager, &sound)?;
+    Ok(())
+}
+
+/// Areas that begin or end at memory without access, and areas that may only be read. A byte
+/// touched outside ends the program with a fault.
+#[cfg(target_os = "linux")]
+mod fenced {
+    use super::*;
+    use std::ffi::c_void;
+
+    extern "C" {
+        fn mmap(at: *mut c_void, length: usize, access: i32, flags: i32, file: i32, offset: i64) -> *mut c_void;
+        fn mprotect(at: *mut c_void, length: usize, access: i32) -> i32;
+        fn munmap(at: *mut c_void, length: usize) -> i32;
+    }
+
+    const NO_ACCESS: i32 = 0;
+    const READ_ONLY: i32 = 1;
+    const READ_WRITE: i32 = 3;
+    const PRIVATE_ANONYMOUS: i32 = 0x22;
+    const FENCE: usize = 65_536;
+
+    /// `SIZE` bytes between two stretches without access.
+    struct Field(*mut u8);
+
+    impl Field {
+        fn new() -> Field {
+            unsafe {
+                let base = mmap(std::ptr::null_mut(), SIZE + 2 * FENCE, NO_ACCESS, PRIVATE_ANONYMOUS, -1, 0);
+                assert!(base as isize != -1, "no memory for a fenced area");
+                let field = Field((base as *mut u8).add(FENCE));
+                field.allow(READ_WRITE);
+                field
+            }
+        }
+
+        fn allow(&self, access: i32) {
+            let done = unsafe { mprotect(self.0 as *mut c_void, SIZE, access) };
+            assert!(done == 0, "the access of a fenced area cannot be set");
+        }
+
+        /// The last `length` bytes, which end at the fence.
+        fn last(&mut self, length: usize) -> &mut [u8] {
+            unsafe { std::slice::from_raw_parts_mut(self.0.add(SIZE - length), length) }
+        }
+
+        /// The first `length` bytes, which begin at the fence.
+        fn first(&mut self, length: usize) -> &mut [u8] {
+            unsafe { std::slice::from_raw_parts_mut(self.0, length) }
+        }
+
+        fn read_only(&self) -> &[u8] {
+            unsafe { std::slice::from_raw_parts(self.0, SIZE) }
+        }
+    }
+
+    impl Drop for Field {
+        fn drop(&mut self) {
+            unsafe {
+                munmap(self.0.sub(FENCE) as *mut c_void, SIZE + 2 * FENCE);
+            }
+        }
+    }
+
+    pub fn fenced(manager: &Manager, sound: &[State]) -> Result<(), String> {
+        let mut field = Field::new();
+        let mut made = 0;
+        for length in [0, 1, 39, 100, 511, 4_096, 65_535, SIZE] {
+            for state in sound {
+                for call in every_call() {
+                    for last in [false, true] {
+                        let bytes = state.bytes();
+                        let mut expected_bytes = bytes[..length].to_vec();
+                        let expected =
+                            model::call(&mut expected_bytes, &call, &mut Tally::default());
+                        let area = if last { field.last(length) } else { field.first(length) };
+                        area.copy_from_slice(&bytes[..length]);
+                        let got = manager.call(area, &call);
+                        if got != expected || area != expected_bytes {
+                            return Err(format!(
+                                "lengths: fenced area of {length} bytes: {call:?}: {got:?} instead of {expected:?}, or other bytes"
+                            ));
+                        }
+                        made += 1;
+                    }
+                }
+            }
+        }
+        for state in sound {
+            field.first(SIZE).copy_from_slice(&state.bytes());
+            field.allow(READ_ONLY);
+            let mut copy = state.clone();
+            for call in every_call() {
+                if matches!(call, Call::Look { .. } | Call::View { .. } | Call::Count { .. }) {
+                    let expected = copy.call(&call, &mut Tally::default());
+                    let got = manager.ask(field.read_only(), &call);
+                    if got != expected {
+                        return Err(format!(
+                            "lengths: area that may only be read: {call:?}: {got:?} instead of {expected:?}"
+                        ));
+                    }
+                    made += 1;
+                }
+            }
+            field.allow(READ_WRITE);
+        }
+        println!("  {made} calls on fenced areas agree");
+        Ok(())
+    }
+}

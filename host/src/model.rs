@@ -1,0 +1,1144 @@
+//! A model of document 01, written from its text with maps and lists. It is meant to be read
+//! beside the document, not to be fast.
+
+use crate::calls::*;
+use std::collections::{BTreeMap, BTreeSet};
+
+/// Level and row number.
+pub type RowId = (u64, u64);
+
+#[derive(Clone, Copy, Debug, PartialEq, Eq)]
+pub enum Mode {
+    Read,
+    Write,
+}
+
+/// In order of strength.
+#[derive(Clone, Copy, Debug, PartialEq, Eq, PartialOrd, Ord)]
+pub enum Pin {
+    None,
+    Read,
+    Write,
+}
+
+#[derive(Clone, Copy, Debug, PartialEq, Eq)]
+pub enum Cause {
+    Late,
+    Taken,
+}
+
+#[derive(Clone, Copy, Debug, PartialEq, Eq)]
+pub enum Condition {
+    Free,
+    Idle,
+    Fetching { due: u64 },
+    Waiting { page: u64, mode: Mode },
+    Killed(Cause),
+}
+
+/// The deadline is 0 in a row that is not live.
+#[derive(Clone, Copy, Debug, PartialEq, Eq)]
+pub struct Row {
+    pub condition: Condition,
+    pub deadline: u64,
+}
+
+#[derive(Clone, Copy, Debug, PartialEq, Eq)]
+pub struct Slot {
+    pub page: u64,
+    pub arrival: u64,
+    pub dirty: bool,
+    pub lowest: u64,
+    pub touch: u64,
+}
+
+#[derive(Clone, Copy, Debug, PartialEq, Eq)]
+pub struct Holding {
+    pub pin: Pin,
+    pub arrival: u64,
+    pub touch: u64,
+}
+
+#[derive(Clone, Debug, PartialEq, Eq)]
+pub struct State {
+    pub slots: u64,
+    pub delay: u64,
+    pub clock: u64,
+    pub rows: BTreeMap<RowId, Row>,
+    /// The filled slots.
+    pub filled: BTreeMap<u64, Slot>,
+    pub holdings: BTreeMap<(u64, RowId), Holding>,
+}
+
+pub fn class(page: u64) -> u64 {
+    page / 1024
+}
+
+pub fn allowed(level: u64, page: u64, mode: Mode) -> bool {
+    match mode {
+        Mode::Read => level >= class(page),
+        Mode::Write => level <= class(page),
+    }
+}
+
+/// Two pins of different rows conflict if either is write.
+fn conflict(one: Pin, other: Pin) -> bool {
+    one != Pin::None && other != Pin::None && (one == Pin::Write || other == Pin::Write)
+}
+
+fn pin_of(mode: Mode) -> Pin {
+    match mode {
+        Mode::Read => Pin::Read,
+        Mode::Write => Pin::Write,
+    }
+}
+
+impl Row {
+    pub const FREE: Row = Row { condition: Condition::Free, deadline: 0 };
+
+    pub fn live(&self) -> bool {
+        matches!(
+            self.condition,
+            Condition::Idle | Condition::Fetching { .. } | Condition::Waiting { .. }
+        )
+    }
+}
+
+/// How often each thing happened.
+#[derive(Clone, Default)]
+pub struct Tally {
+    pub kinds: [u64; 10],
+    pub words: [u64; 19],
+    pub refusals: [u64; 19],
+    pub events: BTreeMap<&'static str, u64>,
+}
+
+impl Tally {
+    pub fn note(&mut self, event: &'static str) {
+        *self.events.entry(event).or_insert(0) += 1;
+    }
+
+    pub fn outcome(&mut self, call: &Call, outcome: &Outcome) {
+        self.kinds[call.kind()] += 1;
+        self.words[outcome.answer[0] as usize] += 1;
+        if outcome.status != 0 {
+            self.refusals[outcome.status as usize] += 1;
+        }
+    }
+
+    pub fn of(&self, event: &str) -> u64 {
+        self.events.get(event).copied().unwrap_or(0)
+    }
+}
+
+/// Everything that the model notes of requests and kills. A good random run has them all.
+pub const EVENTS: &[&str] = &[
+    "step 1: ready",
+    "step 1: fetch",
+    "step 1: wait",
+    "step 1: kills a seen row",
+    "step 1: kills a hidden row",
+    "step 1: own holding",
+    "step 1: own pin made stronger",
+    "step 2: ready",
+    "step 2: fetch",
+    "step 3: hidden page, no kill",
+    "step 3: hidden page, kills",
+    "step 3: dormant page below level 3",
+    "step 3: page in no slot",
+    "choice a",
+    "choice b",
+    "choice c",
+    "choice d",
+    "choice e",
+    "choice f",
+    "choice g",
+    "b decided by lowest level",
+    "b decided by dirty mark",
+    "b decided by touch",
+    "b decided by slot number",
+    "c decided by priority",
+    "c decided by touch",
+    "c decided by page",
+    "d decided by priority",
+    "d decided by touch",
+    "d decided by page",
+    "e decided by priority",
+    "e decided by touch",
+    "e decided by page",
+    "f decided by priority",
+    "f decided by touch",
+    "f decided by page",
+    "e takes the requester's own slot",
+    "f takes a slot that the requester holds",
+    "chosen slot: a pinning row of a higher level killed in e or f",
+    "chosen slot: a holder keeps its row",
+    "write-back of a page dirty before",
+    "write-back of a page made dirty by the kill",
+    "killed as late",
+    "killed as taken",
+    "killed fetching",
+    "killed waiting",
+    "killed with several holdings",
+    "tick: due and late at once",
+    "an unarrived write pin goes",
+    "retry: ready",
+    "retry: fetch",
+    "retry: wait",
+];
+
+enum Choice {
+    Slot(u64, char),
+    Nowhere,
+}
+
+impl State {
+    pub fn fresh(slots: u64, delay: u64) -> State {
+        let mut rows = BTreeMap::new();
+        for level in 0..4 {
+            for number in 0..8 {
+                rows.insert((level, number), Row::FREE);
+            }
+        }
+        State { slots, delay, clock: 0, rows, filled: BTreeMap::new(), holdings: BTreeMap::new() }
+    }
+
+    // What is where.
+
+    pub fn slot_of(&self, page: u64) -> Option<u64> {
+        self.filled.iter().find(|(_, slot)| slot.page == page).map(|(number, _)| *number)
+    }
+
+    pub fn holders(&self, slot: u64) -> Vec<(RowId, Holding)> {
+        self.holdings
+            .range((slot, (0, 0))..=(slot, (3, 7)))
+            .map(|(key, holding)| (key.1, *holding))
+            .collect()
+    }
+
+    pub fn held_by(&self, row: RowId) -> Vec<(u64, Holding)> {
+        self.holdings
+            .iter()
+            .filter(|(key, _)| key.1 == row)
+            .map(|(key, holding)| (key.0, *holding))
+            .collect()
+    }
+
+    /// Level, then deadline, then row number; smaller is better.
+    fn priority(&self, row: RowId) -> (u64, u64, u64) {
+        (row.0, self.rows[&row].deadline, row.1)
+    }
+
+    fn better(&self, one: RowId, other: RowId) -> bool {
+        self.priority(one) < self.priority(other)
+    }
+
+    // The refusals of a call on a sound area, all that apply. Numbers 1 and 18 are found elsewhere.
+
+    fn refusals(&self, call: &Call) -> BTreeSet<u32> {
+        let mut found = BTreeSet::new();
+        let mut refuse = |number: u32, applies: bool| {
+            if applies {
+                found.insert(number);
+            }
+        };
+        if let Call::Start { slots, delay } = *call {
+            refuse(2, !(1..=64).contains(&slots));
+            refuse(3, !(1..=255).contains(&delay));
+        }
+        let level = call.level().map(u64::from);
+        let number = call.row().map(u64::from);
+        let page = call.page().map(u64::from);
+        refuse(4, level.is_some_and(|level| level > 3));
+        refuse(5, number.is_some_and(|number| number > 7));
+        refuse(6, page.is_some_and(|page| page > 4095));
+        if let Call::Request { mode, .. } = *call {
+            refuse(7, mode != 0 && mode != 1);
+        }
+        if let (Some(level), Some(number)) = (level, number) {
+            if let Some(row) = self.rows.get(&(level, number)) {
+                let free = row.condition == Condition::Free;
+                let killed = matches!(row.condition, Condition::Killed(_));
+                let idle = row.condition == Condition::Idle;
+                let fetching = matches!(row.condition, Condition::Fetching { .. });
+                let waiting = matches!(row.condition, Condition::Waiting { .. });
+                match *call {
+                    Call::Begin { .. } => refuse(8, !free),
+                    Call::Request { .. } => {
+                        refuse(9, free);
+                        refuse(10, killed);
+                        refuse(11, fetching || waiting);
+                    }
+                    Call::Unpin { .. } => {
+                        refuse(9, free);
+                        refuse(10, killed);
+                        refuse(11, fetching || waiting);
+                        let pinned = self.held_by((level, number)).iter().any(|(slot, holding)| {
+                            holding.pin != Pin::None && Some(self.filled[slot].page) == page
+                        });
+                        refuse(15, !pinned);
+                    }
+                    Call::Retry { .. } => {
+                        refuse(9, free);
+                        refuse(10, killed);
+                        refuse(16, idle || fetching);
+                    }
+                    Call::End { .. } => refuse(9, free),
+                    _ => {}
+                }
+            }
+        }
+        if let Call::Begin { deadline, .. } = *call {
+            refuse(12, u64::from(deadline) <= self.clock);
+        }
+        if let Call::Request { level, page, mode, .. } = *call {
+            let (level, page) = (u64::from(level), u64::from(page));
+            refuse(13, mode == 0 && !allowed(level, page, Mode::Read));
+            refuse(14, mode == 1 && !allowed(level, page, Mode::Write));
+        }
+        if *call == Call::Tick {
+            refuse(17, self.clock == LAST_CLOCK);
+        }
+        found
+    }
+
+    // The calls.
+
+    /// A call on this state, which must be sound.
+    pub fn call(&mut self, call: &Call, tally: &mut Tally) -> Outcome {
+        let outcome = match self.refusals(call).first() {
+            Some(&number) => Outcome::refused(number),
+            None => self.accepted(call, tally),
+        };
+        tally.outcome(call, &outcome);
+        outcome
+    }
+
+    fn accepted(&mut self, call: &Call, tally: &mut Tally) -> Outcome {
+        let id = |level: u32, row: u32| (u64::from(level), u64::from(row));
+        match *call {
+            Call::Start { slots, delay } => {
+                *self = State::fresh(slots.into(), delay.into());
+                Outcome::said(STARTED, 0)
+            }
+            Call::Begin { level, row, deadline } => {
+                let row = self.rows.get_mut(&id(level, row)).unwrap();
+                *row = Row { condition: Condition::Idle, deadline: deadline.into() };
+                Outcome::said(BEGUN, 0)
+            }
+            Call::Request { level, row, page, mode } => {
+                let mode = if mode == 0 { Mode::Read } else { Mode::Write };
+                self.request(id(level, row), page.into(), mode, tally)
+            }
+            Call::Retry { level, row } => {
+                let Condition::Waiting { page, mode } = self.rows[&id(level, row)].condition else {
+                    unreachable!("a retry by a row that does not wait is refused");
+                };
+                let outcome = self.request(id(level, row), page, mode, tally);
+                tally.note(match outcome.answer[0] {
+                    READY => "retry: ready",
+                    FETCH => "retry: fetch",
+                    _ => "retry: wait",
+                });
+                outcome
+            }
+            Call::Unpin { level, row, page } => {
+                let slot = self.slot_of(page.into()).unwrap();
+                let row = id(level, row);
+                let holding = self.holdings[&(slot, row)];
+                self.pin_goes(slot, holding, tally);
+                self.holdings.get_mut(&(slot, row)).unwrap().pin = Pin::None;
+                Outcome::said(UNPINNED, 0)
+            }
+            Call::End { level, row } => {
+                self.drop_all(id(level, row), tally);
+                self.rows.insert(id(level, row), Row::FREE);
+                Outcome::said(ENDED, 0)
+            }
+            Call::Tick => self.tick(tally),
+            Call::Look { level, row } => self.look(id(level, row)),
+            Call::View { level, page } => self.view(level.into(), page.into()),
+            Call::Count { level } => {
+                Outcome::said(OPEN, (0..self.slots).filter(|s| self.open(level.into(), *s)).count() as u64)
+            }
+        }
+    }
+
+    fn tick(&mut self, tally: &mut Tally) -> Outcome {
+        self.clock += 1;
+        let clock = self.clock;
+        let mut arrived = BTreeSet::new();
+        for (id, row) in &mut self.rows {
+            if let Condition::Fetching { due } = row.condition {
+                if due <= clock {
+                    row.condition = Condition::Idle;
+                    arrived.insert(*id);
+                }
+            }
+        }
+        let late: Vec<RowId> = self
+            .rows
+            .iter()
+            .filter(|(_, row)| row.live() && row.deadline <= clock)
+            .map(|(id, _)| *id)
+            .collect();
+        for id in late {
+            if arrived.contains(&id) {
+                tally.note("tick: due and late at once");
+            }
+            self.kill(id, Cause::Late, tally);
+        }
+        Outcome::said(CLOCK, clock)
+    }
+
+    fn look(&self, id: RowId) -> Outcome {
+        match self.rows[&id].condition {
+            Condition::Free => Outcome::said(NONE, 0),
+            Condition::Idle => Outcome::said(IDLE, 0),
+            Condition::Fetching { due } => Outcome::said(FETCH, due),
+            Condition::Waiting { .. } => Outcome::said(WAIT, 0),
+            Condition::Killed(Cause::Late) => Outcome::said(LATE, 0),
+            Condition::Killed(Cause::Taken) => Outcome::said(TAKEN, 0),
+        }
+    }
+
+    fn view(&self, level: u64, page: u64) -> Outcome {
+        let Some(slot) = self.slot_of(page) else {
+            return Outcome::said(UNSEEN, 0);
+        };
+        let holders = self.holders(slot);
+        let seen: Vec<Holding> =
+            holders.iter().filter(|(row, _)| row.0 <= level).map(|(_, holding)| *holding).collect();
+        if let Some(pin) = seen.iter().map(|holding| holding.pin).max() {
+            let arrival = seen.iter().map(|holding| holding.arrival).min().unwrap();
+            let word = match pin {
+                Pin::None => ACTIVE,
+                Pin::Read => READ,
+                Pin::Write => WRITE,
+            };
+            Outcome::said(word, arrival)
+        } else if level == 3 {
+            // Level 3 sees every holding, so this page has none.
+            Outcome::said(DORMANT, self.filled[&slot].arrival)
+        } else {
+            Outcome::said(UNSEEN, 0)
+        }
+    }
+
+    fn open(&self, level: u64, slot: u64) -> bool {
+        self.holders(slot).iter().all(|(row, _)| row.0 > level)
+    }
+
+    // Letting go.
+
+    fn pin_goes(&mut self, slot: u64, holding: Holding, tally: &mut Tally) {
+        if holding.pin == Pin::Write {
+            if holding.arrival <= self.clock {
+                self.filled.get_mut(&slot).unwrap().dirty = true;
+            } else {
+                tally.note("an unarrived write pin goes");
+            }
+        }
+    }
+
+    fn drop_all(&mut self, id: RowId, tally: &mut Tally) {
+        for (slot, holding) in self.held_by(id) {
+            self.pin_goes(slot, holding, tally);
+            self.holdings.remove(&(slot, id));
+        }
+    }
+
+    fn kill(&mut self, id: RowId, cause: Cause, tally: &mut Tally) {
+        tally.note(match cause {
+            Cause::Late => "killed as late",
+            Cause::Taken => "killed as taken",
+        });
+        match self.rows[&id].condition {
+            Condition::Fetching { .. } => tally.note("killed fetching"),
+            Condition::Waiting { .. } => tally.note("killed waiting"),
+            _ => {}
+        }
+        if self.held_by(id).len() > 1 {
+            tally.note("killed with several holdings");
+        }
+        self.drop_all(id, tally);
+        self.rows.insert(id, Row { condition: Condition::Killed(cause), deadline: 0 });
+    }
+
+    // Request and retry, steps 1 to 4.
+
+    fn request(&mut self, me: RowId, page: u64, mode: Mode, tally: &mut Tally) -> Outcome {
+        let Some(slot) = self.slot_of(page) else {
+            tally.note("step 3: page in no slot");
+            return self.request_elsewhere(me, page, mode, tally);
+        };
+        let level = me.0;
+        let holders = self.holders(slot);
+        let seen: Vec<(RowId, Holding)> =
+            holders.iter().filter(|(row, _)| row.0 <= level).copied().collect();
+        let conflicting: Vec<RowId> = holders
+            .iter()
+            .filter(|(row, holding)| *row != me && conflict(holding.pin, pin_of(mode)))
+            .map(|(row, _)| *row)
+            .collect();
+        let arrival;
+        if !seen.is_empty() {
+            if conflicting.iter().any(|row| row.0 <= level && self.better(*row, me)) {
+                tally.note("step 1: wait");
+                return self.wait(me, page, mode);
+            }
+            arrival = seen.iter().map(|(_, holding)| holding.arrival).min().unwrap();
+            tally.note(if arrival <= self.clock { "step 1: ready" } else { "step 1: fetch" });
+            for row in &conflicting {
+                tally.note(if row.0 <= level {
+                    "step 1: kills a seen row"
+                } else {
+                    "step 1: kills a hidden row"
+                });
+            }
+            if let Some((_, own)) = seen.iter().find(|(row, _)| *row == me) {
+                tally.note("step 1: own holding");
+                if own.pin != Pin::None && own.pin < pin_of(mode) {
+                    tally.note("step 1: own pin made stronger");
+                }
+            }
+        } else if level == 3 {
+            // Nothing seen at level 3: the page is dormant.
+            arrival = self.filled[&slot].arrival;
+            tally.note(if arrival <= self.clock { "step 2: ready" } else { "step 2: fetch" });
+        } else {
+            arrival = self.clock + self.delay;
+            tally.note(if holders.is_empty() {
+                "step 3: dormant page below level 3"
+            } else if conflicting.is_empty() {
+                "step 3: hidden page, no kill"
+            } else {
+                "step 3: hidden page, kills"
+            });
+        }
+        for row in conflicting {
+            self.kill(row, Cause::Taken, tally);
+        }
+        self.grant(me, slot, mode, arrival, None)
+    }
+
+    fn wait(&mut self, me: RowId, page: u64, mode: Mode) -> Outcome {
+        self.rows.get_mut(&me).unwrap().condition = Condition::Waiting { page, mode };
+        Outcome::said(WAIT, 0)
+    }
+
+    fn grant(&mut self, me: RowId, slot: u64, mode: Mode, arrival: u64, back: Option<u64>) -> Outcome {
+        let clock = self.clock;
+        let holding =
+            self.holdings.entry((slot, me)).or_insert(Holding { pin: Pin::None, arrival, touch: clock });
+        holding.pin = holding.pin.max(pin_of(mode));
+        holding.touch = clock;
+        let place = self.filled.get_mut(&slot).unwrap();
+        place.lowest = place.lowest.min(me.0);
+        place.touch = place.touch.max(clock);
+        let row = self.rows.get_mut(&me).unwrap();
+        let mut outcome;
+        if arrival <= clock {
+            row.condition = Condition::Idle;
+            outcome = Outcome::said(READY, 0);
+        } else {
+            row.condition = Condition::Fetching { due: arrival };
+            outcome = Outcome::said(FETCH, arrival);
+        }
+        outcome.answer[2] = slot + 1;
+        outcome.answer[3] = back.map_or(0, |page| page + 1);
+        outcome
+    }
+
+    /// Step 3 for a page in no slot.
+    fn request_elsewhere(&mut self, me: RowId, page: u64, mode: Mode, tally: &mut Tally) -> Outcome {
+        let (slot, step) = match self.choose(me, tally) {
+            Choice::Slot(slot, step) => (slot, step),
+            Choice::Nowhere => return self.wait(me, page, mode),
+        };
+        let dirty_before = self.filled.get(&slot).is_some_and(|slot| slot.dirty);
+        for (row, holding) in self.holders(slot) {
+            if holding.pin != Pin::None {
+                if matches!(step, 'e' | 'f') && row.0 > me.0 {
+                    tally.note("chosen slot: a pinning row of a higher level killed in e or f");
+                }
+                self.kill(row, Cause::Taken, tally);
+            }
+        }
+        for (row, _) in self.holders(slot) {
+            if row == me {
+                tally.note(match step {
+                    'e' => "e takes the requester's own slot",
+                    _ => "f takes a slot that the requester holds",
+                });
+            } else {
+                tally.note("chosen slot: a holder keeps its row");
+            }
+            self.holdings.remove(&(slot, row));
+        }
+        let back = self.filled.get(&slot).filter(|slot| slot.dirty).map(|slot| slot.page);
+        if back.is_some() {
+            tally.note(if dirty_before {
+                "write-back of a page dirty before"
+            } else {
+                "write-back of a page made dirty by the kill"
+            });
+        }
+        let arrival = self.clock + self.delay;
+        self.filled.insert(
+            slot,
+            Slot { page, arrival, dirty: false, lowest: me.0, touch: self.clock },
+        );
+        self.grant(me, slot, mode, arrival, back)
+    }
+
+    // Choosing a slot.
+
+    fn choose(&self, me: RowId, tally: &mut Tally) -> Choice {
+        let level = me.0;
+
+        // a. empty, lowest slot number
+        if let Some(slot) = (0..self.slots).find(|slot| !self.filled.contains_key(slot)) {
+            tally.note("choice a");
+            return Choice::Slot(slot, 'a');
+        }
+
+        // b. dormant: lowest level first, clean before dirty, least touch, slot number
+        let dormant: Vec<u64> = (0..self.slots).filter(|s| self.holders(*s).is_empty()).collect();
+        if !dormant.is_empty() {
+            tally.note("choice b");
+            return Choice::Slot(self.best_dormant(dormant, tally), 'b');
+        }
+
+        // c and d. held only above the requester's level, at the highest number M of a best holder
+        let above: Vec<u64> =
+            (0..self.slots).filter(|s| self.holders(*s).iter().all(|(row, _)| row.0 > level)).collect();
+        if let Some(m) = above.iter().map(|slot| self.best_holder(*slot).0).max() {
+            let at_m: Vec<u64> =
+                above.into_iter().filter(|slot| self.best_holder(*slot).0 == m).collect();
+            let pinned_by_m = |slot: &u64| {
+                self.holders(*slot).iter().any(|(row, holding)| row.0 == m && holding.pin != Pin::None)
+            };
+            let (pinned, unpinned): (Vec<u64>, Vec<u64>) = at_m.into_iter().partition(pinned_by_m);
+            if !unpinned.is_empty() {
+                tally.note("choice c");
+                return Choice::Slot(self.worst_held(unpinned, 'c', tally), 'c');
+            }
+            tally.note("choice d");
+            return Choice::Slot(self.worst_held(pinned, 'd', tally), 'd');
+        }
+
+        // e and f. seen holders all of the requester's level, none better than the requester
+        let mut without_pin = Vec::new();
+        let mut with_pin = Vec::new();
+        for slot in 0..self.slots {
+            let holders = self.holders(slot);
+            let seen: Vec<&(RowId, Holding)> =
+                holders.iter().filter(|(row, _)| row.0 <= level).collect();
+            if !seen.iter().all(|(row, _)| row.0 == level && !self.better(*row, me)) {
+                continue;
+            }
+            let pins: Vec<RowId> = seen
+                .iter()
+                .filter(|(_, holding)| holding.pin != Pin::None)
+                .map(|(row, _)| *row)
+                .collect();
+            if pins.is_empty() {
+                without_pin.push(slot);
+            } else if !pins.contains(&me) {
+                with_pin.push(slot);
+            }
+        }
+        if !without_pin.is_empty() {
+            tally.note("choice e");
+            return Choice::Slot(self.worst_held(without_pin, 'e', tally), 'e');
+        }
+        if !with_pin.is_empty() {
+            tally.note("choice f");
+            return Choice::Slot(self.worst_held(with_pin, 'f', tally), 'f');
+        }
+
+        // g. none
+        tally.note("choice g");
+        Choice::Nowhere
+    }
+
+    fn best_holder(&self, slot: u64) -> RowId {
+        let holders = self.holders(slot);
+        holders.iter().map(|(row, _)| *row).min_by_key(|row| self.priority(*row)).unwrap()
+    }
+
+    fn best_dormant(&self, mut slots: Vec<u64>, tally: &mut Tally) -> u64 {
+        let keep = |slots: Vec<u64>, key: &dyn Fn(&Slot) -> u64| -> Vec<u64> {
+            let least = slots.iter().map(|slot| key(&self.filled[slot])).min().unwrap();
+            slots.into_iter().filter(|slot| key(&self.filled[slot]) == least).collect()
+        };
+        let several = slots.len() > 1;
+        slots = keep(slots, &|slot| slot.lowest);
+        if several && slots.len() == 1 {
+            tally.note("b decided by lowest level");
+            return slots[0];
+        }
+        let several = slots.len() > 1;
+        slots = keep(slots, &|slot| slot.dirty as u64);
+        if several && slots.len() == 1 {
+            tally.note("b decided by dirty mark");
+            return slots[0];
+        }
+        let several = slots.len() > 1;
+        slots = keep(slots, &|slot| slot.touch);
+        if several && slots.len() == 1 {
+            tally.note("b decided by touch");
+            return slots[0];
+        }
+        if slots.len() > 1 {
+            tally.note("b decided by slot number");
+        }
+        slots.into_iter().min().unwrap()
+    }
+
+    /// Of several in c to f: the worst best holder, then the earliest latest touch by holders of
+    /// that best holder's level, then the smaller page.
+    fn worst_held(&self, mut slots: Vec<u64>, step: char, tally: &mut Tally) -> u64 {
+        if slots.len() == 1 {
+            return slots[0];
+        }
+        let worst = slots.iter().map(|slot| self.priority(self.best_holder(*slot))).max().unwrap();
+        slots.retain(|slot| self.priority(self.best_holder(*slot)) == worst);
+        if slots.len() == 1 {
+            tally.note(match step {
+                'c' => "c decided by priority",
+                'd' => "d decided by priority",
+                'e' => "e decided by priority",
+                _ => "f decided by priority",
+            });
+            return slots[0];
+        }
+        let latest = |slot: &u64| {
+            let level = self.best_holder(*slot).0;
+            self.holders(*slot)
+                .iter()
+                .filter(|(row, _)| row.0 == level)
+                .map(|(_, holding)| holding.touch)
+                .max()
+                .unwrap()
+        };
+        let earliest = slots.iter().map(latest).min().unwrap();
+        slots.retain(|slot| latest(slot) == earliest);
+        if slots.len() == 1 {
+            tally.note(match step {
+                'c' => "c decided by touch",
+                'd' => "d decided by touch",
+                'e' => "e decided by touch",
+                _ => "f decided by touch",
+            });
+            return slots[0];
+        }
+        tally.note(match step {
+            'c' => "c decided by page",
+            'd' => "d decided by page",
+            'e' => "e decided by page",
+            _ => "f decided by page",
+        });
+        slots.into_iter().min_by_key(|slot| self.filled[slot].page).unwrap()
+    }
+}
+
+// The bytes of docs/LAYOUT.md.
+
+pub const ROWS_AT: usize = 512;
+pub const SLOTS_AT: usize = 2_560;
+pub const HOLDINGS_AT: usize = 6_656;
+pub const TAIL_AT: usize = 55_808;
+
+pub fn row_at(row: RowId) -> usize {
+    ROWS_AT + 64 * (8 * row.0 + row.1) as usize
+}
+
+pub fn slot_at(slot: u64) -> usize {
+    SLOTS_AT + 64 * slot as usize
+}
+
+pub fn holding_at(slot: u64, row: RowId) -> usize {
+    HOLDINGS_AT + 24 * (32 * slot + 8 * row.0 + row.1) as usize
+}
+
+pub fn word(bytes: &[u8], at: usize) -> u64 {
+    u64::from_le_bytes(bytes[at..at + 8].try_into().unwrap())
+}
+
+pub fn set_word(bytes: &mut [u8], at: usize, value: u64) {
+    bytes[at..at + 8].copy_from_slice(&value.to_le_bytes());
+}
+
+fn mode_number(mode: Mode) -> u64 {
+    match mode {
+        Mode::Read => 0,
+        Mode::Write => 1,
+    }
+}
+
+impl State {
+    /// The 65,536 bytes of this state.
+    pub fn bytes(&self) -> Vec<u8> {
+        let mut bytes = vec![0; SIZE];
+        bytes[0..8].copy_from_slice(b"SABREBUF");
+        set_word(&mut bytes, 8, 1);
+        set_word(&mut bytes, 16, self.slots);
+        set_word(&mut bytes, 24, self.delay);
+        set_word(&mut bytes, 32, self.clock);
+        for (id, row) in &self.rows {
+            let at = row_at(*id);
+            let (condition, number, mode) = match row.condition {
+                Condition::Free => (0, 0, 0),
+                Condition::Idle => (1, 0, 0),
+                Condition::Fetching { due } => (2, due, 0),
+                Condition::Waiting { page, mode } => (3, page, mode_number(mode)),
+                Condition::Killed(Cause::Late) => (4, 0, 0),
+                Condition::Killed(Cause::Taken) => (5, 0, 0),
+            };
+            set_word(&mut bytes, at, condition);
+            set_word(&mut bytes, at + 8, number);
+            set_word(&mut bytes, at + 16, mode);
+            set_word(&mut bytes, at + 24, row.deadline);
+        }
+        for (number, slot) in &self.filled {
+            let at = slot_at(*number);
+            set_word(&mut bytes, at, 1);
+            set_word(&mut bytes, at + 8, slot.page);
+            set_word(&mut bytes, at + 16, slot.arrival);
+            set_word(&mut bytes, at + 24, slot.dirty as u64);
+            set_word(&mut bytes, at + 32, slot.lowest);
+            set_word(&mut bytes, at + 40, slot.touch);
+        }
+        for ((slot, row), holding) in &self.holdings {
+            let at = holding_at(*slot, *row);
+            let pin = match holding.pin {
+                Pin::None => 1,
+                Pin::Read => 2,
+                Pin::Write => 3,
+            };
+            set_word(&mut bytes, at, pin);
+            set_word(&mut bytes, at + 8, holding.arrival);
+            set_word(&mut bytes, at + 16, holding.touch);
+        }
+        bytes
+    }
+}
+
+// Sound means: the clauses, each by a name.
+
+pub const LENGTH: &str = "length";
+pub const MARK: &str = "mark";
+pub const VERSION: &str = "version";
+pub const UNUSED_HEADER: &str = "unused bytes after the clock";
+pub const UNUSED_ROW: &str = "unused bytes of a row";
+pub const UNUSED_SLOT: &str = "unused bytes of a slot";
+pub const UNUSED_TAIL: &str = "unused bytes at the end";
+pub const SLOTS_RANGE: &str = "slots 1 to 64";
+pub const DELAY_RANGE: &str = "delay 1 to 255";
+pub const CLOCK_RANGE: &str = "clock at most 4,000,000,000";
+pub const CONDITION_RANGE: &str = "a row's condition";
+pub const DUE_RANGE: &str = "a due tick is a 32-bit number";
+pub const DEADLINE_RANGE: &str = "a deadline is a 32-bit number";
+pub const WAIT_PAGE_RANGE: &str = "a waiting row's page";
+pub const WAIT_MODE_RANGE: &str = "a waiting row's mode";
+pub const ROW_ZERO: &str = "a free or killed row is zero but for its mark";
+pub const ROW_SPARE: &str = "an idle or fetching row's other words are zero";
+pub const FILLED_RANGE: &str = "a slot's mark";
+pub const PAGE_RANGE: &str = "a slot's page";
+pub const DIRTY_RANGE: &str = "a slot's dirty mark";
+pub const LOWEST_RANGE: &str = "a slot's lowest level";
+pub const SLOT_ZERO: &str = "an empty slot is zero";
+pub const PIN_RANGE: &str = "a holding's pin";
+pub const HOLDING_ZERO: &str = "an empty holding is zero";
+pub const PAST_EMPTY: &str = "slots past the number started with are empty";
+pub const ONE_SLOT: &str = "no page in two slots";
+pub const LIVE_HOLDER: &str = "holdings only of live rows";
+pub const FILLED_HOLDING: &str = "holdings only in filled slots";
+pub const ACCESS: &str = "no pin against the access rule";
+pub const CONFLICT: &str = "no conflicting pins";
+pub const ARRIVAL_LEAST: &str = "a holding's arrival at least its slot's";
+pub const ARRIVAL_MOST: &str = "a holding's arrival at most clock + delay";
+pub const TOUCH_MOST: &str = "a holding's touch at most its slot's";
+pub const SLOT_TOUCH: &str = "a slot's touch at most the clock";
+pub const HOLDER_LEVEL: &str = "a holder's level at least the slot's lowest";
+pub const SLOT_ARRIVAL: &str = "a slot's arrival at most clock + delay";
+pub const DEADLINE: &str = "live rows' deadlines above the clock";
+pub const FETCH_DUE: &str = "a fetching row's due tick above the clock";
+pub const FETCH_PIN: &str = "a fetching row pins a page that arrives when due";
+pub const FETCH_OTHERS: &str = "a fetching row's other holdings have arrived";
+pub const ARRIVED: &str = "holdings of idle and waiting rows have arrived";
+pub const WAIT_ALLOWED: &str = "a waiting row's mode is allowed for its page";
+
+/// All clauses but the length. `DUE_RANGE` is left out: a fetching row's due tick is the arrival
+/// of a holding, so a due tick out of range always breaks another clause too.
+pub const CLAUSES: &[&str] = &[
+    MARK, VERSION, UNUSED_HEADER, UNUSED_ROW, UNUSED_SLOT, UNUSED_TAIL, SLOTS_RANGE, DELAY_RANGE,
+    CLOCK_RANGE, CONDITION_RANGE, DEADLINE_RANGE, WAIT_PAGE_RANGE, WAIT_MODE_RANGE, ROW_ZERO,
+    ROW_SPARE, FILLED_RANGE, PAGE_RANGE, DIRTY_RANGE, LOWEST_RANGE, SLOT_ZERO, PIN_RANGE,
+    HOLDING_ZERO, PAST_EMPTY, ONE_SLOT, LIVE_HOLDER, FILLED_HOLDING, ACCESS, CONFLICT,
+    ARRIVAL_LEAST, ARRIVAL_MOST, TOUCH_MOST, SLOT_TOUCH, HOLDER_LEVEL, SLOT_ARRIVAL, DEADLINE,
+    FETCH_DUE, FETCH_PIN, FETCH_OTHERS, ARRIVED, WAIT_ALLOWED,
+];
+
+type Broken = BTreeSet<&'static str>;
+
+/// The state of a sound area, or the clauses that the area breaks. If numbers are out of range,
+/// only those are named.
+pub fn read(area: &[u8]) -> Result<State, Broken> {
+    if area.len() < SIZE {
+        return Err(Broken::from([LENGTH]));
+    }
+    let bytes = &area[..SIZE];
+    let state = name(bytes)?;
+    let mut broken = state.broken();
+    broken.extend(strange_bytes(bytes, &state));
+    if broken.is_empty() {
+        Ok(state)
+    } else {
+        Err(broken)
+    }
+}
+
+/// The state that the words name, if its numbers can be named at all.
+fn name(bytes: &[u8]) -> Result<State, Broken> {
+    let mut broken = Broken::new();
+    let mut state = State::fresh(word(bytes, 16), word(bytes, 24));
+    state.clock = word(bytes, 32);
+    if !(1..=64).contains(&state.slots) {
+        broken.insert(SLOTS_RANGE);
+    }
+    if !(1..=255).contains(&state.delay) {
+        broken.insert(DELAY_RANGE);
+    }
+    if state.clock > LAST_CLOCK {
+        broken.insert(CLOCK_RANGE);
+    }
+    for (id, row) in &mut state.rows {
+        let at = row_at(*id);
+        let number = word(bytes, at + 8);
+        row.condition = match word(bytes, at) {
+            0 => Condition::Free,
+            1 => Condition::Idle,
+            2 => {
+                if number > u64::from(u32::MAX) {
+                    broken.insert(DUE_RANGE);
+                }
+                Condition::Fetching { due: number }
+            }
+            3 => {
+                if number > 4095 {
+                    broken.insert(WAIT_PAGE_RANGE);
+                }
+                let mode = match word(bytes, at + 16) {
+                    0 => Mode::Read,
+                    1 => Mode::Write,
+                    _ => {
+                        broken.insert(WAIT_MODE_RANGE);
+                        Mode::Read
+                    }
+                };
+                Condition::Waiting { page: number, mode }
+            }
+            4 => Condition::Killed(Cause::Late),
+            5 => Condition::Killed(Cause::Taken),
+            _ => {
+                broken.insert(CONDITION_RANGE);
+                Condition::Free
+            }
+        };
+        if row.live() {
+            row.deadline = word(bytes, at + 24);
+            if row.deadline > u64::from(u32::MAX) {
+                broken.insert(DEADLINE_RANGE);
+            }
+        }
+    }
+    for number in 0..64 {
+        let at = slot_at(number);
+        match word(bytes, at) {
+            0 => continue,
+            1 => {}
+            _ => {
+                broken.insert(FILLED_RANGE);
+            }
+        }
+        let slot = Slot {
+            page: word(bytes, at + 8),
+            arrival: word(bytes, at + 16),
+            dirty: word(bytes, at + 24) == 1,
+            lowest: word(bytes, at + 32),
+            touch: word(bytes, at + 40),
+        };
+        if slot.page > 4095 {
+            broken.insert(PAGE_RANGE);
+        }
+        if word(bytes, at + 24) > 1 {
+            broken.insert(DIRTY_RANGE);
+        }
+        if slot.lowest > 3 {
+            broken.insert(LOWEST_RANGE);
+        }
+        state.filled.insert(number, slot);
+    }
+    for slot in 0..64 {
+        for level in 0..4 {
+            for number in 0..8 {
+                let row = (level, number);
+                let at = holding_at(slot, row);
+                let pin = match word(bytes, at) {
+                    0 => continue,
+                    1 => Pin::None,
+                    2 => Pin::Read,
+                    3 => Pin::Write,
+                    _ => {
+                        broken.insert(PIN_RANGE);
+                        Pin::None
+                    }
+                };
+                let holding =
+                    Holding { pin, arrival: word(bytes, at + 8), touch: word(bytes, at + 16) };
+                state.holdings.insert((slot, row), holding);
+            }
+        }
+    }
+    if broken.is_empty() {
+        Ok(state)
+    } else {
+        Err(broken)
+    }
+}
+
+/// Names each place whose bytes are not those of the state.
+fn strange_bytes(bytes: &[u8], state: &State) -> Broken {
+    let right = state.bytes();
+    let mut broken = Broken::new();
+    if bytes == right {
+        return broken;
+    }
+    for at in (0..SIZE).step_by(8) {
+        if word(bytes, at) == word(&right, at) {
+            continue;
+        }
+        broken.insert(if at < 8 {
+            MARK
+        } else if at < 16 {
+            VERSION
+        } else if at < ROWS_AT {
+            UNUSED_HEADER
+        } else if at < SLOTS_AT {
+            let row = (at - ROWS_AT) as u64 / 64;
+            if (at - ROWS_AT) % 64 >= 32 {
+                UNUSED_ROW
+            } else if state.rows[&(row / 8, row % 8)].live() {
+                ROW_SPARE
+            } else {
+                ROW_ZERO
+            }
+        } else if at < HOLDINGS_AT {
+            if (at - SLOTS_AT) % 64 >= 48 {
+                UNUSED_SLOT
+            } else {
+                SLOT_ZERO
+            }
+        } else if at < TAIL_AT {
+            HOLDING_ZERO
+        } else {
+            UNUSED_TAIL
+        });
+    }
+    broken
+}
+
+impl State {
+    /// The clauses of soundness that this state breaks. Its numbers can be named.
+    pub fn broken(&self) -> Broken {
+        let mut broken = Broken::new();
+        let mut need = |clause: &'static str, holds: bool| {
+            if !holds {
+                broken.insert(clause);
+            }
+        };
+        let last_arrival = self.clock + self.delay;
+        let mut pages = BTreeSet::new();
+        for (number, slot) in &self.filled {
+            need(PAST_EMPTY, *number < self.slots);
+            need(ONE_SLOT, pages.insert(slot.page));
+            need(SLOT_ARRIVAL, slot.arrival <= last_arrival);
+            need(SLOT_TOUCH, slot.touch <= self.clock);
+        }
+        for ((number, row), holding) in &self.holdings {
+            need(LIVE_HOLDER, self.rows[row].live());
+            need(ARRIVAL_MOST, holding.arrival <= last_arrival);
+            let Some(slot) = self.filled.get(number) else {
+                need(FILLED_HOLDING, false);
+                continue;
+            };
+            need(
+                ACCESS,
+                match holding.pin {
+                    Pin::None => true,
+                    Pin::Read => allowed(row.0, slot.page, Mode::Read),
+                    Pin::Write => allowed(row.0, slot.page, Mode::Write),
+                },
+            );
+            need(ARRIVAL_LEAST, holding.arrival >= slot.arrival);
+            need(TOUCH_MOST, holding.touch <= slot.touch);
+            need(HOLDER_LEVEL, row.0 >= slot.lowest);
+            for (other, second) in self.holders(*number) {
+                need(CONFLICT, other == *row || !conflict(holding.pin, second.pin));
+            }
+        }
+        for (id, row) in &self.rows {
+            if row.live() {
+                need(DEADLINE, row.deadline > self.clock);
+            }
+            let held = self.held_by(*id);
+            let ahead = held.iter().filter(|(_, holding)| holding.arrival > self.clock).count();
+            match row.condition {
+                Condition::Fetching { due } => {
+                    need(FETCH_DUE, due > self.clock);
+                    need(
+                        FETCH_PIN,
+                        held.iter().any(|(_, holding)| {
+                            holding.pin != Pin::None && holding.arrival == due
+                        }),
+                    );
+                    need(FETCH_OTHERS, ahead <= 1);
+                }
+                Condition::Idle => need(ARRIVED, ahead == 0),
+                Condition::Waiting { page, mode } => {
+                    need(ARRIVED, ahead == 0);
+                    need(WAIT_ALLOWED, allowed(id.0, page, mode));
+                }
+                Condition::Free | Condition::Killed(_) => {}
+            }
+        }
+        broken
+    }
+}
+
+/// A call on lent bytes, sound or not.
+pub fn call(area: &mut [u8], call: &Call, tally: &mut Tally) -> Outcome {
+    if area.len() < SIZE {
+        let outcome = Outcome::refused(1);
+        tally.outcome(call, &outcome);
+        return outcome;
+    }
+    let mut state = match (read(area), call) {
+        (Ok(state), _) => state,
+        // A start takes any area; the state before it does not matter.
+        (Err(_), Call::Start { .. }) => State::fresh(1, 1),
+        (Err(_), _) => {
+            let outcome = Outcome::refused(1);
+            tally.outcome(call, &outcome);
+            return outcome;
+        }
+    };
+    let outcome = state.call(call, tally);
+    if outcome.status == 0 {
+        area[..SIZE].copy_from_slice(&state.bytes());
+    }
+    outcome
+}

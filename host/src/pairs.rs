@@ -1,0 +1,282 @@
+//! Demand 3 over pairs of runs: the calls of levels up to L and the ticks are the same in both, the
+//! calls of higher levels are not. What levels up to L are told must be the same.
+
+use crate::calls::*;
+use crate::lent::Lent;
+use crate::model::{Condition, State, Tally};
+use crate::random::Random;
+use crate::scenario::Scenario;
+
+pub const PAIRS: u64 = 1_000;
+
+/// A tick, or a call made by level L or below. Starts are never kept.
+fn kept(call: &Call, most: u64) -> bool {
+    match call {
+        Call::Tick => true,
+        _ => call.level().is_some_and(|level| u64::from(level) <= most),
+    }
+}
+
+/// A start that would be accepted, which neither run may have.
+fn restart(call: &Call) -> bool {
+    matches!(call, Call::Start { slots: 1..=64, delay: 1..=255 })
+}
+
+/// What levels up to L are told over a run.
+#[derive(PartialEq, Debug)]
+enum Told {
+    Answer(Call, (u32, u64, u64)),
+    /// A row's delivery and its tick.
+    Delivery((u64, u64), u64),
+    /// A look, view or count made afterwards.
+    After(Call, (u32, u64, u64)),
+}
+
+struct Side<'a> {
+    manager: &'a Manager,
+    lent: Lent,
+    /// Guides the choice of calls; the answers are the manager's.
+    state: State,
+    most: u64,
+    /// Rows up to L whose look would be fetch or wait, by the answers they got.
+    pending: Vec<(u64, u64)>,
+    clock: u64,
+    told: Vec<Told>,
+    higher: u64,
+    higher_accepted: u64,
+}
+
+impl<'a> Side<'a> {
+    fn new(manager: &'a Manager, random: &mut Random, scenario: &Scenario, most: u64) -> Side<'a> {
+        let mut lent = Lent::random(random);
+        let start = Call::Start { slots: scenario.slots, delay: scenario.delay };
+        manager.call(lent.area(), &start);
+        Side {
+            manager,
+            lent,
+            state: State::fresh(scenario.slots.into(), scenario.delay.into()),
+            most,
+            pending: Vec::new(),
+            clock: 0,
+            told: Vec::new(),
+            higher: 0,
+            higher_accepted: 0,
+        }
+    }
+
+    fn ask(&mut self, call: Call) -> Outcome {
+        self.manager.call(self.lent.area(), &call)
+    }
+
+    fn look(&mut self, row: (u64, u64)) -> Outcome {
+        self.ask(Call::Look { level: row.0 as u32, row: row.1 as u32 })
+    }
+
+    fn make(&mut self, call: &Call) {
+        self.state.call(call, &mut Tally::default());
+        if !kept(call, self.most) {
+            let outcome = self.ask(*call);
+            self.higher += 1;
+            self.higher_accepted += (outcome.status == 0) as u64;
+            return;
+        }
+        let mut fetching_or_waiting = Vec::new();
+        if *call == Call::Tick {
+            for row in self.pending.clone() {
+                if matches!(self.look(row).answer[0], FETCH | WAIT) {
+                    fetching_or_waiting.push(row);
+                }
+            }
+        }
+        let outcome = self.ask(*call);
+        self.told.push(Told::Answer(*call, outcome.told()));
+        if *call == Call::Tick && outcome.status == 0 {
+            self.clock = outcome.answer[1];
+            for row in &fetching_or_waiting {
+                if self.look(*row).answer[0] == IDLE {
+                    self.told.push(Told::Delivery(*row, self.clock));
+                    self.pending.retain(|other| other != row);
+                }
+            }
+        }
+        if let Call::Request { level, row, .. } | Call::Retry { level, row } = *call {
+            let row = (level.into(), row.into());
+            if outcome.status == 0 {
+                self.pending.retain(|other| *other != row);
+            }
+            match outcome.answer[0] {
+                READY => self.told.push(Told::Delivery(row, self.clock)),
+                FETCH | WAIT => self.pending.push(row),
+                _ => {}
+            }
+        }
+    }
+
+    /// Every look, some views and every count that levels up to L can make now.
+    fn afterwards(&mut self, pages: &[u32]) {
+        for level in 0..=self.most as u32 {
+            for row in 0..8 {
+                self.after(Call::Look { level, row });
+            }
+            for page in pages {
+                self.after(Call::View { level, page: *page });
+            }
+            self.after(Call::Count { level });
+        }
+    }
+
+    fn after(&mut self, call: Call) {
+        let outcome = self.ask(call);
+        self.told.push(Told::After(call, outcome.told()));
+    }
+}
+
+/// A call that is not kept: by a higher level, by a level above 3, or a refused start.
+fn higher_call(random: &mut Random, scenario: &Scenario, state: &State, most: u64) -> Call {
+    let levels: Vec<u64> = if most == 3 { vec![4, 5] } else { (most + 1..4).collect() };
+    loop {
+        // A killed row is of no use, so it is often begun again.
+        let killed: Vec<(u64, u64)> = state
+            .rows
+            .iter()
+            .filter(|(id, row)| id.0 > most && matches!(row.condition, Condition::Killed(_)))
+            .map(|(id, _)| *id)
+            .collect();
+        if !killed.is_empty() && random.percent(15) {
+            let (level, row) = random.pick(&killed);
+            return Call::End { level: level as u32, row: row as u32 };
+        }
+        let call = scenario.call(random, state, &levels);
+        if !kept(&call, most) && !restart(&call) {
+            return call;
+        }
+    }
+}
+
+#[derive(Default)]
+struct Found {
+    kept: u64,
+    higher: u64,
+    higher_accepted: u64,
+    deliveries: u64,
+    waits: u64,
+    killed: u64,
+    after: u64,
+    areas_differ: u64,
+    slots_differ: u64,
+}
+
+fn pair(manager: &Manager, seed: u64, number: u64, found: &mut Found) -> Result<(), String> {
+    let mut random = Random::new(seed, number);
+    let random = &mut random;
+    let most = random.pick(&[0, 0, 1, 1, 1, 2, 2, 2, 2, 3]);
+    let slots = random.pick(&[1, 1, 2, 2, 2, 3, 3, 3, 5, 5, 8, 16]);
+    let scenario = Scenario::with_slots(slots, random);
+    let mut pages = scenario.pages.clone();
+    pages.truncate(8);
+    pages.push(random.below(4096) as u32);
+    let low: Vec<u64> = (0..=most).collect();
+    let mut first = Side::new(manager, random, &scenario, most);
+    let mut second = Side::new(manager, random, &scenario, most);
+    let first_share = random.pick(&[20, 50, 80]);
+    // How the second run's higher calls come from the first's: all gone, all new, or some of each.
+    let (removed, changed, added) = random.pick(&[(100, 0, 0), (100, 0, 60), (30, 30, 20), (10, 5, 5)]);
+    let ask_often = random.pick(&[10, 40, 100]);
+    let mut kept_calls = 0;
+    let mut made = 0;
+    let length = random.between(40, 220);
+    while kept_calls < length {
+        made += 1;
+        if random.percent(first_share) {
+            let call = higher_call(random, &scenario, &first.state, most);
+            first.make(&call);
+            if !random.percent(removed) {
+                let call = if random.percent(changed) {
+                    higher_call(random, &scenario, &second.state, most)
+                } else {
+                    call
+                };
+                second.make(&call);
+            }
+        } else {
+            if random.percent(added) {
+                for _ in 0..random.between(1, 6) {
+                    let call = higher_call(random, &scenario, &second.state, most);
+                    second.make(&call);
+                }
+            }
+            let call = scenario.call(random, &first.state, &low);
+            if !kept(&call, most) {
+                if !restart(&call) {
+                    first.make(&call);
+                }
+                continue;
+            }
+            kept_calls += 1;
+            let fresh_from = first.told.len();
+            first.make(&call);
+            second.make(&call);
+            if random.one_in(ask_often) || kept_calls == length {
+                first.afterwards(&pages);
+                second.afterwards(&pages);
+            }
+            let (one, other) = (&first.told[fresh_from..], &second.told[fresh_from..]);
+            if one != other {
+                let text = match one.iter().zip(other).find(|(a, b)| a != b) {
+                    Some((a, b)) => format!("{a:?} in one run, {b:?} in the other"),
+                    None => format!("{one:?} in one run, {other:?} in the other"),
+                };
+                return Err(format!(
+                    "seed {seed}, pair {number}, level {most}, step {made}, kept call {kept_calls}: {text}"
+                ));
+            }
+            if first.lent.state_bytes() != second.lent.state_bytes() {
+                found.areas_differ += 1;
+                let places = |state: &State| -> Vec<Option<u64>> {
+                    scenario.pages.iter().map(|page| state.slot_of((*page).into())).collect()
+                };
+                found.slots_differ += (places(&first.state) != places(&second.state)) as u64;
+            }
+        }
+    }
+    first.lent.guards()?;
+    second.lent.guards()?;
+    found.kept += kept_calls;
+    found.higher += first.higher + second.higher;
+    found.higher_accepted += first.higher_accepted + second.higher_accepted;
+    for told in &first.told {
+        match told {
+            Told::Answer(_, (_, word, _)) => found.waits += (*word == WAIT) as u64,
+            Told::Delivery(..) => found.deliveries += 1,
+            Told::After(_, (_, word, _)) => {
+                found.after += 1;
+                found.killed += (*word == TAKEN) as u64;
+            }
+        }
+    }
+    Ok(())
+}
+
+pub fn pairs(manager: &Manager, number: u64, seed: u64) -> Result<(), String> {
+    println!("pairs: {number} pairs of runs, seed {seed}, {}", manager.name);
+    let mut found = Found::default();
+    for at in 0..number {
+        pair(manager, seed, at, &mut found).map_err(|text| format!("pairs: {text}"))?;
+    }
+    println!(
+        "  {} kept calls answered alike, beside {} higher calls ({} accepted)",
+        found.kept, found.higher, found.higher_accepted
+    );
+    println!(
+        "  {} deliveries, {} waits, {} looks, views and counts afterwards ({} of them taken)",
+        found.deliveries, found.waits, found.after, found.killed
+    );
+    println!(
+        "  after {} kept calls the two areas differed, after {} of them pages lay in different slots",
+        found.areas_differ, found.slots_differ
+    );
+    if number >= 100 && (found.deliveries == 0 || found.waits == 0 || found.slots_differ == 0) {
+        return Err(format!("pairs: seed {seed}: the runs say nothing"));
+    }
+    Ok(())
+}

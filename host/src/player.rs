@@ -1,0 +1,256 @@
+//! The player of document 01, played by the model, and random records for it.
+
+use crate::calls::*;
+use crate::model::{State, Tally};
+use crate::random::Random;
+use crate::scenario::Scenario;
+
+pub const HEADER: &str = "call word value | slot back";
+pub const RECORD: usize = 12;
+
+/// Kinds of the player's records, by their byte.
+const START: u8 = 0;
+const BEGIN: u8 = 1;
+const REQUEST: u8 = 2;
+const UNPIN: u8 = 3;
+const END: u8 = 4;
+const RETRY: u8 = 5;
+const TICK: u8 = 6;
+const LOOK: u8 = 7;
+const VIEW: u8 = 8;
+const COUNT: u8 = 9;
+
+/// The call of a record, or nothing for a wrong mark, another kind or a cut record.
+fn call_of(record: &[u8]) -> Option<Call> {
+    if record.len() != RECORD || record[0] != 0xC3 || record[1] != 0x5A {
+        return None;
+    }
+    let (level, row, mode) = (record[3].into(), record[4].into(), record[5].into());
+    let page = u16::from_be_bytes([record[6], record[7]]).into();
+    let value = u32::from_be_bytes([record[8], record[9], record[10], record[11]]);
+    Some(match record[2] {
+        START => Call::Start { slots: page, delay: value },
+        BEGIN => Call::Begin { level, row, deadline: value },
+        REQUEST => Call::Request { level, row, page, mode },
+        UNPIN => Call::Unpin { level, row, page },
+        END => Call::End { level, row },
+        RETRY => Call::Retry { level, row },
+        TICK => Call::Tick,
+        LOOK => Call::Look { level, row },
+        VIEW => Call::View { level, page },
+        COUNT => Call::Count { level },
+        _ => return None,
+    })
+}
+
+/// What the player prints for these bytes on its input.
+pub fn play(input: &[u8]) -> String {
+    let mut output = format!("{HEADER}\n");
+    let mut state: Option<State> = None;
+    for (number, record) in input.chunks(RECORD).enumerate() {
+        let call = call_of(record)
+            .filter(|call| state.is_some() || matches!(call, Call::Start { .. }));
+        let Some(call) = call else {
+            output += &format!("{} {}\n", number + 1, Outcome::refused(18).line());
+            break;
+        };
+        let mut next = state.clone().unwrap_or(State::fresh(1, 1));
+        let outcome = next.call(&call, &mut Tally::default());
+        if outcome.status == 0 {
+            state = Some(next);
+        }
+        output += &format!("{} {}\n", number + 1, outcome.line());
+    }
+    output
+}
+
+/// The record of a call. Fields that its kind does not use come from `unused`. Nothing if a number
+/// does not fit its field.
+pub fn record_of(call: &Call, unused: [u8; RECORD]) -> Option<[u8; RECORD]> {
+    let mut record = unused;
+    record[0] = 0xC3;
+    record[1] = 0x5A;
+    record[2] = match call {
+        Call::Start { .. } => START,
+        Call::Begin { .. } => BEGIN,
+        Call::Request { .. } => REQUEST,
+        Call::Unpin { .. } => UNPIN,
+        Call::End { .. } => END,
+        Call::Retry { .. } => RETRY,
+        Call::Tick => TICK,
+        Call::Look { .. } => LOOK,
+        Call::View { .. } => VIEW,
+        Call::Count { .. } => COUNT,
+    };
+    if let Some(level) = call.level() {
+        record[3] = level.try_into().ok()?;
+    }
+    if let Some(row) = call.row() {
+        record[4] = row.try_into().ok()?;
+    }
+    if let Some(page) = call.page() {
+        record[6..8].copy_from_slice(&u16::try_from(page).ok()?.to_be_bytes());
+    }
+    match *call {
+        Call::Start { slots, delay } => {
+            record[6..8].copy_from_slice(&u16::try_from(slots).ok()?.to_be_bytes());
+            record[8..12].copy_from_slice(&delay.to_be_bytes());
+        }
+        Call::Begin { deadline, .. } => record[8..12].copy_from_slice(&deadline.to_be_bytes()),
+        Call::Request { mode, .. } => record[5] = mode.try_into().ok()?,
+        _ => {}
+    }
+    Some(record)
+}
+
+/// A long random run of so many records. It is started again now and then, so that it meets several
+/// numbers of slots.
+pub fn random_records(number: u64, seed: u64) -> Vec<u8> {
+    let random = &mut Random::new(seed, 0);
+    let mut bytes = Vec::new();
+    let mut put = |random: &mut Random, call: &Call| -> bool {
+        let mut unused = [0; RECORD];
+        if random.percent(50) {
+            random.fill(&mut unused);
+        }
+        let record = record_of(call, unused);
+        if let Some(record) = record {
+            bytes.extend(record);
+        }
+        record.is_some()
+    };
+    let mut made = 0;
+    let mut first = true;
+    while made < number {
+        let scenario = Scenario::random(random);
+        if first {
+            // A refused start does not end the run.
+            made += put(random, &Call::Start { slots: 65, delay: 1 }) as u64;
+            first = false;
+        }
+        let start = Call::Start { slots: scenario.slots, delay: scenario.delay };
+        let mut state = State::fresh(1, 1);
+        state.call(&start, &mut Tally::default());
+        if made < number {
+            made += put(random, &start) as u64;
+        }
+        for _ in 0..scenario.length {
+            if made >= number {
+                break;
+            }
+            let call = scenario.call(random, &state, &[0, 1, 2, 3]);
+            if put(random, &call) {
+                state.call(&call, &mut Tally::default());
+                made += 1;
+            }
+        }
+    }
+    bytes
+}
+
+pub fn record(number: u64, seed: u64, file: &str) -> Result<(), String> {
+    let bytes = random_records(number, seed);
+    let output = play(&bytes);
+    let expected = format!("{file}.out");
+    let fault = |name: &str, fault: std::io::Error| format!("record: {name}: {fault}");
+    std::fs::write(file, &bytes).map_err(|error| fault(file, error))?;
+    std::fs::write(&expected, output).map_err(|error| fault(&expected, error))?;
+    println!("record: {number} records, seed {seed}, in {file}; what the player prints in {expected}");
+    Ok(())
+}
+
+#[cfg(test)]
+mod tests {
+    use super::*;
+
+    pub fn session_s() -> Vec<Call> {
+        vec![
+            Call::Start { slots: 1, delay: 1 },
+            Call::Begin { level: 1, row: 0, deadline: 100 },
+            Call::Request { level: 1, row: 0, page: 1024, mode: 1 },
+            Call::Tick,
+            Call::Begin { level: 0, row: 0, deadline: 90 },
+            Call::Count { level: 0 },
+            Call::Request { level: 0, row: 0, page: 7, mode: 0 },
+            Call::Look { level: 1, row: 0 },
+            Call::View { level: 1, page: 7 },
+            Call::Count { level: 1 },
+            Call::Request { level: 1, row: 0, page: 1024, mode: 0 },
+        ]
+    }
+
+    fn records(calls: &[Call], unused: u8) -> Vec<u8> {
+        calls.iter().flat_map(|call| record_of(call, [unused; RECORD]).unwrap()).collect()
+    }
+
+    const S: &str = "call word value | slot back
+1 started 0 | - -
+2 begun 0 | - -
+3 fetch 1 | 0 -
+4 clock 1 | - -
+5 begun 0 | - -
+6 open 1 | - -
+7 fetch 2 | 0 1024
+8 taken 0 | - -
+9 read 2 | - -
+10 open 0 | - -
+11 refused 10 | - -
+";
+
+    #[test]
+    fn session_s_whole() {
+        assert_eq!(play(&records(&session_s(), 0)), S);
+    }
+
+    #[test]
+    fn unused_fields_are_ignored() {
+        assert_eq!(play(&records(&session_s(), 0xFF)), S);
+    }
+
+    #[test]
+    fn empty_input() {
+        assert_eq!(play(&[]), "call word value | slot back\n");
+    }
+
+    #[test]
+    fn refusal_18() {
+        let last = "1 refused 18 | - -\n";
+        let start = record_of(&Call::Start { slots: 1, delay: 1 }, [0; RECORD]).unwrap();
+        let after_header = |bytes: &[u8]| play(bytes).split_once('\n').unwrap().1.to_string();
+        // cut record
+        assert_eq!(after_header(&[0xC3, 0x5A, 0]), last);
+        assert_eq!(after_header(&start[..11]), last);
+        // wrong mark
+        assert_eq!(after_header(&[&[0x5A, 0xC3][..], &start[2..], &start].concat()), last);
+        // other kind
+        assert_eq!(after_header(&[&[0xC3, 0x5A, 10][..], &start[3..], &start].concat()), last);
+        // another kind before an accepted start, even after a refused one
+        let tick = record_of(&Call::Tick, [0; RECORD]).unwrap();
+        assert_eq!(after_header(&[tick, start].concat()), last);
+        let bad_start = record_of(&Call::Start { slots: 65, delay: 1 }, [0; RECORD]).unwrap();
+        assert_eq!(
+            after_header(&[bad_start, tick, start].concat()),
+            "1 refused 2 | - -\n2 refused 18 | - -\n"
+        );
+        assert_eq!(
+            after_header(&[bad_start, start, tick].concat()),
+            "1 refused 2 | - -\n2 started 0 | - -\n3 clock 1 | - -\n"
+        );
+        // its line is the last of the run
+        assert_eq!(
+            after_header(&[&start[..], &tick[..], &start[..3]].concat()),
+            "1 started 0 | - -\n2 clock 1 | - -\n3 refused 18 | - -\n"
+        );
+        // ahead of all others: a bad record with numbers out of range
+        assert_eq!(after_header(&[0xC3, 0x5A, 99, 9, 9, 9, 255, 255, 0, 0, 0, 0]), last);
+    }
+
+    #[test]
+    fn records_play_through() {
+        let bytes = random_records(2000, 5);
+        assert_eq!(bytes.len(), 2000 * RECORD);
+        let output = play(&bytes);
+        assert_eq!(output.lines().count(), 2001);
+        assert!(!output.contains("refused 18"));
+    }
+}

@@ -1,0 +1,190 @@
+//! An empty, a half-full and a full state, and calls of every sort on them, for the benchmark and
+//! the measure of the stack.
+
+use crate::calls::*;
+use crate::model::{self, allowed, Condition, Holding, Mode, Pin, Row, Slot, State, Tally};
+
+/// A state with so many filled slots and live rows. Slots are held by rows of several levels, the
+/// last slots by high levels alone; every eighth slot has a write pin, others have read pins.
+fn filled(slots: u64, filled: u64, rows: u64) -> State {
+    let mut state = State::fresh(slots, 3);
+    state.clock = 1000;
+    let clock = state.clock;
+    for level in 0..4 {
+        for number in 0..rows {
+            state.rows.insert(
+                (level, number),
+                Row { condition: Condition::Idle, deadline: 5000 + 10 * ((number * 3) % 8) },
+            );
+        }
+    }
+    for slot in 0..filled {
+        let lowest = match (filled - 1 - slot) * 64 / filled {
+            0..=3 => 3,
+            4..=8 => 2,
+            9..=17 => 1,
+            _ => 0,
+        };
+        let page = 1024 * (slot % 4) + 16 * slot;
+        let dirty = slot % 3 == 0;
+        state.filled.insert(slot, Slot { page, arrival: 900, dirty, lowest, touch: clock - slot % 5 });
+        let mut writer = false;
+        for level in lowest..4 {
+            for number in 0..rows {
+                if (slot + number + level) % 4 == 3 {
+                    continue;
+                }
+                let pin = if slot % 8 == 7 {
+                    if !writer && allowed(level, page, Mode::Write) {
+                        writer = true;
+                        Pin::Write
+                    } else {
+                        Pin::None
+                    }
+                } else if (slot + number) % 2 == 0 && allowed(level, page, Mode::Read) {
+                    Pin::Read
+                } else {
+                    Pin::None
+                };
+                let touch = clock - 5 - (slot * 7 + number) % 11;
+                state.holdings.insert((slot, (level, number)), Holding { pin, arrival: 950, touch });
+            }
+        }
+    }
+    // One row of each level waits for a page, one fetches.
+    for level in 0..4 {
+        if rows < 3 {
+            break;
+        }
+        let waiting = (level, rows - 1);
+        let page = state.filled[&(filled / 3)].page;
+        let mode = if allowed(level, page, Mode::Read) { Mode::Read } else { Mode::Write };
+        state.rows.get_mut(&waiting).unwrap().condition = Condition::Waiting { page, mode };
+        let fetching = (level, rows - 2);
+        let place = state
+            .holdings
+            .iter()
+            .find(|((_, row), holding)| *row == fetching && holding.pin == Pin::Read)
+            .map(|(key, _)| *key);
+        if let Some(key) = place {
+            state.holdings.get_mut(&key).unwrap().arrival = clock + 2;
+            state.rows.get_mut(&fetching).unwrap().condition = Condition::Fetching { due: clock + 2 };
+        }
+    }
+    state
+}
+
+pub fn states() -> Vec<(&'static str, State)> {
+    let mut empty = State::fresh(64, 3);
+    empty.rows.insert((0, 0), Row { condition: Condition::Idle, deadline: 5000 });
+    let list = vec![("empty", empty), ("half", filled(64, 32, 4)), ("full", filled(64, 64, 8))];
+    for (name, state) in &list {
+        let broken = state.broken();
+        assert!(broken.is_empty(), "the {name} state is unsound: {broken:?}");
+        assert!(model::read(&state.bytes()).as_ref() == Ok(state));
+    }
+    list
+}
+
+/// The sort of an outcome, as a line of the table.
+fn sort(call: &Call, outcome: &Outcome, tally: &Tally) -> String {
+    let kind = KINDS[call.kind()];
+    if outcome.status != 0 {
+        return format!("{kind}: refused {}", outcome.status);
+    }
+    match call {
+        Call::Request { .. } | Call::Retry { .. } => {
+            let found = |events: &[&str]| events.iter().any(|event| tally.of(event) > 0);
+            let path = if found(&["step 1: wait"]) {
+                "wait, conflict".to_string()
+            } else if found(&["choice g"]) {
+                "wait, no slot".to_string()
+            } else if found(&["step 1: ready", "step 1: fetch"]) {
+                let kills = found(&["killed as taken"]);
+                if kills { "hit, kills" } else { "hit" }.to_string()
+            } else if found(&["step 2: ready", "step 2: fetch"]) {
+                "hit, dormant".to_string()
+            } else if let Some(step) = ["a", "b", "c", "d", "e", "f"]
+                .iter()
+                .find(|step| tally.of(&format!("choice {step}")) > 0)
+            {
+                format!("slot by {step}")
+            } else {
+                "hidden page".to_string()
+            };
+            format!("{kind}: {path}")
+        }
+        Call::Look { .. } | Call::View { .. } => {
+            format!("{kind}: {}", WORDS[outcome.answer[0] as usize])
+        }
+        _ => kind.to_string(),
+    }
+}
+
+/// Calls on a state, one for each sort of outcome found on it.
+pub fn calls_on(state: &State) -> Vec<(String, Call)> {
+    let mut tries = vec![
+        Call::Start { slots: 64, delay: 3 },
+        Call::Start { slots: 65, delay: 3 },
+        Call::Tick,
+    ];
+    let mut pages: Vec<u32> = state.filled.values().map(|slot| slot.page as u32).collect();
+    pages.extend([999, 1999, 2999, 3999]);
+    for level in 0..4 {
+        tries.push(Call::Count { level });
+        for row in 0..8 {
+            tries.push(Call::Begin { level, row, deadline: 9000 });
+            tries.push(Call::Retry { level, row });
+            tries.push(Call::End { level, row });
+            tries.push(Call::Look { level, row });
+            for page in &pages {
+                tries.push(Call::Unpin { level, row, page: *page });
+                for mode in 0..2 {
+                    tries.push(Call::Request { level, row, page: *page, mode });
+                }
+            }
+        }
+        for page in &pages {
+            tries.push(Call::View { level, page: *page });
+        }
+    }
+    let mut list: Vec<(String, Call)> = Vec::new();
+    for call in tries {
+        let mut tally = Tally::default();
+        let outcome = state.clone().call(&call, &mut tally);
+        let name = sort(&call, &outcome, &tally);
+        // One refusal that looks at the row and one that looks at the page are enough.
+        if outcome.status != 0 && !matches!((call.kind(), outcome.status), (0, 2) | (1, 8) | (2, 11) | (2, 13) | (4, 15)) {
+            continue;
+        }
+        if !list.iter().any(|(other, _)| *other == name) {
+            list.push((name, call));
+        }
+    }
+    list.sort_by_key(|(_, call)| call.kind());
+    list
+}
+
+/// States near these in which a sort occurs that they lack: a dormant slot, a last tick for all.
+pub fn more_states() -> Vec<(&'static str, State)> {
+    let (_, full) = states().pop().unwrap();
+    let mut dormant = full.clone();
+    for slot in [3, 9, 27] {
+        dormant.holdings.retain(|(number, _), _| *number != slot);
+    }
+    for (id, row) in full.rows.iter() {
+        if matches!(row.condition, Condition::Fetching { .. }) && dormant.held_by(*id).iter().all(|(_, holding)| holding.arrival <= dormant.clock) {
+            dormant.rows.get_mut(id).unwrap().condition = Condition::Idle;
+        }
+    }
+    let mut last = full;
+    for row in last.rows.values_mut() {
+        row.deadline = last.clock + 1;
+    }
+    let list = vec![("full, three dormant", dormant), ("full, all late next", last)];
+    for (name, state) in &list {
+        let broken = state.broken();
+        assert!(broken.is_empty(), "the state {name} is unsound: {broken:?}");
+    }
+    list
+}

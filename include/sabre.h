@@ -1,0 +1,195 @@
+/*
+ * The SABRE buffer manager of a record server: ten calls on a state that the
+ * server lends as bytes. Link with libsabre.a (x86-64).
+ *
+ * The state. `area` points to `len` bytes. The first 65,536 of them are the
+ * state, laid out as docs/LAYOUT.md says. Bytes past them are never read or
+ * written. The area may stand at any address, with any alignment. The library
+ * keeps no state of its own: two areas are two buffer managers.
+ *
+ * The answer. Each call, refused or not, fills all of `answer`:
+ *   answer[0]  the word, of enum sabre_word
+ *   answer[1]  the value, 0 if the word has none:
+ *                refused        the refusal's number
+ *                fetch          the due tick
+ *                clock          the new clock
+ *                active, read,
+ *                write          the least arrival tick among the holdings seen
+ *                dormant        the arrival tick of the slot
+ *                open           the number of open slots
+ *   answer[2]  slot + 1, for ready and fetch of request and retry; else 0
+ *   answer[3]  page to write back + 1; 0 if there is none
+ * Word and value may go to the clearance that made the call, and to no other.
+ * answer[2] and answer[3] depend on what higher clearances do. They are for the
+ * server alone: never pass them, or anything of the area, on to a clearance.
+ *
+ * The status. A call returns 0 where it is accepted, else the refusal's number,
+ * of enum sabre_refusal. Of the refusals that apply the smallest is given. After
+ * a refusal every byte of the area is as before, and the answer is
+ * { SABRE_REFUSED, number, 0, 0 }. Any numbers and any bytes may be passed.
+ *
+ * What the caller must see to: `area` is not null and its `len` bytes may be
+ * read and, where it is not const, written; `answer` is not null, has room for
+ * four numbers, is aligned for uint64_t and does not overlap the area. There
+ * are no locks inside: make one call at a time on one area, and let nobody else
+ * write there. How long a call runs on the machine is no part of an answer, and
+ * may depend on the whole state.
+ *
+ * The stack. A call needs up to 352 KiB of the caller's stack. Nothing is allocated
+ * elsewhere, and no call recurses. `host stack` measures it (host/README.md) and
+ * fails at 512 KiB.
+ */
+#ifndef SABRE_H
+#define SABRE_H
+
+#include <stddef.h>
+#include <stdint.h>
+
+#ifdef __cplusplus
+extern "C" {
+#endif
+
+/* The bytes of the state. */
+#define SABRE_AREA_SIZE 65536
+
+/* answer[0]. Other words may be added at the end. */
+enum sabre_word {
+    SABRE_REFUSED = 0,
+    SABRE_STARTED = 1,
+    SABRE_BEGUN = 2,
+    SABRE_READY = 3,     /* request, retry */
+    SABRE_FETCH = 4,     /* request, retry, look */
+    SABRE_WAIT = 5,      /* request, retry, look */
+    SABRE_UNPINNED = 6,
+    SABRE_ENDED = 7,
+    SABRE_CLOCK = 8,     /* tick */
+    SABRE_NONE = 9,      /* look: the row is free */
+    SABRE_IDLE = 10,     /* look */
+    SABRE_LATE = 11,     /* look: killed, its deadline has come */
+    SABRE_TAKEN = 12,    /* look: killed, another row needed its page or slot */
+    SABRE_UNSEEN = 13,   /* view */
+    SABRE_ACTIVE = 14,   /* view: held, and no pin is seen */
+    SABRE_READ = 15,     /* view: pinned to read; not a mode */
+    SABRE_WRITE = 16,    /* view: pinned to write; not a mode */
+    SABRE_DORMANT = 17,  /* view, level 3 alone: in a slot, held by nobody */
+    SABRE_OPEN = 18      /* count */
+};
+
+/* What a call returns. */
+enum sabre_refusal {
+    SABRE_ACCEPTED = 0,
+    SABRE_REFUSAL_AREA = 1,         /* area under 65,536 bytes, or (not for start) unsound */
+    SABRE_REFUSAL_SLOTS = 2,        /* slots not 1 to 64 */
+    SABRE_REFUSAL_DELAY = 3,        /* delay not 1 to 255 */
+    SABRE_REFUSAL_LEVEL = 4,        /* level above 3 */
+    SABRE_REFUSAL_ROW = 5,          /* row number above 7 */
+    SABRE_REFUSAL_PAGE = 6,         /* page above 4,095 */
+    SABRE_REFUSAL_MODE = 7,         /* mode not 0, 1 */
+    SABRE_REFUSAL_NOT_FREE = 8,     /* the row is not free */
+    SABRE_REFUSAL_FREE = 9,         /* the row is free */
+    SABRE_REFUSAL_KILLED = 10,      /* the row is killed */
+    SABRE_REFUSAL_BUSY = 11,        /* the row is fetching or waiting */
+    SABRE_REFUSAL_PAST = 12,        /* the deadline is not above the clock */
+    SABRE_REFUSAL_READ_ABOVE = 13,  /* the page's class is above the level */
+    SABRE_REFUSAL_WRITE_BELOW = 14, /* the page's class is below the level */
+    SABRE_REFUSAL_NOT_PINNED = 15,  /* the row does not pin the page */
+    SABRE_REFUSAL_NOT_WAITING = 16, /* the row is idle or fetching */
+    SABRE_REFUSAL_LAST_CLOCK = 17,  /* the clock is 4,000,000,000 */
+    SABRE_REFUSAL_RECORD = 18       /* bad record: the player's, no call returns it */
+};
+
+/* The mode of a request. */
+enum sabre_mode {
+    SABRE_MODE_READ = 0,
+    SABRE_MODE_WRITE = 1
+};
+
+/*
+ * Begins anew, whatever the area held before: clock 0, every row free, every
+ * slot and holding empty. The server's own call.
+ * slots  1 to 64
+ * delay  1 to 255, the ticks charged for every page that a level does not see
+ * Answers started. Refusals 1 (a short area alone), 2, 3.
+ */
+uint32_t sabre_start(uint8_t *area, size_t len, uint32_t slots, uint32_t delay, uint64_t answer[4]);
+
+/*
+ * Begins a transaction in a free row.
+ * level     0 (issue desk) to 3 (look-back room)
+ * row       0 to 7, a row of that level
+ * deadline  a tick above the clock; the row is killed as late when the clock is there
+ * Answers begun. Refusals 1, 4, 5, 8, 12.
+ */
+uint32_t sabre_begin(uint8_t *area, size_t len, uint32_t level, uint32_t row, uint32_t deadline, uint64_t answer[4]);
+
+/*
+ * An idle row asks for a page.
+ * page  0 to 4,095, its class is page / 1,024; reading needs level >= class, writing level <= class
+ * mode  SABRE_MODE_READ or SABRE_MODE_WRITE
+ * Answers
+ *   ready  the row pins the page and may use it now
+ *   fetch  the row pins the page and may use it from the due tick on, when a look says idle
+ *   wait   the row has not got the page; the request is stored for retry
+ * Refusals 1, 4, 5, 6, 7, 9, 10, 11, 13, 14.
+ *
+ * For the server, on ready and fetch: the page is, or is to be, in slot answer[2] - 1.
+ * If answer[3] is not 0, first write page answer[3] - 1 from that slot to disk. Then, if
+ * another page or none was in that slot, read the page into it. If the page itself was
+ * there, do not read it again: the copy in the slot may be newer than the one on disk.
+ */
+uint32_t sabre_request(uint8_t *area, size_t len, uint32_t level, uint32_t row, uint32_t page, uint32_t mode, uint64_t answer[4]);
+
+/*
+ * The same for the stored request of a waiting row. Its page and mode are those of the
+ * request that was answered wait.
+ * Answers ready, fetch or wait, as sabre_request. Refusals 1, 4, 5, 9, 10, 16.
+ */
+uint32_t sabre_retry(uint8_t *area, size_t len, uint32_t level, uint32_t row, uint64_t answer[4]);
+
+/*
+ * An idle row's pin on the page becomes none; it still holds the page.
+ * Answers unpinned. Refusals 1, 4, 5, 6, 9, 10, 11, 15.
+ */
+uint32_t sabre_unpin(uint8_t *area, size_t len, uint32_t level, uint32_t row, uint32_t page, uint64_t answer[4]);
+
+/*
+ * Ends the row's transaction, live or killed: it lets go of every page and is free.
+ * Answers ended. Refusals 1, 4, 5, 9.
+ */
+uint32_t sabre_end(uint8_t *area, size_t len, uint32_t level, uint32_t row, uint64_t answer[4]);
+
+/*
+ * The clock goes on by one; then fetching rows that are due become idle; then live rows
+ * whose deadline has come are killed as late. The server's own call. A page counts as
+ * arrived at its arrival tick: tick on to there only once it has been read from disk.
+ * Answers clock, the value is the new clock. Refusals 1, 17.
+ */
+uint32_t sabre_tick(uint8_t *area, size_t len, uint64_t answer[4]);
+
+/*
+ * What a row is. Changes nothing.
+ * Answers none, idle, fetch (the value is the due tick), wait, late or taken; answer[2]
+ * and answer[3] are 0. Refusals 1, 4, 5.
+ */
+uint32_t sabre_look(const uint8_t *area, size_t len, uint32_t level, uint32_t row, uint64_t answer[4]);
+
+/*
+ * What a level sees of a page. Changes nothing.
+ * Answers unseen, active, read or write (the strongest pin seen; the value is the least
+ * arrival tick seen) or, at level 3, dormant (the value is the slot's arrival tick).
+ * Refusals 1, 4, 6.
+ */
+uint32_t sabre_view(const uint8_t *area, size_t len, uint32_t level, uint32_t page, uint64_t answer[4]);
+
+/*
+ * The number of slots that are open to a level: those that no row of that level or below
+ * holds. Changes nothing.
+ * Answers open. Refusals 1, 4.
+ */
+uint32_t sabre_count(const uint8_t *area, size_t len, uint32_t level, uint64_t answer[4]);
+
+#ifdef __cplusplus
+}
+#endif
+
+#endif
