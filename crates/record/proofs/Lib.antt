@@ -1,0 +1,6 @@
+pub mod FieldLaws
+pub mod RecordLaws
+pub mod TextLaws
+pub mod DecimalLaws
+pub mod PlayLaws
+pub mod PartLaws

@@ -1,0 +1,87 @@
+-- Document 01, "The player": records played one after another on an area, and the text that comes out.
+use mathlib.Core.Bool.{Bool, true, false, cond, not, _||_}
+use mathlib.Core.List.{List, [], _++_}
+use Prim.Native.Nat.{ℕ, zero, suc, _+_, _*_, _/_}
+use lib.Dec.{eqb}
+use lib.ListN.{length}
+use Rattle.words.specs.Bytes.{part}
+use Rattle.model.specs.declared.Answer.{Answer}
+use Rattle.model.specs.declared.Answer.the-variants.{Refused}
+use Rattle.rules.specs.Answers.{word}
+use Rattle.rules.specs.Run.{Call, start, begin, request, retry, unpin, end, tick, look, view, count}
+use Rattle.sabre.specs.Lent.{answerOn, areaAfter, answerNumbers}
+use Rattle.record.specs.declared.Turn.{Turn}
+use Rattle.record.specs.Record.{Record, bad, call, recordOf}
+use Rattle.record.specs.Text.{lineOf, header}
+
+abbrev pub isBad : Record → Bool
+isBad bad = true
+isBad (call c) = false
+
+abbrev pub isStart : Record → Bool
+isStart bad = false
+isStart (call (start slots delay)) = true
+isStart (call (begin level number deadline)) = false
+isStart (call (request level number page mode)) = false
+isStart (call (retry level number)) = false
+isStart (call (unpin level number page)) = false
+isStart (call (end level number)) = false
+isStart (call tick) = false
+isStart (call (look level number)) = false
+isStart (call (view level page)) = false
+isStart (call (count level)) = false
+
+-- before an accepted start every record of another kind is bad
+unfoldable pub admitted : Bool → Record → Record
+admitted started r = cond (started || isStart r) r bad
+
+-- refusal 18 comes before any call; else the call is made
+unfoldable pub answerTo : List ℕ → Record → Answer
+answerTo a bad = Refused 18
+answerTo a (call c) = answerOn a c
+
+unfoldable pub areaWith : List ℕ → Record → List ℕ
+areaWith a bad = a
+areaWith a (call c) = areaAfter a c
+
+-- where a run stands, what it has made of the area, and what it has printed
+pub record Played : Type 0 where
+  pub turn : Turn
+  pub area : List ℕ
+  pub text : List ℕ
+
+-- the turn after a record answered with a word: whether a start was accepted, whether the run is over, the next record's number
+unfoldable pub nextTurn : Turn → Record → ℕ → Turn
+nextTurn t r word = record { started = t .started || not (eqb word 0); over = isBad r; number = t .number + 1 }
+
+-- a record that was admitted: its line, and the run ends after a bad one
+unfoldable pub playedRecord : Turn → List ℕ → Record → Played
+playedRecord t a r = record {
+  turn = nextTurn t r (word (answerTo a r));
+  area = areaWith a r;
+  text = lineOf (t .number) (answerNumbers (answerTo a r));
+}
+
+-- the next record's bytes; nothing is played once the run is over
+unfoldable pub playedOne : Turn → List ℕ → List ℕ → Played
+playedOne t a bytes = cond (t .over) (record { turn = t; area = a; text = [] }) (playedRecord t a (admitted (t .started) (recordOf bytes)))
+
+-- a run with one more record played
+unfoldable pub andOne : Played → List ℕ → Played
+andOne p bytes = let q = playedOne (p .turn) (p .area) bytes in record { turn = q .turn; area = q .area; text = p .text ++ q .text }
+
+-- the first n records of some bytes, 12 bytes each; the last may be cut
+unfoldable pub played : ℕ → Turn → List ℕ → List ℕ → Played
+played zero t a bytes = record { turn = t; area = a; text = [] }
+played (suc n) t a bytes = andOne (played n t a bytes) (part bytes (n * 12) 12)
+
+-- how many records some bytes have, a cut one counted
+unfoldable pub records : List ℕ → ℕ
+records bytes = (length bytes + 11) / 12
+
+unfoldable pub firstTurn : Turn
+firstTurn = record { started = false; over = false; number = 1 }
+
+-- what the player prints for its whole input, on any area
+unfoldable pub printed : List ℕ → List ℕ → List ℕ
+printed a input = header ++ played (records input) firstTurn a input .text
