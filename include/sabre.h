@@ -35,7 +35,7 @@
  * write there. How long a call runs on the machine is no part of an answer, and
  * may depend on the whole state.
  *
- * The stack. A call needs up to 352 KiB of the caller's stack. Nothing is allocated
+ * The stack. A call needs up to 160 KiB of the caller's stack. Nothing is allocated
  * elsewhere, and no call recurses. `host stack` measures it (host/README.md) and
  * fails at 512 KiB.
  */
@@ -129,7 +129,7 @@ uint32_t sabre_begin(uint8_t *area, size_t len, uint32_t level, uint32_t row, ui
  * Answers
  *   ready  the row pins the page and may use it now
  *   fetch  the row pins the page and may use it from the due tick on, when a look says idle
- *   wait   the row has not got the page; the request is stored for retry
+ *   wait   the request is not granted and is stored for retry; what the row held it still holds
  * Refusals 1, 4, 5, 6, 7, 9, 10, 11, 13, 14.
  *
  * For the server, on ready and fetch: the page is, or is to be, in slot answer[2] - 1.

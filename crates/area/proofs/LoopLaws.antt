@@ -1,6 +1,6 @@
 -- One turn of a loop that reads or writes an array of the state.
 use mathlib.Core.Path.{_≡_, refl, _∙_, sym, ap}
-use mathlib.Core.Bool.{Bool}
+use mathlib.Core.Bool.{Bool, true, false}
 use mathlib.Core.List.{List, _++_}
 use Prim.Native.Nat.{ℕ, _+_, _*_, _<_, _≤_}
 use native.Mathlib.Nat.{mul-le-mul-right}
@@ -11,7 +11,8 @@ use Rattle.seq.specs.Each.{each, eachBelow}
 use Rattle.seq.proofs.EachLaws.{each-below-more, each-below-all}
 use Rattle.model.specs.State.{freeRow, emptySlot, emptyHolding, emptyHoldings}
 use Rattle.area.specs.Layout.{freeRows, emptySlots}
-use Rattle.words.specs.Bytes.{hasWords, spliced, joined}
+use Rattle.area.specs.Writes.{rowDropped, rowsDropped}
+use Rattle.words.specs.Bytes.{hasWords, spliced, joined, zeroWords}
 use Rattle.words.proofs.SpliceLaws.{spliced-more}
 use Rattle.words.proofs.JoinLaws.{length-joined}
 
@@ -48,3 +49,17 @@ write-turn k f wide base n i a₀ a b bs h l e g q =
     let m : base + length (joined i f) ≡ base + i * k = rw (length-joined k f wide i) in
     let r : i * k ≤ n * k = mul-le-mul-right k (omega arith) in
     rw (g, e, q, add-one i) (spliced-more a₀ base (joined i f) (f i) (base + i * k) m (omega arith))
+
+-- the holding of a row on the next slot dropped, and the holdings of the next row dropped or left
+pub drop-turn : (row i : ℕ) (a₀ a b : List ℕ) → a ≡ rowDropped row i a₀ → b ≡ spliced a (6656 + (i * 32 + row) * 24) (zeroWords 3) → b ≡ rowDropped row (i + 1) a₀
+unfolding rowDropped
+drop-turn row i a₀ a b e f = rw (add-one i, ← e) f
+
+module _ (some : ℕ → Bool) (r : ℕ) (a₀ a : List ℕ) (e : a ≡ rowsDropped some r a₀) where
+  pub drops-turn : (b : List ℕ) → some r ≡ true → b ≡ rowDropped r 64 a → b ≡ rowsDropped some (r + 1) a₀
+  unfolding rowsDropped
+  drops-turn b h f = rw (add-one r, h, ← e) f
+
+  pub skips-turn : some r ≡ false → a ≡ rowsDropped some (r + 1) a₀
+  unfolding rowsDropped
+  skips-turn h = rw (add-one r, h) e

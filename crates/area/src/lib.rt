@@ -1,5 +1,6 @@
 // A state as the bytes of a lent area, and back: docs/LAYOUT.md.
 use model::Cause;
+use model::Change;
 use model::Condition;
 use model::Content;
 use model::Holding;
@@ -9,20 +10,16 @@ use model::Row;
 use model::Slot;
 use model::State;
 ghost use mathlib.Core.Path.{_≡_};
-ghost use mathlib.Core.Bool.{_&&_};
+ghost use mathlib.Core.Bool.{true, _&&_};
 ghost use mathlib.Core.List.{[], _∷_, _++_};
-ghost use Prim.Native.Nat.{_+_, _*_, _≤_};
+ghost use Prim.Native.Nat.{_+_, _*_, _<_, _≤_};
 ghost use lib.ListN.{length, getD, drop, replicate};
 ghost use Rattle.words.specs.Bytes.{hasWords, spliced, joined, wordBytes};
 ghost use Rattle.model.specs.Parties.{modeOf};
 ghost use Rattle.model.specs.State.{freeRow, emptySlot, emptyHolding};
-ghost use Rattle.area.specs.Layout.{mark, version, bit, low, causeNumber, conditionOf, pinNumbered, contentOf, rowFrom, slotFrom, holdingFrom, headerWords, rowWords, slotWords, holdingWords, freeRows, emptySlots, exactRows, exactSlots, exactHoldings, decoded, encoded, soundArea};
-
-// The state that an area names, and whether the area is sound.
-pub struct Lent {
-    pub state: State,
-    pub sound: bool,
-}
+ghost use Rattle.model.specs.Changes.{marked, changed};
+ghost use Rattle.area.specs.Layout.{mark, version, bit, low, causeNumber, conditionOf, pinNumbered, contentOf, rowFrom, slotFrom, holdingFrom, headerWords, rowWords, slotWords, holdingWords, freeRows, emptySlots, exactRows, exactSlots, exactHoldings, decoded, encoded, exact, soundArea};
+ghost use Rattle.area.specs.Writes.{rowDropped, rowsDropped};
 
 // The rows and slots that an area names, and whether its bytes there are exactly theirs.
 struct Rows {
@@ -48,15 +45,6 @@ fn bit(b: bool) -> u64
         return 1;
     }
     0
-}
-
-fn both(a: bool, b: bool) -> bool
-    ensures { λ r. ⌜ r ≡ a && b ⌝ }
-{
-    if a {
-        return b;
-    }
-    false
 }
 
 fn mode_of(mode: u64) -> Mode
@@ -276,7 +264,7 @@ fn get_rows(a: &[u8]) -> Rows
         let at = 512 + i * 64;
         let x = get_row(a, at);
         let ws = row_words(x);
-        exact = both(exact, words::has_words(a, at, &ws));
+        exact = seq::both(exact, words::has_words(a, at, &ws));
         rows[i] = x;
     }
     Rows { rows, exact }
@@ -292,7 +280,7 @@ fn get_slots(a: &[u8]) -> Slots
         let at = 2560 + i * 64;
         let x = get_slot(a, at);
         let ws = slot_words(x);
-        exact = both(exact, words::has_words(a, at, &ws));
+        exact = seq::both(exact, words::has_words(a, at, &ws));
         slots[i] = x;
     }
     Slots { slots, exact }
@@ -314,9 +302,9 @@ fn is_frame(a: &[u8], size: usize, delay: u32, clock: u32) -> bool
 }
 
 // The state that an area of at least 65,536 bytes names, and whether the area is sound. The holdings are read into their place.
-pub fn decode(a: &[u8]) -> Lent
+pub fn decode(a: &[u8], sound: &mut bool) -> State
     requires { ⌜ 65536 ≤ length (now a) ⌝ }
-    ensures { λ r. ⌜ (r .state ≡ decoded (now (a .entry))) × (r .sound ≡ soundArea (now (a .entry))) ⌝ }
+    ensures { λ r. ⌜ (r ≡ decoded (now (a .entry))) × (now (sound .exit) ≡ soundArea (now (a .entry))) ⌝ }
 {
     let size = words::word(a, 16) as usize;
     let delay = low(words::word(a, 24));
@@ -324,7 +312,7 @@ pub fn decode(a: &[u8]) -> Lent
     let r = get_rows(a);
     let s = get_slots(a);
     let frame = is_frame(a, size, delay, clock);
-    let mut exact = both(frame, both(r.exact, s.exact));
+    let mut exact = seq::both(frame, seq::both(r.exact, s.exact));
     let rows = r.rows;
     let slots = s.slots;
     let holdings = model::empty_holdings();
@@ -340,17 +328,15 @@ pub fn decode(a: &[u8]) -> Lent
         let at = 6656 + k * 24;
         let x = get_holding(a, at);
         let ws = holding_words(x);
-        exact = both(exact, words::has_words(a, at, &ws));
+        exact = seq::both(exact, words::has_words(a, at, &ws));
         state.holdings[k] = x;
     }
     if exact {
-        let sound = sound::is_sound(state);
-        return Lent { state, sound };
+        *sound = sound::is_sound(state);
+        return state;
     }
-    Lent {
-        state,
-        sound: false,
-    }
+    *sound = false;
+    state
 }
 
 fn put_rows(a: &mut [u8], rows: [Row; 32])
@@ -393,4 +379,58 @@ pub fn encode(a: &mut [u8], s: State)
         words::put_words(a, 6656 + k * 24, &hs);
     }
     words::put_zeros(a, 55808, 1216);
+}
+
+// The holdings of a row go from all 64 slots.
+fn drop_row(a: &mut [u8], row: usize)
+    requires { ⌜ (65536 ≤ length (now a)) × (row < 32) ⌝ }
+    ensures { λ _. ⌜ now (a .exit) ≡ rowDropped row 64 (now (a .entry)) ⌝ }
+{
+    for i in 0..64usize {
+        words::put_zeros(a, 6656 + (i * 32 + row) * 24, 3);
+    }
+}
+
+// The holdings of the marked rows go.
+fn drop_rows(a: &mut [u8], gone: [bool; 32])
+    requires { ⌜ 65536 ≤ length (now a) ⌝ }
+    ensures { λ _. ⌜ now (a .exit) ≡ rowsDropped (marked gone) 32 (now (a .entry)) ⌝ }
+{
+    for row in 0..32usize {
+        if gone[row] {
+            drop_row(a, row);
+        }
+    }
+}
+
+// The 32 holdings of a slot.
+fn put_held(a: &mut [u8], slot: usize, held: [Holding; 32])
+    requires { ⌜ (65536 ≤ length (now a)) × (slot < 64) ⌝ }
+    ensures { λ _. ⌜ now (a .exit) ≡ spliced (now (a .entry)) (6656 + slot * 768) (joined 32 (λ r. wordBytes (holdingWords (getD held r emptyHolding)))) ⌝ }
+{
+    for r in 0..32usize {
+        let x = held[r];
+        let hs = holding_words(x);
+        words::put_words(a, 6656 + slot * 768 + r * 24, &hs);
+    }
+}
+
+// What a call changes, written over the bytes of the state that it changes; the others are left.
+pub fn amend(a: &mut [u8], c: Change)
+    requires { ⌜ exact (now a) ≡ true ⌝ }
+    ensures { λ _. ⌜ now (a .exit) ≡ encoded (changed (decoded (now (a .entry))) c) ++ drop 65536 (now (a .entry)) ⌝ }
+{
+    let ws = [c.clock as u64];
+    words::put_words(a, 32, &ws);
+    let rows = c.rows;
+    put_rows(a, rows);
+    let slots = c.slots;
+    put_slots(a, slots);
+    let gone = c.gone;
+    drop_rows(a, gone);
+    let slot = c.slot;
+    if slot < 64 {
+        let held = c.held;
+        put_held(a, slot, held);
+    }
 }

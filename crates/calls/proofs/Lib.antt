@@ -1,3 +1,4 @@
 pub mod CallLaws
 pub mod MarkLaws
 pub mod SlotLaws
+pub mod ReplyLaws

@@ -16,7 +16,7 @@ use Rattle.model.specs.declared.Pin.{Pin}
 use Rattle.model.specs.declared.Pin.the-variants.{Absent}
 use Rattle.model.specs.declared.State.{State}
 use Rattle.model.specs.State.{slotAt, holdingAt}
-use Rattle.model.specs.Words.{arrivalIn, hasPage, strength, seenHolder, seen, isOpen, strongestPin, slotOf}
+use Rattle.model.specs.Words.{arrivalIn, hasPage, strength, seenHolder, seen, isOpen, strongestPin, pageSlot}
 use Rattle.rules.specs.Calls.{viewedPin}
 use Rattle.serve.specs.Elements.{seenTest}
 use Rattle.serve.specs.SlotHoldings.{holdingsOn, heldBy, seenIn, leastIn, seesDormantIn}
@@ -24,8 +24,7 @@ use Rattle.serve.proofs.SlotLaws.{held-by, seen-in, least-in, dormant-in}
 use Rattle.calls.specs.Elements.{strongestIn, viewedAt}
 
 -- a page's slot is one of those started with
-pub found-below : (s : State) (page slot : ℕ) (f : Found) → s .size ≤ 64 → f ≡ slotOf s page → f ≡ At slot → slot < 64
-unfolding slotOf
+pub found-below : (s : State) (page slot : ℕ) (f : Found) → s .size ≤ 64 → f ≡ pageSlot (s .slots) (s .size) page → f ≡ At slot → slot < 64
 found-below s page slot f h e q =
     let y = pick-is (λ i. hasPage page (slotAt s i .content)) (λ i j. false) (s .size) slot (sym e ∙ q) in
     omega (arith, y .0)

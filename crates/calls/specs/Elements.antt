@@ -8,6 +8,9 @@ use Rattle.seq.specs.Below.{pickBelow, atFound}
 use Rattle.seq.specs.Each.{each}
 use Rattle.seq.specs.declared.Found.the-variants.{At}
 use Rattle.model.specs.declared.Answer.{Answer}
+use Rattle.model.specs.declared.Answer.the-variants.{Refused}
+use Rattle.model.specs.declared.Reply.{Reply}
+use Rattle.model.specs.declared.Slot.{Slot}
 use Rattle.model.specs.declared.Condition.{Condition}
 use Rattle.model.specs.declared.Holding.{Holding}
 use Rattle.model.specs.declared.Pin.{Pin}
@@ -17,6 +20,7 @@ use Rattle.model.specs.declared.State.{State}
 use Rattle.model.specs.Parties.{modeOf, mayAccess, isPast}
 use Rattle.model.specs.State.{freeRow}
 use Rattle.model.specs.Words.{isLive, strength, stronger}
+use Rattle.model.specs.Changes.{holdingsDropped}
 use Rattle.rules.specs.Calls.{viewedIn}
 use Rattle.serve.specs.Elements.{seenTest}
 use Rattle.serve.specs.SlotHoldings.{heldBy}
@@ -32,6 +36,10 @@ accessRefusal c level page mode =
     ∷ (13, isRead (modeOf mode) && not (mayAccess level page (modeOf mode)))
     ∷ (14, not (isRead (modeOf mode)) && not (mayAccess level page (modeOf mode)))
     ∷ [])
+
+-- a refused call changes nothing
+unfoldable pub refusedReply : ℕ → List Row → List Slot → ℕ → Reply
+refusedReply clock rows slots number = record { change = holdingsDropped clock rows slots (replicate 32 false); answer = Refused number }
 
 -- the mark of one row
 unfoldable pub oneMark : ℕ → List Bool

@@ -19,8 +19,9 @@ use Rattle.model.specs.State.{slotAt}
 use Rattle.model.specs.Words.{pageIn, pins, dormant}
 use Rattle.rules.specs.Choice.{stepA, beforeDormant, stepB, holderLevel, heldAbove, highestLevel, pinnedAt, inC, inD, heldAtOwnLevel, seenPin, inE, inF, beforeHeld, stepHeld, chosen}
 use Rattle.choice.specs.declared.Summary.{Summary}
-use Rattle.choice.specs.declared.Class.{Class}
-use Rattle.choice.specs.declared.Class.the-variants.{C, D, E, F}
+use Rattle.choice.specs.declared.Step.{Step}
+use Rattle.choice.specs.declared.Step.the-variants.{C, D, E, F}
+use Rattle.choice.specs.Search.{never}
 use Rattle.choice.specs.Summary.{
   holdersBelow,
   summaryWith,
@@ -30,8 +31,7 @@ use Rattle.choice.specs.Summary.{
   emptyIn,
   dormantIn,
   aboveIn,
-  inClass,
-  noOrder,
+  inStep,
   dormantBefore,
   higher,
   heldBefore,
@@ -59,9 +59,9 @@ module _ (s : State) (me : ℕ) (most : s .size ≤ 64) where
       ap (λ (x : Summary). before x (getD (summariesOf s me) j noSummary)) (summary-at i (omega arith))
       ∙ ap (before (summaryOf s me i)) (summary-at j (omega arith)) ∙ g i j)
 
-  same-a : pickFrom (summariesOf s me) (s .size) emptyIn noOrder ≡ stepA s
+  same-a : pickFrom (summariesOf s me) (s .size) emptyIn never ≡ stepA s
   unfolding stepA emptyIn summaryOf summaryWith
-  same-a = from-summaries emptyIn noOrder _ (λ i j. false) (λ i. refl) (λ i j. refl)
+  same-a = from-summaries emptyIn never _ (λ i j. false) (λ i. refl) (λ i j. refl)
 
   same-b : pickFrom (summariesOf s me) (s .size) dormantIn dormantBefore ≡ stepB s
   unfolding stepB dormantIn dormantBefore summaryOf summaryWith holdersBelow dormant beforeDormant
@@ -116,18 +116,18 @@ module _ (s : State) (me : ℕ) (most : s .size ≤ 64) where
       worse-is s i j (lexLess (holdersBelow s i 32 .latest) (holdersBelow s j 32 .latest) (ltb (pageIn (slotAt s i .content)) (pageIn (slotAt s j .content))))
       ∙ rw (latest-is s i, latest-is s j)
 
-  same-class : (class : Class) (p : ℕ → Bool) → ((i : ℕ) → inClass class (highestLevel s me) (summaryOf s me i) ≡ p i)
-      → heldFrom (summariesOf s me) (s .size) class (topFrom (summariesOf s me) (s .size)) ≡ stepHeld s p
+  same-step : (step : Step) (p : ℕ → Bool) → ((i : ℕ) → inStep step (highestLevel s me) (summaryOf s me i) ≡ p i)
+      → heldFrom (summariesOf s me) (s .size) step (topFrom (summariesOf s me) (s .size)) ≡ stepHeld s p
   unfolding heldFrom stepHeld
-  same-class class p f = rw same-top (from-summaries (inClass class (highestLevel s me)) heldBefore p (beforeHeld s) f same-before)
+  same-step step p f = rw same-top (from-summaries (inStep step (highestLevel s me)) heldBefore p (beforeHeld s) f same-before)
 
-  same-c : (i : ℕ) → inClass C (highestLevel s me) (summaryOf s me i) ≡ inC s me i
+  same-c : (i : ℕ) → inStep C (highestLevel s me) (summaryOf s me i) ≡ inC s me i
   unfolding inC
   same-c i =
       rw (same-above i, same-level i, same-pinned i)
       (at-equal (heldAbove s me i) (holderLevel s i) (highestLevel s me) (λ level. not (pinnedAt s level i)))
 
-  same-d : (i : ℕ) → inClass D (highestLevel s me) (summaryOf s me i) ≡ inD s me i
+  same-d : (i : ℕ) → inStep D (highestLevel s me) (summaryOf s me i) ≡ inD s me i
   unfolding inD
   same-d i =
       rw (same-above i, same-level i, same-pinned i)
@@ -137,15 +137,15 @@ module _ (s : State) (me : ℕ) (most : s .size ≤ 64) where
   unfolding summaryOf summaryWith
   same-pin i = pin-is s i me
 
-  same-e : (i : ℕ) → inClass E (highestLevel s me) (summaryOf s me i) ≡ inE s me i
+  same-e : (i : ℕ) → inStep E (highestLevel s me) (summaryOf s me i) ≡ inE s me i
   unfolding inE
   same-e i = rw (same-beside i) (and-when (heldAtOwnLevel s me i) _ _ (λ h. ap not (same-pin i h)))
 
-  same-f : (i : ℕ) → inClass F (highestLevel s me) (summaryOf s me i) ≡ inF s me i
+  same-f : (i : ℕ) → inStep F (highestLevel s me) (summaryOf s me i) ≡ inF s me i
   unfolding inF summaryOf summaryWith
   same-f i = rw (beside-is s i me) (ap (λ (x : Bool). x && not (pins s i me)) (and-when (heldAtOwnLevel s me i) _ _ (pin-is s i me)))
 
   -- the choice by summaries is the choice
   pub choice-made : chosenFrom (summariesOf s me) (s .size) ≡ chosen s me
   unfolding chosenFrom chosen
-  choice-made = rw (same-a, same-b, same-class C (inC s me) same-c, same-class D (inD s me) same-d, same-class E (inE s me) same-e, same-class F (inF s me) same-f)
+  choice-made = rw (same-a, same-b, same-step C (inC s me) same-c, same-step D (inD s me) same-d, same-step E (inE s me) same-e, same-step F (inF s me) same-f)

@@ -16,10 +16,11 @@ use Rattle.model.specs.Parties.{levelOf, better}
 use Rattle.model.specs.State.{rowAt, slotAt, holdingAt}
 use Rattle.model.specs.Words.{isFilled, pageIn, dirtyIn, lowestIn, isHeld, isPin, holds, pins, outranks}
 use Rattle.rules.specs.Choice.{orElse, dirtyNumber}
+use Rattle.choice.specs.Search.{never}
 use Rattle.choice.specs.declared.Holders.{Holders}
 use Rattle.choice.specs.declared.Summary.{Summary}
-use Rattle.choice.specs.declared.Class.{Class}
-use Rattle.choice.specs.declared.Class.the-variants.{C, D, E, F}
+use Rattle.choice.specs.declared.Step.{Step}
+use Rattle.choice.specs.declared.Step.the-variants.{C, D, E, F}
 
 unfoldable pub largerOf : ℕ → ℕ → ℕ
 largerOf a b = cond (ltb a b) b a
@@ -114,14 +115,11 @@ dormantIn x = x .filled && not (x .holders .held)
 abbrev pub aboveIn : Summary → Bool
 aboveIn x = x .above
 
-abbrev pub inClass : Class → ℕ → Summary → Bool
-inClass C top x = x .above && eqb (levelOf (x .holders .best)) top && not (x .holders .pinned)
-inClass D top x = x .above && eqb (levelOf (x .holders .best)) top && x .holders .pinned
-inClass E top x = x .beside && not (x .holders .pinned)
-inClass F top x = x .beside && x .holders .pinned && not (x .own)
-
-abbrev pub noOrder : Summary → Summary → Bool
-noOrder x y = false
+abbrev pub inStep : Step → ℕ → Summary → Bool
+inStep C top x = x .above && eqb (levelOf (x .holders .best)) top && not (x .holders .pinned)
+inStep D top x = x .above && eqb (levelOf (x .holders .best)) top && x .holders .pinned
+inStep E top x = x .beside && not (x .holders .pinned)
+inStep F top x = x .beside && x .holders .pinned && not (x .own)
 
 unfoldable pub dormantBefore : Summary → Summary → Bool
 dormantBefore x y =
@@ -156,13 +154,13 @@ foundAt true at = At at
 unfoldable pub topFrom : List Summary → ℕ → ℕ
 topFrom m n = atFound (pickFrom m n aboveIn higher) (λ i. levelOf (getD m i noSummary .holders .best)) 0
 
-unfoldable pub heldFrom : List Summary → ℕ → Class → ℕ → Found
-heldFrom m n class top = pickFrom m n (inClass class top) heldBefore
+unfoldable pub heldFrom : List Summary → ℕ → Step → ℕ → Found
+heldFrom m n step top = pickFrom m n (inStep step top) heldBefore
 
 -- the steps, first that applies
 unfoldable pub chosenFrom : List Summary → ℕ → Found
 chosenFrom m n =
-    orElse (pickFrom m n emptyIn noOrder)
+    orElse (pickFrom m n emptyIn never)
     (orElse (pickFrom m n dormantIn dormantBefore)
     (orElse (heldFrom m n C (topFrom m n))
     (orElse (heldFrom m n D (topFrom m n))

@@ -5,14 +5,13 @@ use model::Slot;
 use model::State;
 use seq::Found;
 ghost use mathlib.Core.Path.{_≡_};
-ghost use mathlib.Core.Bool.{cond, _&&_, _||_, not};
+ghost use mathlib.Core.Bool.{cond, not};
 ghost use Prim.Native.Nat.{_<_, _≤_};
 ghost use Rattle.seq.specs.Below.{considered};
-ghost use Rattle.model.specs.Words.{isFilled, pageIn, dirtyIn, lowestIn, hasPage, slotOf};
+ghost use Rattle.model.specs.Words.{isFilled, pageIn, dirtyIn, lowestIn, hasPage, pageSlot};
 ghost use Rattle.choice.specs.Search.{never};
-ghost use Rattle.choice.specs.Summary.{largerOf, noHolders, joinedLevel, holdersWith, aboveBy, besideBy, noSummary, summaryWith, summariesOf, emptyIn, dormantIn, inClass, noOrder, dormantBefore, higher, worseIn, heldBefore, placeWith, foundAt, pickFrom, topFrom, heldFrom, chosenFrom};
+ghost use Rattle.choice.specs.Summary.{largerOf, noHolders, joinedLevel, holdersWith, aboveBy, besideBy, noSummary, summaryWith, summariesOf, emptyIn, dormantIn, inStep, dormantBefore, higher, worseIn, heldBefore, placeWith, foundAt, pickFrom, topFrom, heldFrom, chosenFrom};
 ghost use Rattle.rules.specs.Choice.{dirtyNumber, chosen};
-ghost use Rattle.seq.specs.Order.{lexLess};
 
 fn has_page(page: u32, c: Content) -> bool
     ensures { λ r. ⌜ r ≡ hasPage page c ⌝ }
@@ -42,13 +41,11 @@ fn first_found(passes: bool, f: Found, i: usize) -> Found
 }
 
 // The slot that has a page, or nowhere.
-pub fn find_page(s: State, page: u32) -> Found
-    requires { ⌜ s .size ≤ 64 ⌝ }
-    ensures { λ r. ⌜ r ≡ slotOf s page ⌝ }
+pub fn find_page(slots: [Slot; 64], size: usize, page: u32) -> Found
+    requires { ⌜ size ≤ 64 ⌝ }
+    ensures { λ r. ⌜ r ≡ pageSlot slots size page ⌝ }
 {
     let mut f = Found::Nowhere;
-    let size = s.size;
-    let slots = s.slots;
     for i in 0..size {
         let x = slots[i];
         let c = x.content;
@@ -82,29 +79,11 @@ pub struct Summary {
 }
 
 // The steps c to f.
-pub enum Class {
+pub enum Step {
     C,
     D,
     E,
     F,
-}
-
-fn either(a: bool, b: bool) -> bool
-    ensures { λ r. ⌜ r ≡ a || b ⌝ }
-{
-    if a {
-        return true;
-    }
-    b
-}
-
-fn both(a: bool, b: bool) -> bool
-    ensures { λ r. ⌜ r ≡ a && b ⌝ }
-{
-    if a {
-        return b;
-    }
-    false
 }
 
 fn negated(a: bool) -> bool
@@ -130,7 +109,7 @@ fn join_level(better: bool, w: Holders, row: usize, deadline: u32, touch: u32, p
     ensures { λ r. ⌜ r ≡ joinedLevel better w row deadline touch pin ⌝ }
 {
     let latest = larger(w.latest, touch);
-    let pinned = either(w.pinned, pin);
+    let pinned = seq::either(w.pinned, pin);
     if better {
         return Holders {
             held: true,
@@ -348,20 +327,20 @@ fn is_dormant(x: Summary) -> bool
     ensures { λ r. ⌜ r ≡ dormantIn x ⌝ }
 {
     let w = x.holders;
-    both(x.filled, negated(w.held))
+    seq::both(x.filled, negated(w.held))
 }
 
 // The slot is in the step.
-fn is_in(class: Class, top: usize, x: Summary) -> bool
-    ensures { λ r. ⌜ r ≡ inClass class top x ⌝ }
+fn is_in(step: Step, top: usize, x: Summary) -> bool
+    ensures { λ r. ⌜ r ≡ inStep step top x ⌝ }
 {
     let w = x.holders;
-    let above = both(x.above, w.best / 8 == top);
-    match class {
-        Class::C => both(above, negated(w.pinned)),
-        Class::D => both(above, w.pinned),
-        Class::E => both(x.beside, negated(w.pinned)),
-        Class::F => both(both(x.beside, w.pinned), negated(x.own)),
+    let above = seq::both(x.above, w.best / 8 == top);
+    match step {
+        Step::C => seq::both(above, negated(w.pinned)),
+        Step::D => seq::both(above, w.pinned),
+        Step::E => seq::both(x.beside, negated(w.pinned)),
+        Step::F => seq::both(seq::both(x.beside, w.pinned), negated(x.own)),
     }
 }
 
@@ -388,7 +367,7 @@ fn is_higher(x: Summary, y: Summary) -> bool
 fn is_worse(v: Holders, w: Holders, next: bool) -> bool
     ensures { λ r. ⌜ r ≡ worseIn v w next ⌝ }
 {
-    if both(v.held, w.held) {
+    if seq::both(v.held, w.held) {
         if v.best == w.best {
             return next;
         }
@@ -435,7 +414,7 @@ fn found_at(some: bool, at: usize) -> Found
 // Step a.
 fn first_empty(m: [Summary; 64], n: usize) -> Found
     requires { ⌜ n ≤ 64 ⌝ }
-    ensures { λ r. ⌜ r ≡ pickFrom m n emptyIn noOrder ⌝ }
+    ensures { λ r. ⌜ r ≡ pickFrom m n emptyIn never ⌝ }
 {
     let mut some = false;
     let mut at: usize = 0;
@@ -443,7 +422,7 @@ fn first_empty(m: [Summary; 64], n: usize) -> Found
         let x = m[i];
         let passes = negated(x.filled);
         at = place_with(passes, some, false, at, i);
-        some = either(some, passes);
+        some = seq::either(some, passes);
     }
     found_at(some, at)
 }
@@ -461,7 +440,7 @@ fn first_dormant(m: [Summary; 64], n: usize) -> Found
         let passes = is_dormant(x);
         let first = is_dormant_before(x, y);
         at = place_with(passes, some, first, at, i);
-        some = either(some, passes);
+        some = seq::either(some, passes);
     }
     found_at(some, at)
 }
@@ -479,7 +458,7 @@ fn top_level(m: [Summary; 64], n: usize) -> usize
         let passes = x.above;
         let first = is_higher(x, y);
         at = place_with(passes, some, first, at, i);
-        some = either(some, passes);
+        some = seq::either(some, passes);
     }
     let top = m[at];
     let w = top.holders;
@@ -490,19 +469,19 @@ fn top_level(m: [Summary; 64], n: usize) -> usize
 }
 
 // A step of c to f.
-fn first_held(m: [Summary; 64], n: usize, class: Class, top: usize) -> Found
+fn first_held(m: [Summary; 64], n: usize, step: Step, top: usize) -> Found
     requires { ⌜ n ≤ 64 ⌝ }
-    ensures { λ r. ⌜ r ≡ heldFrom m n class top ⌝ }
+    ensures { λ r. ⌜ r ≡ heldFrom m n step top ⌝ }
 {
     let mut some = false;
     let mut at: usize = 0;
     for i in 0..n {
         let x = m[i];
         let y = m[at];
-        let passes = is_in(class, top, x);
+        let passes = is_in(step, top, x);
         let first = is_held_before(x, y);
         at = place_with(passes, some, first, at, i);
-        some = either(some, passes);
+        some = seq::either(some, passes);
     }
     found_at(some, at)
 }
@@ -521,19 +500,19 @@ fn choose_from(m: [Summary; 64], n: usize) -> Found
         return Found::At(i);
     }
     let top = top_level(m, n);
-    let c = first_held(m, n, Class::C, top);
+    let c = first_held(m, n, Step::C, top);
     if let Found::At(i) = c {
         return Found::At(i);
     }
-    let d = first_held(m, n, Class::D, top);
+    let d = first_held(m, n, Step::D, top);
     if let Found::At(i) = d {
         return Found::At(i);
     }
-    let e = first_held(m, n, Class::E, top);
+    let e = first_held(m, n, Step::E, top);
     if let Found::At(i) = e {
         return Found::At(i);
     }
-    first_held(m, n, Class::F, top)
+    first_held(m, n, Step::F, top)
 }
 
 // The slot that a requester takes for a page that is in no slot, or nowhere.

@@ -8,5 +8,6 @@ pub mod SeenLaws
 pub mod ArrivalLaws
 pub mod BookLaws
 pub mod Ranges
-pub mod Releasing
 pub mod SameRows
+pub mod Releasing
+pub mod ChangedLaws

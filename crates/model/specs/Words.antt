@@ -1,7 +1,9 @@
 -- Document 01, "State": the words in which the rules speak of rows, slots and holdings.
 use mathlib.Core.Bool.{Bool, true, false, cond, _&&_, _||_, not}
+use mathlib.Core.List.{List}
 use Prim.Native.Nat.{ℕ}
 use lib.Dec.{leb, ltb, eqb}
+use lib.ListN.{getD}
 use Rattle.seq.specs.Below.{anyBelow, pickBelow, firstBelow, atFound}
 use Rattle.seq.specs.declared.Found.{Found}
 use Rattle.model.specs.declared.Mode.{Mode}
@@ -12,9 +14,10 @@ use Rattle.model.specs.declared.Content.{Content}
 use Rattle.model.specs.declared.Content.the-variants.{Empty, Filled}
 use Rattle.model.specs.declared.Pin.{Pin}
 use Rattle.model.specs.declared.Pin.the-variants.{Absent, Unpinned, Read, Write}
+use Rattle.model.specs.declared.Slot.{Slot}
 use Rattle.model.specs.declared.State.{State}
 use Rattle.model.specs.Parties.{levelOf, better}
-use Rattle.model.specs.State.{rowAt, slotAt, holdingAt}
+use Rattle.model.specs.State.{emptySlot, rowAt, slotAt, holdingAt}
 
 -- idle, fetching and waiting rows are live
 abbrev pub isLive : Condition → Bool
@@ -142,5 +145,8 @@ latestTouch s level slot =
     atFound (pickBelow 32 (λ row. eqb (levelOf row) level && holds s slot row) (λ row other. ltb (touch other) (touch row))) touch 0
 
 -- the slot that has a page
+abbrev pub pageSlot : List Slot → ℕ → ℕ → Found
+pageSlot slots size page = firstBelow size (λ slot. hasPage page (getD slots slot emptySlot .content))
+
 unfoldable pub slotOf : State → ℕ → Found
-slotOf s page = firstBelow (s .size) (λ slot. hasPage page (slotAt s slot .content))
+slotOf s page = pageSlot (s .slots) (s .size) page

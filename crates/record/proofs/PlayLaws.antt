@@ -26,9 +26,9 @@ use Rattle.area.proofs.RoundTrip.{sound-area-bytes}
 use Rattle.sabre.specs.Lent.{unfit, isRefused, answerOn, areaAfter, status, answerNumbers}
 use Rattle.record.specs.declared.Input.{Input}
 use Rattle.record.specs.Record.{Record, bad, call, recordOf, meant}
-use Rattle.record.specs.declared.Turn.{Turn}
+use Rattle.record.specs.declared.Progress.{Progress}
 use Rattle.record.specs.Text.{lineOf, Wrote}
-use Rattle.record.specs.Play.{Played, admitted, answerTo, areaWith, nextTurn, playedRecord, playedOne, andOne, played, records, firstTurn}
+use Rattle.record.specs.Play.{Played, admitted, answerTo, areaWith, nextProgress, playedRecord, playedOne, andOne, played, records, firstProgress}
 use Rattle.record.proofs.TextLaws.{wrote-none, wrote-more, line-most}
 
 -- a call that keeps the state leaves the area as it was
@@ -70,85 +70,85 @@ module _ (a : List ℕ) (x : Input) (r : ℕ) (ns b : List ℕ) where
   unfolding answerTo areaWith status answerNumbers word value slotTold backTold
   made-none e h p q = rw e (h, (p, q))
 
--- what one record comes to: its turn, the area and the line
-pub record One (t : Turn) (a bytes : List ℕ) (n : Turn) (b out : List ℕ) (at : ℕ) (out' : List ℕ) (end : ℕ) : Type 0 where
-  pub turn-is : n ≡ playedOne t a bytes .turn
+-- what one record comes to: the progress, the area and the line
+pub record One (t : Progress) (a bytes : List ℕ) (n : Progress) (b out : List ℕ) (at : ℕ) (out' : List ℕ) (end : ℕ) : Type 0 where
+  pub progress-is : n ≡ playedOne t a bytes .progress
   pub area-is : b ≡ playedOne t a bytes .area
   pub text-is : Wrote out at (playedOne t a bytes .text) out' end
 
-module _ (t : Turn) (a bytes out : List ℕ) (at : ℕ) where
+module _ (t : Progress) (a bytes out : List ℕ) (at : ℕ) where
   pub one-over : t .over ≡ true → One t a bytes t a out at out at
   unfolding playedOne
-  one-over e = record { turn-is = rw e; area-is = rw e; text-is = rw e (wrote-none out at) }
+  one-over e = record { progress-is = rw e; area-is = rw e; text-is = rw e (wrote-none out at) }
 
-  pub one-played : (x y : Input) (ns b out' : List ℕ) (end : ℕ) (n : Turn) → t .over ≡ false → meant x ≡ recordOf bytes → meant y ≡ admitted (t .started) (meant x)
-      → ns ≡ answerNumbers (answerTo a (meant y)) → b ≡ areaWith a (meant y) → Wrote out at (lineOf (t .number) ns) out' end → n ≡ nextTurn t (meant y) (getD ns 0 0)
+  pub one-played : (x y : Input) (ns b out' : List ℕ) (end : ℕ) (n : Progress) → t .over ≡ false → meant x ≡ recordOf bytes → meant y ≡ admitted (t .started) (meant x)
+      → ns ≡ answerNumbers (answerTo a (meant y)) → b ≡ areaWith a (meant y) → Wrote out at (lineOf (t .number) ns) out' end → n ≡ nextProgress t (meant y) (getD ns 0 0)
       → One t a bytes n b out at out' end
   unfolding playedOne playedRecord answerNumbers
   one-played x y ns b out' end n e p q told left w m =
       let k : meant y ≡ admitted (t .started) (recordOf bytes) = q ∙ ap (λ (r : Record). admitted (t .started) r) p in
       let o : playedOne t a bytes ≡ playedRecord t a (meant y) =
-      ap (λ (over : Bool). cond over (record { turn = t; area = a; text = [] }) (playedRecord t a (admitted (t .started) (recordOf bytes)))) e
+      ap (λ (over : Bool). cond over (record { progress = t; area = a; text = [] }) (playedRecord t a (admitted (t .started) (recordOf bytes)))) e
       ∙ ap (λ (r : Record). playedRecord t a r) (sym k) in
-      record { turn-is = m ∙ ap (λ (l : List ℕ). nextTurn t (meant y) (getD l 0 0)) told ∙ ap (λ (u : Played). u .turn) (sym o); area-is = left ∙ ap (λ (u : Played). u .area) (sym o); text-is = rw o (rw told at w) }
+      record { progress-is = m ∙ ap (λ (l : List ℕ). nextProgress t (meant y) (getD l 0 0)) told ∙ ap (λ (u : Played). u .progress) (sym o); area-is = left ∙ ap (λ (u : Played). u .area) (sym o); text-is = rw o (rw told at w) }
 
 -- a record's line is short, and the numbers rise by one
-pub one-most : (t : Turn) (a bytes : List ℕ) → length (playedOne t a bytes .text) ≤ 95
+pub one-most : (t : Progress) (a bytes : List ℕ) → length (playedOne t a bytes .text) ≤ 95
 unfolding playedOne playedRecord
 one-most t a bytes = go (t .over)
   where
-    go : (b : Bool) → length (cond b (record { turn = t; area = a; text = [] }) (playedRecord t a (admitted (t .started) (recordOf bytes))) .text) ≤ 95
+    go : (b : Bool) → length (cond b (record { progress = t; area = a; text = [] }) (playedRecord t a (admitted (t .started) (recordOf bytes))) .text) ≤ 95
     go true = omega arith
     go false =
         let r = admitted (t .started) (recordOf bytes) in
         line-most (t .number) (answerNumbers (answerTo a r))
 
-pub one-number : (t : Turn) (a bytes : List ℕ) → playedOne t a bytes .turn .number ≤ t .number + 1
-unfolding playedOne playedRecord nextTurn
+pub one-number : (t : Progress) (a bytes : List ℕ) → playedOne t a bytes .progress .number ≤ t .number + 1
+unfolding playedOne playedRecord nextProgress
 one-number t a bytes = go (t .over)
   where
-    go : (b : Bool) → cond b (record { turn = t; area = a; text = [] }) (playedRecord t a (admitted (t .started) (recordOf bytes))) .turn .number ≤ t .number + 1
+    go : (b : Bool) → cond b (record { progress = t; area = a; text = [] }) (playedRecord t a (admitted (t .started) (recordOf bytes))) .progress .number ≤ t .number + 1
     go true = omega arith
     go false = omega arith
 
-module _ (t : Turn) (a bytes : List ℕ) where
+module _ (t : Progress) (a bytes : List ℕ) where
   pub played-most : (n : ℕ) → length (played n t a bytes .text) ≤ n * 95
   unfolding played andOne
   played-most zero = omega arith
   played-most (suc n) =
       let p = played n t a bytes in
-      rw length-append (omega (arith, played-most n, one-most (p .turn) (p .area) (part bytes (n * 12) 12)))
+      rw length-append (omega (arith, played-most n, one-most (p .progress) (p .area) (part bytes (n * 12) 12)))
 
-  pub played-number : (n : ℕ) → played n t a bytes .turn .number ≤ t .number + n
+  pub played-number : (n : ℕ) → played n t a bytes .progress .number ≤ t .number + n
   unfolding played andOne
   played-number zero = omega arith
   played-number (suc n) =
       let p = played n t a bytes in
-      omega (arith, played-number n, one-number (p .turn) (p .area) (part bytes (n * 12) 12))
+      omega (arith, played-number n, one-number (p .progress) (p .area) (part bytes (n * 12) 12))
 
   -- where a loop over the records stands before record i
-  pub record Upto (out₀ : List ℕ) (i : ℕ) (n : Turn) (b out : List ℕ) (at : ℕ) : Type 0 where
-    pub turn-is : n ≡ played i t a bytes .turn
+  pub record Upto (out₀ : List ℕ) (i : ℕ) (n : Progress) (b out : List ℕ) (at : ℕ) : Type 0 where
+    pub progress-is : n ≡ played i t a bytes .progress
     pub area-is : b ≡ played i t a bytes .area
     pub text-is : Wrote out₀ 0 (played i t a bytes .text) out at
 
   pub upto-none : (out : List ℕ) → Upto out 0 t a out 0
   unfolding played
-  upto-none out = record { turn-is = refl; area-is = refl; text-is = wrote-none out 0 }
+  upto-none out = record { progress-is = refl; area-is = refl; text-is = wrote-none out 0 }
 
-  pub upto-more : (out₀ : List ℕ) (i : ℕ) (n : Turn) (b out : List ℕ) (at : ℕ) → Upto out₀ i n b out at → i * 95 ≤ length out₀
-      → (r : List ℕ) → r ≡ part bytes (i * 12) 12 → (n' : Turn) (b' out' : List ℕ) (at' : ℕ) → One n b r n' b' out at out' at' → Upto out₀ (i + 1) n' b' out' at'
+  pub upto-more : (out₀ : List ℕ) (i : ℕ) (n : Progress) (b out : List ℕ) (at : ℕ) → Upto out₀ i n b out at → i * 95 ≤ length out₀
+      → (r : List ℕ) → r ≡ part bytes (i * 12) 12 → (n' : Progress) (b' out' : List ℕ) (at' : ℕ) → One n b r n' b' out at out' at' → Upto out₀ (i + 1) n' b' out' at'
   unfolding played andOne
   upto-more out₀ i n b out at u h r e n' b' out' at' o = rw (add-one i) (record {
-    turn-is = o .turn-is ∙ rw (u .turn-is, u .area-is, e);
-    area-is = o .area-is ∙ rw (u .turn-is, u .area-is, e);
+    progress-is = o .progress-is ∙ rw (u .progress-is, u .area-is, e);
+    area-is = o .area-is ∙ rw (u .progress-is, u .area-is, e);
     text-is =
-        wrote-more out₀ out out' 0 at at' (played i t a bytes .text) _ (u .text-is) (rw (u .turn-is, u .area-is, e) at (o .text-is))
+        wrote-more out₀ out out' 0 at at' (played i t a bytes .text) _ (u .text-is) (rw (u .progress-is, u .area-is, e) at (o .text-is))
         (omega (arith, u .text-is .ends, played-most i));
   })
 
-  pub upto-room : (out₀ : List ℕ) (i : ℕ) (n : Turn) (b out : List ℕ) (at : ℕ) → Upto out₀ i n b out at → (at ≤ i * 95) × (n .number ≤ t .number + i)
-  upto-room out₀ i n b out at u = (omega (arith, u .text-is .ends, played-most i), rw (u .turn-is) (played-number i))
+  pub upto-room : (out₀ : List ℕ) (i : ℕ) (n : Progress) (b out : List ℕ) (at : ℕ) → Upto out₀ i n b out at → (at ≤ i * 95) × (n .number ≤ t .number + i)
+  upto-room out₀ i n b out at u = (omega (arith, u .text-is .ends, played-most i), rw (u .progress-is) (played-number i))
 
 -- the part that a record's bytes are: all that is left where that is less
 pub part-short : (bytes : List ℕ) (i : ℕ) → length bytes - i * 12 < 12 → take (length bytes - i * 12) (drop (i * 12) bytes) ≡ part bytes (i * 12) 12
@@ -166,12 +166,12 @@ pub records-most : (bytes : List ℕ) (k : ℕ) → length bytes ≤ k * 12 → 
 unfolding records
 records-most bytes k h = omega arith
 
-pub after-number : (t n : Turn) (a bytes : List ℕ) → n ≡ played (records bytes) t a bytes .turn → n .number ≤ t .number + records bytes
+pub after-number : (t n : Progress) (a bytes : List ℕ) → n ≡ played (records bytes) t a bytes .progress → n .number ≤ t .number + records bytes
 after-number t n a bytes e = rw e (played-number t a bytes (records bytes))
 
-pub after-text : (t : Turn) (a bytes out out' : List ℕ) (end : ℕ) → Wrote out 0 (played (records bytes) t a bytes .text) out' end → end ≤ records bytes * 95
+pub after-text : (t : Progress) (a bytes out out' : List ℕ) (end : ℕ) → Wrote out 0 (played (records bytes) t a bytes .text) out' end → end ≤ records bytes * 95
 after-text t a bytes out out' end w = omega (arith, w .ends, played-most t a bytes (records bytes))
 
-pub first-number : (t : Turn) → t ≡ firstTurn → t .number ≡ 1
-unfolding firstTurn
+pub first-number : (t : Progress) → t ≡ firstProgress → t .number ≡ 1
+unfolding firstProgress
 first-number t e = rw e

@@ -7,7 +7,7 @@ ghost use lib.ListN.{length};
 ghost use Rattle.words.specs.Bytes.{part};
 ghost use Rattle.record.specs.Record.{field, ofKind, recordOf, meant};
 ghost use Rattle.sabre.specs.Lent.{status, answerNumbers};
-ghost use Rattle.record.specs.Play.{isBad, admitted, answerTo, areaWith, nextTurn, playedOne, records, played, firstTurn};
+ghost use Rattle.record.specs.Play.{isBad, admitted, answerTo, areaWith, nextProgress, playedOne, records, played, firstProgress};
 ghost use Rattle.record.specs.Text.{digits, decimal, wordText, orDash, headText, tailText, lineOf, header, Wrote};
 
 // A record of the player: the call that it names, or a bad record.
@@ -55,16 +55,16 @@ pub enum Input {
     },
 }
 
-// Where a run stands: whether a start was accepted, whether it is over, and the next record's number.
-pub struct Turn {
+// A run's progress: whether a start was accepted, whether it is over, and the next record's number.
+pub struct Progress {
     pub started: bool,
     pub over: bool,
     pub number: u64,
 }
 
-// A turn, and the place past the text that was written.
+// A run's progress, and the place past the text that was written.
 pub struct Step {
-    pub turn: Turn,
+    pub progress: Progress,
     pub end: usize,
 }
 
@@ -382,54 +382,57 @@ fn make_call(area: &mut [u8], input: Input, answer: &mut [u64; 4]) -> u32
     }
 }
 
-pub fn first_turn() -> Turn
-    ensures { λ r. ⌜ r ≡ firstTurn ⌝ }
+pub fn first_progress() -> Progress
+    ensures { λ r. ⌜ r ≡ firstProgress ⌝ }
 {
-    Turn {
+    Progress {
         started: false,
         over: false,
         number: 1,
     }
 }
 
-// The turn after a record that was answered with a word.
-fn next_turn(turn: Turn, input: Input, word: u64) -> Turn
-    requires { ⌜ turn .number + 1 < 2 ^ 64 ⌝ }
-    ensures { λ r. ⌜ r ≡ nextTurn turn (meant input) word ⌝ }
+// The progress after a record that was answered with a word.
+fn next_progress(progress: Progress, input: Input, word: u64) -> Progress
+    requires { ⌜ progress .number + 1 < 2 ^ 64 ⌝ }
+    ensures { λ r. ⌜ r ≡ nextProgress progress (meant input) word ⌝ }
 {
     let over = is_bad(input);
-    if turn.started {
-        return Turn {
+    if progress.started {
+        return Progress {
             started: true,
             over,
-            number: turn.number + 1,
+            number: progress.number + 1,
         };
     }
-    Turn {
+    Progress {
         started: word != 0,
         over,
-        number: turn.number + 1,
+        number: progress.number + 1,
     }
 }
 
 // The next record played on the area, its line written at a place.
-fn play_one(area: &mut [u8], turn: Turn, bytes: &[u8], out: &mut [u8], at: usize) -> Step
-    requires { ⌜ (turn .number + 1 < 2 ^ 64) × (at + 95 ≤ length (now out)) ⌝ }
-    ensures next { λ r. ⌜ r .turn ≡ playedOne turn (now (area .entry)) (now (bytes .entry)) .turn ⌝ }
-    ensures left { λ _. ⌜ now (area .exit) ≡ playedOne turn (now (area .entry)) (now (bytes .entry)) .area ⌝ }
-    ensures text { λ r. ⌜ Wrote (now (out .entry)) at (playedOne turn (now (area .entry)) (now (bytes .entry)) .text) (now (out .exit)) (r .end) ⌝ }
+fn play_one(area: &mut [u8], progress: Progress, bytes: &[u8], out: &mut [u8], at: usize) -> Step
+    requires { ⌜ (progress .number + 1 < 2 ^ 64) × (at + 95 ≤ length (now out)) ⌝ }
+    ensures next { λ r. ⌜ r .progress ≡ playedOne progress (now (area .entry)) (now (bytes .entry)) .progress ⌝ }
+    ensures left { λ _. ⌜ now (area .exit) ≡ playedOne progress (now (area .entry)) (now (bytes .entry)) .area ⌝ }
+    ensures text { λ r. ⌜ Wrote (now (out .entry)) at (playedOne progress (now (area .entry)) (now (bytes .entry)) .text) (now (out .exit)) (r .end) ⌝ }
 {
-    if turn.over {
-        return Step { turn, end: at };
+    if progress.over {
+        return Step { progress, end: at };
     }
-    let started = turn.started;
-    let number = turn.number;
+    let started = progress.started;
+    let number = progress.number;
     let input = admit(started, read_record(bytes));
     let mut answer = [0u64; 4];
     make_call(area, input, &mut answer);
     let end = put_line(out, at, number, answer);
-    let next = next_turn(turn, input, answer[0]);
-    Step { turn: next, end }
+    let next = next_progress(progress, input, answer[0]);
+    Step {
+        progress: next,
+        end,
+    }
 }
 
 // The bytes of the record that so many stand before; the last may be cut.
@@ -446,23 +449,23 @@ fn record_at(bytes: &[u8], i: usize) -> &[u8]
 }
 
 // All records of some bytes played on the area, their lines written from the front of a slice.
-pub fn play(area: &mut [u8], turn: Turn, bytes: &[u8], out: &mut [u8]) -> Step
-    requires { ⌜ (turn .number + records (now bytes) < 2 ^ 64) × (records (now bytes) * 95 ≤ length (now out)) ⌝ }
-    ensures next { λ r. ⌜ r .turn ≡ played (records (now (bytes .entry))) turn (now (area .entry)) (now (bytes .entry)) .turn ⌝ }
-    ensures left { λ _. ⌜ now (area .exit) ≡ played (records (now (bytes .entry))) turn (now (area .entry)) (now (bytes .entry)) .area ⌝ }
-    ensures text { λ r. ⌜ Wrote (now (out .entry)) 0 (played (records (now (bytes .entry))) turn (now (area .entry)) (now (bytes .entry)) .text) (now (out .exit)) (r .end) ⌝ }
+pub fn play(area: &mut [u8], progress: Progress, bytes: &[u8], out: &mut [u8]) -> Step
+    requires { ⌜ (progress .number + records (now bytes) < 2 ^ 64) × (records (now bytes) * 95 ≤ length (now out)) ⌝ }
+    ensures next { λ r. ⌜ r .progress ≡ played (records (now (bytes .entry))) progress (now (area .entry)) (now (bytes .entry)) .progress ⌝ }
+    ensures left { λ _. ⌜ now (area .exit) ≡ played (records (now (bytes .entry))) progress (now (area .entry)) (now (bytes .entry)) .area ⌝ }
+    ensures text { λ r. ⌜ Wrote (now (out .entry)) 0 (played (records (now (bytes .entry))) progress (now (area .entry)) (now (bytes .entry)) .text) (now (out .exit)) (r .end) ⌝ }
 {
     let count = (bytes.len() + 11) / 12;
-    let mut next = turn;
+    let mut next = progress;
     let mut at = 0;
     for i in 0..count {
         let step = play_one(area, next, record_at(bytes, i), out, at);
-        let t = step.turn;
+        let t = step.progress;
         next = t;
         at = step.end;
     }
     Step {
-        turn: next,
+        progress: next,
         end: at,
     }
 }

@@ -12,35 +12,25 @@ use Rattle.model.specs.declared.Pin.{Pin}
 use Rattle.model.specs.declared.Pin.the-variants.{Absent, Unpinned, Read, Write}
 use Rattle.model.specs.declared.Mode.the-variants as Mode
 use Rattle.model.specs.declared.State.{State}
-use Rattle.model.specs.State.{rowAt, slotAt, holdingAt}
-use Rattle.model.specs.Words.{hasPage, arrivalIn, isHeld, pinOf, strength, holds}
+use Rattle.model.specs.State.{rowAt, holdingAt}
+use Rattle.model.specs.Words.{isHeld, pinOf, strength}
 use Rattle.rules.specs.Sound.{sound}
 use Rattle.rules.specs.Refusals.{tickRefusal}
 use Rattle.rules.specs.Calls.{unless, lateKilled, ticked}
 use Rattle.rules.specs.Run.{Call, tick, outcome}
+use Rattle.rules.specs.Requests.{Asks}
+use Rattle.rules.specs.Arrivals.{AllArrived, PinnedAndArrived}
 use Rattle.rules.proofs.SoundFacts.{Sound, facts}
 use Rattle.rules.proofs.TickLaws.{later, ticked-clock, ticked-idle}
 use Rattle.rules.proofs.Kept.{kept-sound}
-use Rattle.rules.proofs.CallCases.{Asks, isServed}
+use Rattle.rules.proofs.CallCases.{isServed}
 use Rattle.rules.proofs.Granting.{grant-ready}
 use Rattle.rules.proofs.WaitFetch.{granted-alone}
-
--- every page that the row holds has arrived: the holding and the slot
-abbrev pub AllArrived : State → ℕ → Type 0
-AllArrived s row = (slot : ℕ) → slot < 64 → holds s slot row ≡ true → (holdingAt s slot row .arrival ≤ s .clock) × (arrivalIn (slotAt s slot .content) ≤ s .clock)
 
 pub idle-arrived : (s : State) → Sound s → (row : ℕ) → row < 32 → rowAt s row .condition ≡ Idle → AllArrived s row
 idle-arrived s z row b e slot i h =
     let a = (rw e at (z .row row b)) .arrived slot i h in
     (a, omega (arith, z .held slot row i b h .after))
-
--- the row holds the slot of the page with the pin asked for or a stronger one, and holding and page have arrived
-pub record InHand (s : State) (row page : ℕ) (mode : Mode) (slot : ℕ) : Type 0 where
-  pub slot-is : slot < 64
-  pub has-it : hasPage page (slotAt s slot .content) ≡ true
-  pub pinned : strength (pinOf mode) ≤ strength (holdingAt s slot row .pin)
-  pub holding-arrived : holdingAt s slot row .arrival ≤ s .clock
-  pub slot-arrived : arrivalIn (slotAt s slot .content) ≤ s .clock
 
 strength-held : (mode : Mode) (p : Pin) → strength (pinOf mode) ≤ strength p → isHeld p ≡ true
 strength-held Mode.Read Absent h = absurd (omega arith)
@@ -49,9 +39,9 @@ strength-held mode Unpinned h = refl
 strength-held mode Read h = refl
 strength-held mode Write h = refl
 
--- ready comes only to a request or retry; then the page asked for is in hand, and every holding of the row has arrived
+-- ready comes only to a request or retry; then the row pins the page asked for, which has arrived, and so has every holding of the row
 pub ready-arrived : (s : State) → sound s ≡ true → (c : Call) (slot : ℕ) (back : Back) → outcome s c .answer ≡ Ready slot back
-    → (row : ℕ) × (page : ℕ) × (mode : Mode) × Asks s c row page mode × InHand (outcome s c .state) row page mode slot × AllArrived (outcome s c .state) row
+    → (row : ℕ) × (page : ℕ) × (mode : Mode) × Asks s c row page mode × PinnedAndArrived (outcome s c .state) row page mode slot × AllArrived (outcome s c .state) row
 ready-arrived s z c slot back w =
     let x = granted-alone s z c (ap isServed w) (λ e. let n : _≡_ {A = ℕ} 0 1 = cc in omega arith) in
     let row = x .0 in

@@ -16,7 +16,8 @@ use Rattle.rules.specs.Answers.{told}
 use Rattle.rules.specs.Refusals.{startRefusal, beginRefusal, requestRefusal, retryRefusal, unpinRefusal, endRefusal}
 use Rattle.rules.specs.Calls.{begun, unpinned, ended, requested, retried}
 use Rattle.rules.specs.Run.{Call, start, begin, request, retry, unpin, end, tick, look, view, count, outcome, after}
-use Rattle.rules.specs.Secrecy.{isKept, keptCalls, keptAnswers, startsRefused, deliveries, isQuestion}
+use Rattle.rules.specs.Secrecy.{isKept, keptCalls, isQuestion}
+use Rattle.rules.proofs.StateRuns.{keptAnswers, startsRefused, deliveries}
 use Rattle.rules.proofs.Alike.{Alike}
 use Rattle.rules.proofs.AlikeLaws.{alike-refl, alike-sym, alike-trans}
 use Rattle.rules.proofs.SameStep.{same-step}

@@ -14,7 +14,8 @@ use Rattle.model.specs.State.{rowAt}
 use Rattle.rules.specs.Answers.{Told, told}
 use Rattle.rules.specs.Refusals.{startRefusal}
 use Rattle.rules.specs.Run.{Call, start, begin, request, retry, unpin, end, tick, look, view, count, outcome, after}
-use Rattle.rules.specs.Secrecy.{isKept, keptCalls, keptAnswers, startsRefused, isPending, isIdle, readyFor, isDelivery, deliveries, isQuestion}
+use Rattle.rules.specs.Secrecy.{isKept, keptCalls, isQuestion}
+use Rattle.rules.proofs.StateRuns.{keptAnswers, startsRefused, isPending, isIdle, readyFor, isDelivery, deliveries}
 
 -- the first start and the others
 starts-split : (c : Call) (cs : List Call) → startsRefused (c ∷ cs) ≡ true → (startsRefused (c ∷ []) ≡ true) × (startsRefused cs ≡ true)

@@ -32,7 +32,7 @@ use Rattle.rules.specs.Answers.{pageBack, backTold}
 use Rattle.rules.specs.Choice.{chosen}
 use Rattle.rules.specs.Calls.{unpinnedAt, waiting, granted, pinnersKilled, writeBack, filled, lateKilled, isLate, deliveredRows, advanced}
 use Rattle.rules.specs.Run.{Call}
-use Rattle.rules.specs.Secrecy.{startsRefused}
+use Rattle.rules.proofs.StateRuns.{startsRefused}
 use Rattle.rules.proofs.SoundFacts.{Sound}
 use Rattle.rules.proofs.GrantLaws.{granted-clock}
 use Rattle.rules.proofs.TickLaws.{later, ticked-slot, ticked-holding, ticked-clock}

@@ -1,8 +1,8 @@
--- What a call does, one case for each kind of change; which calls ask for a page.
+-- What a call does, one case for each kind of change.
 use mathlib.Core.Path.{_≡_, refl, sym}
 use mathlib.Core.Bool.{Bool, true, false, cond}
 use mathlib.Core.List.{[], _∷_}
-use mathlib.Core.Logic.{_⊎_, inl, inr}
+use mathlib.Core.Logic.{inl, inr}
 use Prim.Native.Nat.{ℕ, suc, _+_, _<_, _≤_}
 use native.Mathlib.Omega.{arith}
 use lib.Dec.{eqb}
@@ -68,19 +68,11 @@ use Rattle.rules.specs.Calls.{
   counted,
 }
 use Rattle.rules.specs.Run.{Call, start, begin, request, retry, unpin, end, tick, look, view, count, outcome}
-use Rattle.rules.specs.Secrecy.{startsRefused}
+use Rattle.rules.specs.Requests.{Asks}
+use Rattle.rules.proofs.StateRuns.{startsRefused}
 use Rattle.rules.proofs.SoundFacts.{Sound}
 use Rattle.rules.proofs.PageLaws.{found-slot}
 use Rattle.rules.proofs.RefusalFacts.{unless-is, begin-taken, request-taken, retry-taken, unpin-taken, end-taken}
-
--- the call is a request, or a retry of the stored request, of the row for the page and mode
-pub record Asks (s : State) (c : Call) (row page : ℕ) (mode : Mode) : Type 0 where
-  pub level : ℕ
-  pub number : ℕ
-  pub level-most : level ≤ 3
-  pub number-most : number ≤ 7
-  pub row-is : row ≡ rowOf level number
-  pub call : ((m : ℕ) × (mode ≡ modeOf m) × (c ≡ request level number page m)) ⊎ ((rowAt s row .condition ≡ Waiting page mode) × (c ≡ retry level number))
 
 -- the answers of a served request or retry
 abbrev pub isServed : Answer → Bool

@@ -18,32 +18,23 @@ use Rattle.model.specs.declared.Row.{Row}
 use Rattle.model.specs.declared.State.{State}
 use Rattle.model.specs.Parties.{levelOf}
 use Rattle.model.specs.State.{freeRow, emptyHolding, rowAt, slotAt, holdingAt, putRow}
-use Rattle.model.specs.Words.{hasPage, isLive, isHeld, holds, pins, slotOf}
+use Rattle.model.specs.Words.{isLive, isHeld, holds, pins, slotOf}
 use Rattle.model.specs.Changes.{released, killed, cleared}
 use Rattle.model.proofs.StateLaws.{Sized, fresh-row, row-put}
 use Rattle.model.proofs.ChangeLaws.{released-holding, sized-released, killed-row, killed-holding, sized-killed, cleared-holding}
 use Rattle.rules.specs.Choice.{chosen}
 use Rattle.rules.specs.Calls.{waiting, granted, pinnersKilled, writeBack, filled, lateKilled, isLate}
 use Rattle.rules.specs.Run.{Call}
+use Rattle.rules.specs.Requests.{Asks}
+use Rattle.rules.specs.Slots.{Refilled}
 use Rattle.rules.proofs.SoundFacts.{Sound}
 use Rattle.rules.proofs.GrantLaws.{granted-row}
 use Rattle.rules.proofs.TickLaws.{later, ticked-row, ticked-holding}
 use Rattle.rules.proofs.Serving.{Serving, waits, waits-g, joins, fills, serving}
 use Rattle.rules.proofs.KeptChoice.{chosen-free}
-use Rattle.rules.proofs.CallCases.{Asks, Effect, stays, starts, begins, unpins, ends, ticks, serves}
+use Rattle.rules.proofs.CallCases.{Effect, stays, starts, begins, unpins, ends, ticks, serves}
 use Rattle.rules.proofs.GrantBooks.{granted-holds, granted-booked, unpinned-holds}
 use Rattle.rules.proofs.Granting.{Ground, killed-ground, filled-ground}
-
--- the call gave the slot a new page, and row q had no pin there
-pub record Refilled (s : State) (c : Call) (t : State) (slot q : ℕ) : Type 0 where
-  pub row : ℕ
-  pub page : ℕ
-  pub mode : Mode
-  pub asks : Asks s c row page mode
-  pub nowhere : slotOf s page ≡ Nowhere
-  pub chose : chosen s row ≡ At slot
-  pub new-page : hasPage page (slotAt t slot .content) ≡ true
-  pub unpinned : pins s slot q ≡ false
 
 abbrev pub Lost : State → Call → State → ℕ → ℕ → Type 0
 Lost s c t slot q = (isLive (rowAt t q .condition) ≡ false) ⊎ Refilled s c t slot q

@@ -25,7 +25,8 @@ use Rattle.rules.specs.Sound.{sound}
 use Rattle.rules.specs.Refusals.{startRefusal, beginRefusal, requestRefusal, retryRefusal, unpinRefusal, endRefusal, lookRefusal, viewRefusal, countRefusal}
 use Rattle.rules.specs.Calls.{unless, started, begun, unpinnedAt, unpinned, ended, servedAgain, requested, retried, lookedAt, viewed, counted}
 use Rattle.rules.specs.Run.{Call, start, begin, request, retry, unpin, end, tick, look, view, count, outcome}
-use Rattle.rules.specs.Secrecy.{isKept, startsRefused}
+use Rattle.rules.specs.Secrecy.{isKept}
+use Rattle.rules.proofs.StateRuns.{startsRefused}
 use Rattle.rules.proofs.SoundFacts.{Sound, facts}
 use Rattle.rules.proofs.Alike.{Alike}
 use Rattle.rules.proofs.AlikeLaws.{alike-refl, alike-trans}

@@ -21,11 +21,12 @@ use Rattle.model.proofs.BookLaws.{Booked}
 use Rattle.rules.specs.Sound.{sound}
 use Rattle.rules.specs.Answers.{backTold}
 use Rattle.rules.specs.Run.{Call, outcome}
-use Rattle.rules.specs.Secrecy.{startsRefused}
+use Rattle.rules.specs.Slots.{Refilled, Dirty}
 use Rattle.rules.proofs.SoundFacts.{facts}
+use Rattle.rules.proofs.StateRuns.{startsRefused}
 use Rattle.rules.proofs.Kept.{kept-sound}
 use Rattle.rules.proofs.CallCases.{effect}
-use Rattle.rules.proofs.Drops.{Refilled, drop}
+use Rattle.rules.proofs.Drops.{drop}
 use Rattle.rules.proofs.Booking.{Writes, stay, reported, writes}
 
 -- ---- rows
@@ -50,11 +51,6 @@ pub drops-only : (s : State) → sound s ≡ true → (c : Call) (slot row : ℕ
 drops-only s z c slot row b r h = drop s (facts s z) slot row b r h c (outcome s c) (effect s (facts s z) c)
 
 -- ---- writes
-
--- the slot has the page and is dirty
-pub record Dirty (s : State) (slot page : ℕ) : Type 0 where
-  pub has-it : hasPage page (slotAt s slot .content) ≡ true
-  pub dirty : dirtyIn (slotAt s slot .content) ≡ true
 
 dirty-filled : (c : Content) → dirtyIn c ≡ true → isFilled c ≡ true
 dirty-filled Empty e = e

@@ -26,26 +26,15 @@ use Rattle.rules.specs.Answers.{word, value, mayUse, told}
 use Rattle.rules.specs.Refusals.{startRefusal, beginRefusal, requestRefusal, retryRefusal, unpinRefusal, endRefusal, tickRefusal, lookRefusal, viewRefusal, countRefusal}
 use Rattle.rules.specs.Calls.{unless, started, begun, unpinned, ended, ticked, waiting, requested, servedAgain, retried, looked, lookedAt, viewed, counted}
 use Rattle.rules.specs.Run.{Call, start, begin, request, retry, unpin, end, tick, look, view, count, outcome}
+use Rattle.rules.specs.Requests.{Names}
+use Rattle.rules.specs.Arrivals.{AllArrived}
 use Rattle.rules.proofs.SoundFacts.{Sound, RowSound, facts}
 use Rattle.rules.proofs.RefusalFacts.{unless-is, request-taken, retry-taken, look-taken}
 use Rattle.rules.proofs.CallCases.{viewed-is}
 use Rattle.rules.proofs.Serving.{Serving, waits, waits-g, joins, fills, serving}
 use Rattle.rules.proofs.Kept.{kept-sound}
 use Rattle.rules.proofs.Granting.{Grant, grant, granted-answer, never-waits, grant-ready, grant-fetch}
-use Rattle.rules.proofs.Arrived.{AllArrived, idle-arrived}
-
--- the call is a request, a retry or a look of the row
-abbrev pub Names : Call → ℕ → Type 0
-Names (start slots delay) row = ⊥
-Names (begin level number deadline) row = ⊥
-Names (request level number page mode) row = row ≡ rowOf level number
-Names (retry level number) row = row ≡ rowOf level number
-Names (unpin level number page) row = ⊥
-Names (end level number) row = ⊥
-Names tick row = ⊥
-Names (look level number) row = row ≡ rowOf level number
-Names (view level page) row = ⊥
-Names (count level) row = ⊥
+use Rattle.rules.proofs.Arrived.{idle-arrived}
 
 -- the answer says the condition that the row then has
 data Says (x : Condition) (a : Answer) : Type 0 where

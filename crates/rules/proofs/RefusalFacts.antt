@@ -14,7 +14,7 @@ use Rattle.model.specs.declared.Outcome.{Outcome}
 use Rattle.model.specs.declared.State.{State}
 use Rattle.model.specs.Parties.{rowOf, levelOf, modeOf, mayAccess, lastClock, isPast}
 use Rattle.rules.specs.Calls.{unless}
-use Rattle.rules.specs.Refusals.{firstToApply, isFree, isKilled, isBusy, isWaiting, isRead, conditionAt, pinsPage, startRefusal, beginRefusal, requestRefusal, retryRefusal, unpinRefusal, endRefusal, tickRefusal, lookRefusal}
+use Rattle.rules.specs.Refusals.{firstToApply, isFree, isKilled, isBusy, isWaiting, isRead, conditionAt, pinsPage, startRefusal, beginRefusal, requestRefusal, retryRefusal, unpinRefusal, endRefusal, tickRefusal, lookRefusal, StartTaken}
 
 -- what holds of a refused call and of an accepted one
 pub unless-is : (P : Outcome → Type 0) (n : ℕ) (s : State) (o : Outcome) → ((k : ℕ) → P (record { state = s; answer = Refused (suc k) })) → (n ≡ 0 → P o) → P (unless n s o)
@@ -68,12 +68,6 @@ named level number e f =
     let a = ltb-false 3 level e in
     let b = ltb-false 7 number f in
     record { level-is = a; number-is = b; row-is = omega arith; own-level = omega arith }
-
-pub record StartTaken (slots delay : ℕ) : Type 0 where
-  pub slots-least : 1 ≤ slots
-  pub slots-most : slots ≤ 64
-  pub delay-least : 1 ≤ delay
-  pub delay-most : delay ≤ 255
 
 pub start-taken : (slots delay : ℕ) → startRefusal slots delay ≡ 0 → StartTaken slots delay
 unfolding startRefusal

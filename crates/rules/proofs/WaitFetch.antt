@@ -2,7 +2,7 @@
 use mathlib.Core.Path.{_≡_, refl, sym, _∙_, ap}
 use mathlib.Core.Bool.{Bool, true, false, _&&_, not}
 use mathlib.Core.Logic.{_⊎_, inl, inr}
-use Prim.Native.Nat.{ℕ, _<_, _≤_}
+use Prim.Native.Nat.{ℕ, _<_}
 use native.Mathlib.Omega.{arith}
 use borrow.Author.Tests.{leb-true, eqb-false, not-true}
 use lib.Dec.{leb, eqb}
@@ -23,24 +23,18 @@ use Rattle.model.proofs.ContentLaws.{has-page, page-has}
 use Rattle.model.proofs.SeenLaws.{seen-by}
 use Rattle.rules.specs.Sound.{sound}
 use Rattle.rules.specs.Choice.{stepA, stepB, heldAbove, inC, inD, stepHeld, chosen}
-use Rattle.rules.specs.Calls.{granted, conflicts, mustWait, served}
+use Rattle.rules.specs.Calls.{conflicts, mustWait, served}
 use Rattle.rules.specs.Run.{Call, outcome}
+use Rattle.rules.specs.Requests.{Asks}
+use Rattle.rules.specs.Waits.{Outranked, HeldUpTo, NoSlot}
 use Rattle.rules.proofs.SoundFacts.{Sound, facts}
 use Rattle.rules.proofs.PageLaws.{found-slot, not-found}
 use Rattle.rules.proofs.Serving.{Serving, waits, waits-g, joins, fills, serving}
 use Rattle.rules.proofs.ChoiceSteps.{neither, no-step-a, no-step-b, c-or-d}
-use Rattle.rules.proofs.CallCases.{Asks, isServed, Effect, stays, starts, begins, unpins, ends, ticks, serves, effect}
+use Rattle.rules.proofs.CallCases.{isServed, Effect, stays, starts, begins, unpins, ends, ticks, serves, effect}
 use Rattle.rules.proofs.Granting.{Grant, grant, never-waits, grant-fetch}
 
 -- ---- the slots where none is chosen
-
--- the slot is filled and held by a row of the level or a lower one
-pub record HeldUpTo (s : State) (level slot : ℕ) : Type 0 where
-  pub filled : isFilled (slotAt s slot .content) ≡ true
-  pub holder : ℕ
-  pub holder-row : holder < 32
-  pub holder-level : levelOf holder ≤ level
-  pub holds-it : holds s slot holder ≡ true
 
 held-up-to : (s : State) (level slot : ℕ) → isFilled (slotAt s slot .content) ≡ true → seen s level slot ≡ true → HeldUpTo s level slot
 held-up-to s level slot f e =
@@ -86,25 +80,6 @@ granted-alone s z c e n =
     (x .0, x .1, x .2, x .3, x .4, grant s (facts s z) (x .0) (x .1) (x .2) (x .4) (outcome s c) (rw (← x .5) at (serving s (x .0) (x .1) (x .2))) n)
 
 -- ---- wait
-
--- step 1: the page is seen through a holding, and a seen conflicting pin belongs to a row of better priority
-pub record Outranked (s : State) (row page : ℕ) (mode : Mode) : Type 0 where
-  pub slot : ℕ
-  pub slot-is : slot < 64
-  pub has-it : hasPage page (slotAt s slot .content) ≡ true
-  pub sees : seen s (levelOf row) slot ≡ true
-  pub other : ℕ
-  pub other-row : other < 32
-  pub different : other ≡ row → ⊥
-  pub other-level : levelOf other ≤ levelOf row
-  pub against : conflict (pinOf mode) (holdingAt s slot other .pin) ≡ true
-  pub better : outranks s other row ≡ true
-
--- step g: the page is in no slot, and no slot is chosen
-pub record NoSlot (s : State) (row page : ℕ) : Type 0 where
-  pub nowhere : (slot : ℕ) → slot < 64 → hasPage page (slotAt s slot .content) ≡ false
-  pub none : chosen s row ≡ Nowhere
-  pub held : (slot : ℕ) → slot < s .size → HeldUpTo s (levelOf row) slot
 
 must-wait : (s : State) → Sound s → (row page : ℕ) (mode : Mode) (slot : ℕ) → slotOf s page ≡ At slot → seen s (levelOf row) slot ≡ true → mustWait s row slot mode ≡ true → Outranked s row page mode
 unfolding mustWait conflicts

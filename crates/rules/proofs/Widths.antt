@@ -30,7 +30,7 @@ use Rattle.model.proofs.PinLaws.{pin-held}
 use Rattle.model.proofs.Ranges.{ConditionOk, ContentOk, HoldingOk, RowOk, SlotOk, StateOk}
 use Rattle.rules.specs.Sound.{awaits, sound}
 use Rattle.rules.specs.Calls.{unpinnedAt, deliveredRow, isLate, waiting, granted, pinnersKilled, filled}
-use Rattle.rules.specs.Run.{Call, Fits, outcome}
+use Rattle.rules.specs.Run.{Call, Fits, Narrow, outcome}
 use Rattle.rules.proofs.SoundFacts.{Sound, Awaiting, RowSound, facts}
 use Rattle.rules.proofs.GrantLaws.{grantedRow, granted-row}
 use Rattle.rules.proofs.TickLaws.{later, ticked-row}
@@ -39,10 +39,6 @@ use Rattle.rules.proofs.Kept.{kept-sound}
 use Rattle.rules.proofs.KeptChoice.{chosen-free}
 use Rattle.rules.proofs.CallCases.{Effect, stays, starts, begins, unpins, ends, ticks, serves, effect}
 use Rattle.rules.proofs.Granting.{killed-ground, filled-ground}
-
--- every row's deadline fits 32 bits
-abbrev pub Narrow : State → Type 0
-Narrow s = (row : ℕ) → rowAt s row .deadline < 2 ^ 32
 
 -- what holds of each element of a list and of the default, holds at every place
 everywhere : {A : Type 0} (P : A → Type 0) (l : List A) (d : A) (n : ℕ) → length l ≡ n → P d → ((i : ℕ) → i < n → P (getD l i d)) → (i : ℕ) → P (getD l i d)

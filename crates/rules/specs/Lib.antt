@@ -1,7 +1,12 @@
 pub mod Sound
-pub mod Answers
-pub mod Choice
-pub mod Refusals
 pub mod Calls
 pub mod Run
+pub mod Requests
+pub mod Arrivals
+pub mod Choice
+pub mod Waits
+pub mod Slots
 pub mod Secrecy
+pub mod Refusals
+pub mod Answers
+pub mod Marked

@@ -1,7 +1,7 @@
 -- Document 01, "Refusals": of those that apply to a call the smallest number is given, and 0 stands for none. Refusals 1 and 18 are found before a state is there.
 use mathlib.Core.Bool.{Bool, true, false, cond, _&&_, not}
 use mathlib.Core.List.{List, [], _∷_}
-use Prim.Native.Nat.{ℕ}
+use Prim.Native.Nat.{ℕ, _≤_}
 use lib.Dec.{leb, ltb}
 use Rattle.seq.specs.Below.{atFound}
 use Rattle.model.specs.declared.Condition.{Condition}
@@ -64,6 +64,13 @@ startRefusal slots delay =
     (2, not (leb 1 slots && leb slots 64))
     ∷ (3, not (leb 1 delay && leb delay 255))
     ∷ [])
+
+-- the numbers of a start that is accepted
+pub record StartTaken (slots delay : ℕ) : Type 0 where
+  pub slots-least : 1 ≤ slots
+  pub slots-most : slots ≤ 64
+  pub delay-least : 1 ≤ delay
+  pub delay-most : delay ≤ 255
 
 unfoldable pub beginRefusal : State → ℕ → ℕ → ℕ → ℕ
 beginRefusal s level number deadline =

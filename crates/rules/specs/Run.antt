@@ -1,11 +1,13 @@
--- A call as its kind and its numbers, what it does to a state, and what a list of calls is answered.
+-- Document 01, "The calls" and "Two runs side by side": a call by its content, what it does to a state, and what a list of calls is answered.
 use mathlib.Core.List.{List, [], _∷_}
 use Prim.Native.Nat.{ℕ, _<_, _^_}
 use Rattle.model.specs.declared.State.{State}
 use Rattle.model.specs.declared.Outcome.{Outcome}
 use Rattle.model.specs.declared.Answer.{Answer}
+use Rattle.model.specs.State.{rowAt}
 use Rattle.rules.specs.Calls.{started, begun, requested, retried, unpinned, ended, ticked, lookedAt, viewed, counted}
 
+-- a call's content is its kind and its numbers; beside the area only the answer is lent, always four numbers long, so no length is part of it
 pub data Call : Type 0 where
   start : (slots delay : ℕ) → Call
   begin : (level number deadline : ℕ) → Call
@@ -30,6 +32,10 @@ Fits tick = Unit {0}
 Fits (look level number) = (level < 2 ^ 32) × (number < 2 ^ 32)
 Fits (view level page) = (level < 2 ^ 32) × (page < 2 ^ 32)
 Fits (count level) = level < 2 ^ 32
+
+-- each row's deadline is an unsigned 32-bit number
+abbrev pub Narrow : State → Type 0
+Narrow s = (row : ℕ) → rowAt s row .deadline < 2 ^ 32
 
 unfoldable pub outcome : State → Call → Outcome
 outcome s (start slots delay) = started s slots delay

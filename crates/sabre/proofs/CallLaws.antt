@@ -10,6 +10,7 @@ use lib.ListN.{length, drop}
 use Rattle.seq.proofs.Tests.{true-false}
 use Rattle.model.specs.declared.State.{State}
 use Rattle.model.specs.declared.Outcome.{Outcome}
+use Rattle.model.specs.declared.Reply.{Reply}
 use Rattle.model.specs.declared.Cause.{Cause}
 use Rattle.model.specs.declared.Cause.the-variants.{Late, Taken}
 use Rattle.model.specs.declared.Back.{Back}
@@ -37,6 +38,7 @@ use Rattle.model.specs.declared.Answer.the-variants.{
   Open,
 }
 use Rattle.model.specs.State.{fresh}
+use Rattle.model.specs.Changes.{changed, outcomeOf}
 use Rattle.rules.specs.Sound.{sound}
 use Rattle.rules.specs.Answers.{word, value, slotTold, backTold}
 use Rattle.rules.specs.Refusals.{startRefusal}
@@ -46,7 +48,7 @@ use Rattle.rules.proofs.SoundFacts.{Sound, facts}
 use Rattle.rules.proofs.Granting.{grant-ready, granted-answer}
 use Rattle.rules.proofs.CallCases.{isServed}
 use Rattle.rules.proofs.WaitFetch.{granted-alone}
-use Rattle.area.specs.Layout.{encoded, decoded, soundArea}
+use Rattle.area.specs.Layout.{encoded, decoded, exact, soundArea}
 use Rattle.area.proofs.RoundTrip.{sound-area}
 use Rattle.sabre.specs.Lent.{unfit, isRefused, answerOn, areaAfter, status, answerNumbers}
 
@@ -147,11 +149,29 @@ pub finish-left : (x : Answer) (a b d : List ℕ) (t : Bool) → t ≡ isRefused
 finish-left x a b d t e f g = rw (sym e ∙ f) g
 
 -- the call on the state that decode gives
-pub on-area : (a : List ℕ) (c : Call) (s : State) (o : Outcome) → s ≡ decoded a → o ≡ outcome s c → o ≡ outcome (decoded a) c
-on-area a c s o e f = f ∙ ap (λ (t : State). outcome t c) e
+module _ (a : List ℕ) (c : Call) (s : State) (e : s ≡ decoded a) where
+  pub answered-slot : (x : Answer) → soundArea a ≡ true → x ≡ outcome s c .answer → slotTold x ≤ 64
+  answered-slot x h f = rw f (fits-slot s (ap sound e ∙ sound-area a h .sound-state) c)
 
-pub answered-slot : (a : List ℕ) (c : Call) (s : State) (o : Outcome) → s ≡ decoded a → soundArea a ≡ true → o ≡ outcome s c → slotTold (o .answer) ≤ 64
-answered-slot a c s o e h f = rw f (fits-slot s (ap sound e ∙ sound-area a h .sound-state) c)
+  -- a reply for which the area is exact and its slot is below 64
+  pub replied : (x : Reply) → soundArea a ≡ true → outcomeOf s x ≡ outcome s c → (exact a ≡ true) × (slotTold (x .answer) ≤ 64)
+  unfolding outcomeOf
+  replied x h f = (sound-area a h .exactly, answered-slot (x .answer) h (ap (λ (o : Outcome). o .answer) f))
+
+  -- a call that only answers
+  pub answered : (x : Answer) (r : ℕ) (ns : List ℕ) → unfit a c ≡ false → x ≡ outcome s c .answer → r ≡ status x → ns ≡ answerNumbers x
+      → (r ≡ status (answerOn a c)) × (ns ≡ answerNumbers (answerOn a c))
+  unfolding answerOn
+  answered x r ns u f p q =
+      let g : x ≡ outcome (decoded a) c .answer = f ∙ ap (λ (t : State). outcome t c .answer) e in
+      (rw (u, ← g) p, rw (u, ← g) q)
+
+  -- a call that answers what it changes
+  pub amended : (x : Reply) (r : ℕ) (ns b : List ℕ) → unfit a c ≡ false → outcomeOf s x ≡ outcome s c → r ≡ status (x .answer) → ns ≡ answerNumbers (x .answer)
+      → b ≡ cond (isRefused (x .answer)) a (encoded (changed (decoded a) (x .change)) ++ drop 65536 a) → Promise a c r ns b
+  unfolding outcomeOf
+  amended x r ns b u f p q t =
+      finished a c (outcomeOf (decoded a) x) r ns b u (ap (λ (t : State). outcomeOf t x) (sym e) ∙ f ∙ ap (λ (t : State). outcome t c) e) p q t
 
 -- a start that is refused by its numbers, and one that is accepted
 module _ (a : List ℕ) (slots delay r : ℕ) (ns b : List ℕ) (l : 65536 ≤ length a) where

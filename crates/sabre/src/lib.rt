@@ -1,16 +1,17 @@
-// The exported calls: each tests the lent area, makes the call on the state by value, and writes the next state over the area.
+// The exported calls: each tests the lent area, makes the call on the state by value, and writes what it changes over the area.
 use model::Answer;
 use model::Back;
 use model::Cause;
-use model::Outcome;
+use model::Reply;
 ghost use mathlib.Core.Path.{_≡_};
-ghost use mathlib.Core.Bool.{cond};
+ghost use mathlib.Core.Bool.{true, cond};
 ghost use mathlib.Core.List.{[], _∷_, _++_};
 ghost use Prim.Native.Nat.{_≤_};
 ghost use lib.ListN.{length, drop};
 ghost use Rattle.rules.specs.Answers.{causeWord, pageBack, slotTold};
 ghost use Rattle.rules.specs.Run.{start, begin, request, retry, unpin, end, tick, look, view, count};
-ghost use Rattle.area.specs.Layout.{encoded};
+ghost use Rattle.model.specs.Changes.{changed};
+ghost use Rattle.area.specs.Layout.{encoded, decoded, exact};
 ghost use Rattle.sabre.specs.Lent.{isRefused, answerOn, areaAfter, status, answerNumbers};
 
 fn cause_word(cause: Cause) -> u64
@@ -150,18 +151,18 @@ fn tell(answer: &mut [u64; 4], x: Answer) -> u32
     status_of(x)
 }
 
-// The answer told and, where the call is accepted, the next state written over the area.
-fn finish(area: &mut [u8], answer: &mut [u64; 4], o: Outcome) -> u32
-    requires { ⌜ (65536 ≤ length (now area)) × (slotTold (o .answer) ≤ 64) ⌝ }
-    ensures { λ r. ⌜ (r ≡ status (o .answer)) × (now (answer .exit) ≡ answerNumbers (o .answer)) × (now (area .exit) ≡ cond (isRefused (o .answer)) (now (area .entry)) (encoded (o .state) ++ drop 65536 (now (area .entry)))) ⌝ }
+// The answer told and, where the call is accepted, what it changes written over the area.
+fn finish(area: &mut [u8], answer: &mut [u64; 4], r: Reply) -> u32
+    requires { ⌜ (exact (now area) ≡ true) × (slotTold (r .answer) ≤ 64) ⌝ }
+    ensures { λ n. ⌜ (n ≡ status (r .answer)) × (now (answer .exit) ≡ answerNumbers (r .answer)) × (now (area .exit) ≡ cond (isRefused (r .answer)) (now (area .entry)) (encoded (changed (decoded (now (area .entry))) (r .change)) ++ drop 65536 (now (area .entry)))) ⌝ }
 {
-    let x = o.answer;
+    let x = r.answer;
     let n = tell(answer, x);
     if is_refused(x) {
         return n;
     }
-    let s = o.state;
-    area::encode(area, s);
+    let c = r.change;
+    area::amend(area, c);
     n
 }
 
@@ -199,11 +200,11 @@ pub extern "C" fn sabre_begin(
     if area.len() < 65536 {
         return refuse(answer);
     }
-    let lent = area::decode(area);
-    if lent.sound {
-        let s = lent.state;
-        let o = calls::begin(s, level, row, deadline);
-        return finish(area, answer, o);
+    let mut sound = false;
+    let s = area::decode(area, &mut sound);
+    if sound {
+        let r = calls::begin(s, level, row, deadline);
+        return finish(area, answer, r);
     }
     refuse(answer)
 }
@@ -224,11 +225,11 @@ pub extern "C" fn sabre_request(
     if area.len() < 65536 {
         return refuse(answer);
     }
-    let lent = area::decode(area);
-    if lent.sound {
-        let s = lent.state;
-        let o = calls::request(s, level, row, page, mode);
-        return finish(area, answer, o);
+    let mut sound = false;
+    let s = area::decode(area, &mut sound);
+    if sound {
+        let r = calls::request(s, level, row, page, mode);
+        return finish(area, answer, r);
     }
     refuse(answer)
 }
@@ -242,11 +243,11 @@ pub extern "C" fn sabre_retry(area: &mut [u8], level: u32, row: u32, answer: &mu
     if area.len() < 65536 {
         return refuse(answer);
     }
-    let lent = area::decode(area);
-    if lent.sound {
-        let s = lent.state;
-        let o = calls::retry(s, level, row);
-        return finish(area, answer, o);
+    let mut sound = false;
+    let s = area::decode(area, &mut sound);
+    if sound {
+        let r = calls::retry(s, level, row);
+        return finish(area, answer, r);
     }
     refuse(answer)
 }
@@ -266,11 +267,11 @@ pub extern "C" fn sabre_unpin(
     if area.len() < 65536 {
         return refuse(answer);
     }
-    let lent = area::decode(area);
-    if lent.sound {
-        let s = lent.state;
-        let o = calls::unpin(s, level, row, page);
-        return finish(area, answer, o);
+    let mut sound = false;
+    let s = area::decode(area, &mut sound);
+    if sound {
+        let r = calls::unpin(s, level, row, page);
+        return finish(area, answer, r);
     }
     refuse(answer)
 }
@@ -284,11 +285,11 @@ pub extern "C" fn sabre_end(area: &mut [u8], level: u32, row: u32, answer: &mut 
     if area.len() < 65536 {
         return refuse(answer);
     }
-    let lent = area::decode(area);
-    if lent.sound {
-        let s = lent.state;
-        let o = calls::end(s, level, row);
-        return finish(area, answer, o);
+    let mut sound = false;
+    let s = area::decode(area, &mut sound);
+    if sound {
+        let r = calls::end(s, level, row);
+        return finish(area, answer, r);
     }
     refuse(answer)
 }
@@ -302,11 +303,11 @@ pub extern "C" fn sabre_tick(area: &mut [u8], answer: &mut [u64; 4]) -> u32
     if area.len() < 65536 {
         return refuse(answer);
     }
-    let lent = area::decode(area);
-    if lent.sound {
-        let s = lent.state;
-        let o = calls::tick(s);
-        return finish(area, answer, o);
+    let mut sound = false;
+    let s = area::decode(area, &mut sound);
+    if sound {
+        let r = calls::tick(s);
+        return finish(area, answer, r);
     }
     refuse(answer)
 }
@@ -319,11 +320,10 @@ pub extern "C" fn sabre_look(area: &[u8], level: u32, row: u32, answer: &mut [u6
     if area.len() < 65536 {
         return refuse(answer);
     }
-    let lent = area::decode(area);
-    if lent.sound {
-        let s = lent.state;
-        let o = calls::look(s, level, row);
-        let x = o.answer;
+    let mut sound = false;
+    let s = area::decode(area, &mut sound);
+    if sound {
+        let x = calls::look(s, level, row);
         return tell(answer, x);
     }
     refuse(answer)
@@ -337,11 +337,10 @@ pub extern "C" fn sabre_view(area: &[u8], level: u32, page: u32, answer: &mut [u
     if area.len() < 65536 {
         return refuse(answer);
     }
-    let lent = area::decode(area);
-    if lent.sound {
-        let s = lent.state;
-        let o = calls::view(s, level, page);
-        let x = o.answer;
+    let mut sound = false;
+    let s = area::decode(area, &mut sound);
+    if sound {
+        let x = calls::view(s, level, page);
         return tell(answer, x);
     }
     refuse(answer)
@@ -355,11 +354,10 @@ pub extern "C" fn sabre_count(area: &[u8], level: u32, answer: &mut [u64; 4]) ->
     if area.len() < 65536 {
         return refuse(answer);
     }
-    let lent = area::decode(area);
-    if lent.sound {
-        let s = lent.state;
-        let o = calls::count(s, level);
-        let x = o.answer;
+    let mut sound = false;
+    let s = area::decode(area, &mut sound);
+    if sound {
+        let x = calls::count(s, level);
         return tell(answer, x);
     }
     refuse(answer)

@@ -21,13 +21,12 @@ use Rattle.model.specs.Words.{holds}
 use Rattle.rules.specs.Answers.{word, mayUse, told}
 use Rattle.rules.specs.Calls.{looked}
 use Rattle.rules.specs.Run.{Call, start, begin, request, retry, unpin, end, tick, look, view, count, Fits}
-use Rattle.rules.proofs.CallCases.{Asks}
+use Rattle.rules.specs.Requests.{Asks, Names}
+use Rattle.rules.specs.Arrivals.{AllArrived, PinnedAndArrived}
+use Rattle.rules.specs.Waits.{Outranked, NoSlot}
 use Rattle.rules.proofs.WaitFetch as Waits
-use Rattle.rules.proofs.WaitFetch.{Outranked, NoSlot}
 use Rattle.rules.proofs.Arrived as States
-use Rattle.rules.proofs.Arrived.{InHand, AllArrived}
 use Rattle.rules.proofs.MayUse as Uses
-use Rattle.rules.proofs.MayUse.{Names}
 use Rattle.area.specs.Layout.{decoded, soundArea}
 use Rattle.area.proofs.RoundTrip.{sound-area}
 use Rattle.sabre.specs.Lent.{answerOn, isRefused, areaAfter}
@@ -54,7 +53,7 @@ may-use-arrived a c f e =
 -- ready comes only to a request or retry; then, in the area that it leaves, the row holds the slot of the page asked for
 -- with the pin asked for or a stronger one, holding and page have arrived, and so has every other page that the row holds
 pub ready-arrived : (a : List ℕ) (c : Call) → Fits c → (slot : ℕ) (back : Back) → answerOn a c ≡ Ready slot back
-    → (row : ℕ) × (page : ℕ) × (mode : Mode) × Asks (decoded a) c row page mode × InHand (decoded (areaAfter a c)) row page mode slot × AllArrived (decoded (areaAfter a c)) row
+    → (row : ℕ) × (page : ℕ) × (mode : Mode) × Asks (decoded a) c row page mode × PinnedAndArrived (decoded (areaAfter a c)) row page mode slot × AllArrived (decoded (areaAfter a c)) row
 unfolding word
 ready-arrived a c f slot back e =
     let z = other-sound a c (Ready slot back) e refl (λ k. true-false (cc)) in

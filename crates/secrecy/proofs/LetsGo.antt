@@ -20,11 +20,10 @@ use Rattle.rules.specs.Sound.{sound}
 use Rattle.rules.specs.Answers.{word, backTold}
 use Rattle.rules.specs.Calls.{looked}
 use Rattle.rules.specs.Run.{Call, look, Fits}
-use Rattle.rules.specs.Secrecy.{startsRefused}
+use Rattle.rules.specs.Slots.{Refilled, Dirty}
 use Rattle.rules.proofs.SoundFacts.{facts}
-use Rattle.rules.proofs.Drops.{Refilled}
+use Rattle.rules.proofs.StateRuns.{startsRefused}
 use Rattle.rules.proofs.LetsGo as States
-use Rattle.rules.proofs.LetsGo.{Dirty}
 use Rattle.area.specs.Layout.{decoded, soundArea}
 use Rattle.area.proofs.RoundTrip.{sound-area}
 use Rattle.sabre.specs.Lent.{answerOn, isRefused, areaAfter}

@@ -2,9 +2,8 @@
 use mathlib.Core.Path.{_≡_, refl}
 use mathlib.Core.Bool.{true}
 use mathlib.Core.List.{List, _∷_}
-use Prim.Native.Nat.{ℕ, _+_, _*_, _<_}
+use Prim.Native.Nat.{ℕ, _<_}
 use borrow.Author.Tests.{eq-eqb}
-use Rattle.words.specs.Bytes.{wordAt}
 use Rattle.model.specs.declared.Answer.the-variants.{Started}
 use Rattle.model.specs.State.{slotAt}
 use Rattle.model.specs.Words.{hasPage}
@@ -14,15 +13,9 @@ use Rattle.area.specs.Layout.{low, contentOf, slotFrom, decoded, soundArea}
 use Rattle.area.proofs.Elements.{decoded-slot}
 use Rattle.area.proofs.RoundTrip.{sound-area}
 use Rattle.sabre.specs.Lent.{answerOn}
+use Rattle.secrecy.specs.SlotWords.{filledWord, pageWord}
 use Rattle.secrecy.specs.Runs.{AllFit, areaAfterAll}
 use Rattle.secrecy.proofs.Steps.{started-sound-on}
-
--- the words of a slot: the first says that a page is in it, the second which
-abbrev pub filledWord : List ℕ → ℕ → ℕ
-filledWord a slot = wordAt a (2560 + slot * 64)
-
-abbrev pub pageWord : List ℕ → ℕ → ℕ
-pageWord a slot = wordAt a (2560 + slot * 64 + 8)
 
 -- no page in two slots of a sound area
 pub one-slot : (a : List ℕ) → soundArea a ≡ true → (page i j : ℕ) → i < 64 → j < 64

@@ -19,7 +19,8 @@ use Rattle.rules.specs.Answers.{word, told}
 use Rattle.rules.specs.Refusals.{startRefusal, requestRefusal, retryRefusal}
 use Rattle.rules.specs.Calls.{unless, started, requested, retried, looked}
 use Rattle.rules.specs.Run.{Call, start, begin, request, retry, unpin, end, tick, look, view, count, Fits, outcome, after}
-use Rattle.rules.specs.Secrecy.{isKept, keptAnswers, startsRefused, isPending, isIdle, isDelivery, deliveries}
+use Rattle.rules.specs.Secrecy.{isKept}
+use Rattle.rules.proofs.StateRuns.{keptAnswers, startsRefused, isPending, isIdle, isDelivery, deliveries}
 use Rattle.rules.proofs.RefusalFacts.{Named, request-taken, retry-taken}
 use Rattle.area.specs.Layout.{decoded, soundArea}
 use Rattle.sabre.specs.Lent.{answerOn, areaAfter}

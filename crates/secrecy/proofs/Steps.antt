@@ -19,10 +19,10 @@ use Rattle.model.specs.State.{fresh, rowAt}
 use Rattle.model.proofs.Ranges.{StateOk}
 use Rattle.rules.specs.Sound.{sound}
 use Rattle.rules.specs.Answers.{word}
-use Rattle.rules.specs.Refusals.{startRefusal, beginRefusal, requestRefusal, retryRefusal, unpinRefusal, endRefusal, tickRefusal}
+use Rattle.rules.specs.Refusals.{startRefusal, beginRefusal, requestRefusal, retryRefusal, unpinRefusal, endRefusal, tickRefusal, StartTaken}
 use Rattle.rules.specs.Calls.{unless, started, begun, requested, retried, unpinned, ended, ticked, waiting, granted, served, servedAgain}
 use Rattle.rules.specs.Run.{Call, start, begin, request, retry, unpin, end, tick, look, view, count, Fits, outcome}
-use Rattle.rules.proofs.RefusalFacts.{unless-is, StartTaken, start-taken}
+use Rattle.rules.proofs.RefusalFacts.{unless-is, start-taken}
 use Rattle.rules.proofs.Serving.{Serving, waits, waits-g, joins, fills, serving}
 use Rattle.rules.proofs.Granting.{granted-answer}
 use Rattle.rules.proofs.Hidden.{looked-still, viewed-still, counted-still}

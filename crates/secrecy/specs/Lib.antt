@@ -1,2 +1,3 @@
+pub mod SlotWords
 pub mod Runs
 pub mod Table

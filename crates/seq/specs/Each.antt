@@ -13,6 +13,6 @@ module _ {A : Type 0} where
   unfoldable pub each : (ℕ → A → A) → List A → List A
   each f xs = eachFrom 0 f xs
 
-  -- the same for the places below n alone: a loop over the list after n turns
+  -- the same for the places below n alone: a loop over the list after n iterations
   unfoldable pub eachBelow : ℕ → (ℕ → A → A) → List A → List A
   eachBelow n f xs = each (λ k x. cond (ltb k n) (f k x) x) xs

@@ -1,19 +1,18 @@
 -- A kill of no rows changes nothing.
-use mathlib.Core.Path.{_≡_, sym, _∙_}
-use mathlib.Core.List.{List}
+use mathlib.Core.Path.{_≡_}
 use mathlib.Core.Bool.{Bool, false, cond, _&&_}
 use Prim.Native.Nat.{ℕ, _%_, _<_}
 use native.Mathlib.Omega.{arith}
 use Rattle.seq.specs.Below.{anyBelow}
-use Rattle.seq.proofs.BelowLaws.{none-any, any-none}
+use Rattle.seq.proofs.BelowLaws.{none-any}
 use Rattle.seq.proofs.EachLaws.{each-still}
 use Rattle.model.specs.declared.Cause.{Cause}
 use Rattle.model.specs.declared.State.{State}
 use Rattle.model.specs.State.{freeRow, emptySlot, emptyHolding, holdingAt}
-use Rattle.model.specs.Changes.{marked, written, dirtied, released, killed, killedRow}
+use Rattle.model.specs.Changes.{written, dirtied, released, killed, killedRow}
 use Rattle.model.proofs.StateLaws.{Sized}
 
-kill-none : (some : ℕ → Bool) (cause : Cause) (s : State) → Sized s → ((row : ℕ) → row < 32 → some row ≡ false) → killed some cause s ≡ s
+pub kill-none : (some : ℕ → Bool) (cause : Cause) (s : State) → Sized s → ((row : ℕ) → row < 32 → some row ≡ false) → killed some cause s ≡ s
 unfolding killed released
 kill-none some cause s z h = λ j. record {
   size = s .size;
@@ -29,6 +28,3 @@ kill-none some cause s z h = λ j. record {
 
     unwritten : (slot : ℕ) → wrote slot ≡ false
     unwritten slot = none-any (λ row. some row && written (s .clock) (holdingAt s slot row)) 32 (λ row k. rw (h row k))
-
-pub unmarked : (marks : List Bool) (cause : Cause) (s : State) (b : Bool) → Sized s → b ≡ anyBelow 32 (marked marks) → b ≡ false → s ≡ killed (marked marks) cause s
-unmarked marks cause s b z e f = sym (kill-none (marked marks) cause s z (λ row h. any-none (marked marks) 32 row (sym e ∙ f) h))

@@ -1,5 +1,5 @@
 pub mod SlotLaws
-pub mod ClearLaws
+pub mod KillLaws
+pub mod ReplyLaws
 pub mod StepLaws
 pub mod ServeLaws
-pub mod KillLaws

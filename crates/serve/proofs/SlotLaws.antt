@@ -6,11 +6,12 @@ use Prim.Native.Nat.{ℕ, _<_}
 use native.Mathlib.Omega.{arith}
 use borrow.Author.Tests.{le-leb, eq-eqb}
 use lib.Dec.{leb, ltb, eqb}
-use lib.ListN.{getD}
+use lib.ListN.{length, getD, replicate, length-replicate}
 use Rattle.seq.specs.Below.{anyBelow}
 use Rattle.seq.proofs.Tests.{and-false-right}
 use Rattle.seq.proofs.BelowLaws.{any-same}
 use Rattle.seq.proofs.PickLaws.{picked-same}
+use Rattle.seq.proofs.EachLaws.{each-length}
 use Rattle.seq.proofs.BuildLaws.{build-at}
 use Rattle.model.specs.declared.Cause.the-variants.{Taken}
 use Rattle.model.specs.declared.Holding.{Holding}
@@ -31,6 +32,10 @@ module _ (s : State) (slot : ℕ) where
   pub held-by : (row : ℕ) → row < 32 → heldBy (holdingsOn s slot) row ≡ holdingAt s slot row
   unfolding holdingsOn
   held-by row h = build-at (holdingAt s slot) 32 emptyHolding row emptyHolding h
+
+  pub held-long : length (holdingsOn s slot) ≡ 32
+  unfolding holdingsOn
+  held-long = each-length (λ row _. holdingAt s slot row) (replicate 32 emptyHolding) ∙ length-replicate 32 emptyHolding
 
   seen-test : (level row : ℕ) → row < 32 → seenTest level row (heldBy (holdingsOn s slot) row) ≡ seenHolder s level slot row
   unfolding seenTest seenHolder

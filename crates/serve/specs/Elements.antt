@@ -36,7 +36,7 @@ barTest row deadline mode other rival h =
 unfoldable pub heldNow : Holding → Mode → ℕ → ℕ → Holding
 heldNow own mode arrival clock = heldWith (isHeld (own .pin)) own (pinOf mode) arrival clock
 
--- a slot that a page was just read into
+-- a slot newly given to a page
 abbrev pub filledSlot : ℕ → ℕ → ℕ → ℕ → Slot
 filledSlot page arrival level clock = record { content = Filled page arrival false level; touch = clock }
 

@@ -1,2 +1,3 @@
 pub mod SlotHoldings
 pub mod Elements
+pub mod Replies

@@ -2,36 +2,28 @@
 use model::Answer;
 use model::Back;
 use model::Cause;
+use model::Change;
 use model::Condition;
 use model::Content;
 use model::Holding;
 use model::Mode;
-use model::Outcome;
 use model::Pin;
+use model::Reply;
 use model::Row;
 use model::Slot;
 use model::State;
 use seq::Found;
 ghost use mathlib.Core.Path.{_≡_};
-ghost use mathlib.Core.Bool.{_||_};
 ghost use Prim.Native.Nat.{_+_, _<_, _≤_, _^_, min};
-ghost use Rattle.seq.specs.declared.Found.the-variants.{At};
+ghost use lib.ListN.{getD};
+ghost use Rattle.model.specs.State.{emptySlot};
 ghost use Rattle.model.specs.Words.{isFilled, arrivalIn};
-ghost use Rattle.seq.specs.Below.{anyBelow};
 ghost use Rattle.model.specs.Parties.{levelOf};
-ghost use Rattle.model.specs.Changes.{marked, killed};
-ghost use Rattle.rules.specs.Calls.{waiting, granted, step1, step2, step3, writeBack, filled, intoSlot, served};
+ghost use Rattle.model.specs.Changes.{outcomeOf};
+ghost use Rattle.rules.specs.Calls.{writeBack, served};
 ghost use Rattle.serve.specs.Elements.{seenTest, lesser, conflictTest, barTest, heldNow, filledSlot, touchedSlot, grantedRow, grantedAnswer};
 ghost use Rattle.serve.specs.SlotHoldings.{holdingsOn, seenIn, leastIn, seesDormantIn, mustWaitIn, conflictMarks, pinMarks};
-
-pub fn either(a: bool, b: bool) -> bool
-    ensures { λ r. ⌜ r ≡ a || b ⌝ }
-{
-    if a {
-        return true;
-    }
-    b
-}
+ghost use Rattle.serve.specs.Replies.{waitReply, planned, rowsTaken, slotFilled, granting};
 
 fn is_filled(c: Content) -> bool
     ensures { λ r. ⌜ r ≡ isFilled c ⌝ }
@@ -138,7 +130,7 @@ pub fn see(held: [Holding; 32], level: usize) -> bool
     for r in 0..32usize {
         let h = held[r];
         let t = is_seen(level, r, h);
-        found = either(found, t);
+        found = seq::either(found, t);
     }
     found
 }
@@ -153,7 +145,7 @@ pub fn least_arrival(held: [Holding; 32], level: usize) -> u32
         let h = held[r];
         let t = is_seen(level, r, h);
         least = lesser_arrival(t, h.arrival, found, least);
-        found = either(found, t);
+        found = seq::either(found, t);
     }
     least
 }
@@ -184,7 +176,7 @@ fn must_wait(held: [Holding; 32], rows: [Row; 32], row: usize, mode: Mode) -> bo
         let h = held[r];
         let x = rows[r];
         let t = is_barred(row, deadline, mode, r, x.deadline, h);
-        wait = either(wait, t);
+        wait = seq::either(wait, t);
     }
     wait
 }
@@ -214,27 +206,6 @@ fn pin_marks(held: [Holding; 32]) -> [bool; 32]
         marks[r] = t;
     }
     marks
-}
-
-// Some row is marked.
-fn has_mark(marks: [bool; 32]) -> bool
-    ensures { λ r. ⌜ r ≡ anyBelow 32 (marked marks) ⌝ }
-{
-    let mut found = false;
-    for r in 0..32usize {
-        found = either(found, marks[r]);
-    }
-    found
-}
-
-// The marked rows are killed. Where there is none nothing is to be done.
-pub fn kill_marked(s: State, marks: [bool; 32], cause: Cause) -> State
-    ensures { λ r. ⌜ r ≡ killed (marked marks) cause s ⌝ }
-{
-    if has_mark(marks) {
-        return model::kill(s, marks, cause);
-    }
-    s
 }
 
 // Step 4: a row's own holding keeps its arrival and the stronger pin.
@@ -329,44 +300,57 @@ fn grant_answer(slot: usize, arrival: u32, clock: u32, back: Back) -> Answer
     }
 }
 
-// Step 4: the holding, the slot and the row of a request that is granted, and its answer.
-fn grant(s: State, row: usize, slot: usize, mode: Mode, arrival: u32, back: Back) -> Outcome
-    requires { ⌜ (slot < 64) × (row < 32) ⌝ }
-    ensures { λ r. ⌜ r ≡ granted s row slot mode arrival back ⌝ }
+// Step 4 on what the steps before it make of the state: the holding, the slot and the row of a request that is granted, and its answer.
+fn grant(c: Change, row: usize, mode: Mode, arrival: u32, back: Back) -> Reply
+    requires { ⌜ (c .slot < 64) × (row < 32) ⌝ }
+    ensures { λ r. ⌜ r ≡ granting c row mode arrival back ⌝ }
 {
-    let clock = s.clock;
-    let mut n = s;
-    let x = s.slots[slot];
-    let x2 = touch_slot(x, row / 8, clock);
-    n.slots[slot] = x2;
-    let own = s.holdings[slot * 32 + row];
-    let h = hold(own, mode, arrival, clock);
-    n.holdings[slot * 32 + row] = h;
-    let y = s.rows[row];
+    let clock = c.clock;
+    let slot = c.slot;
+    let mut rows = c.rows;
+    let y = rows[row];
     let y2 = grant_row(y, arrival, clock);
-    n.rows[row] = y2;
+    rows[row] = y2;
+    let mut slots = c.slots;
+    let x = slots[slot];
+    let x2 = touch_slot(x, row / 8, clock);
+    slots[slot] = x2;
+    let mut held = c.held;
+    let own = held[row];
+    let h = hold(own, mode, arrival, clock);
+    held[row] = h;
+    let gone = c.gone;
     let answer = grant_answer(slot, arrival, clock, back);
-    Outcome { state: n, answer }
+    let change = Change {
+        clock,
+        rows,
+        slots,
+        gone,
+        slot,
+        held,
+    };
+    Reply { change, answer }
 }
 
 // A wait alters only the row's own condition.
-fn wait(s: State, row: usize, page: u32, mode: Mode) -> Outcome
+fn wait(clock: u32, rows: [Row; 32], slots: [Slot; 64], row: usize, page: u32, mode: Mode) -> Reply
     requires { ⌜ row < 32 ⌝ }
-    ensures { λ r. ⌜ r ≡ waiting s row page mode ⌝ }
+    ensures { λ r. ⌜ r ≡ waitReply clock rows slots row page mode ⌝ }
 {
-    let x = s.rows[row];
-    let mut n = s;
-    n.rows[row] = Row {
+    let x = rows[row];
+    let mut n = rows;
+    n[row] = Row {
         condition: Condition::Waiting { page, mode },
         deadline: x.deadline,
     };
-    Outcome {
-        state: n,
+    let change = model::drop_holdings(clock, n, slots, [false; 32]);
+    Reply {
+        change,
         answer: Answer::Wait,
     }
 }
 
-// A slot that a page was just read into.
+// A slot newly given to a page.
 fn fill(page: u32, arrival: u32, level: usize, clock: u32) -> Slot
     ensures { λ r. ⌜ r ≡ filledSlot page arrival level clock ⌝ }
 {
@@ -379,36 +363,6 @@ fn fill(page: u32, arrival: u32, level: usize, clock: u32) -> Slot
         },
         touch: clock,
     }
-}
-
-// The holders of a slot lose it, and the page is the slot's: clean, and due at clock + delay. Then step 4.
-fn fill_and_grant(s: State, row: usize, slot: usize, page: u32, mode: Mode, back: Back) -> Outcome
-    requires { ⌜ (slot < 64) × (row < 32) × (s .clock + s .delay < 2 ^ 32) ⌝ }
-    ensures { λ r. ⌜ r ≡ granted (filled s slot page (levelOf row)) row slot mode (s .clock + s .delay) back ⌝ }
-{
-    let clock = s.clock;
-    let due = s.clock + s.delay;
-    let mut n = s;
-    for r in 0..32usize {
-        n.holdings[slot * 32 + r] = Holding {
-            pin: Pin::Absent,
-            arrival: 0,
-            touch: 0,
-        };
-    }
-    let x = fill(page, due, row / 8, clock);
-    n.slots[slot] = x;
-    let w = n.slots[slot];
-    let x2 = touch_slot(w, row / 8, clock);
-    n.slots[slot] = x2;
-    let own = n.holdings[slot * 32 + row];
-    let h = hold(own, mode, due, clock);
-    n.holdings[slot * 32 + row] = h;
-    let y = n.rows[row];
-    let y2 = grant_row(y, due, clock);
-    n.rows[row] = y2;
-    let answer = grant_answer(slot, due, clock, back);
-    Outcome { state: n, answer }
 }
 
 // A dirty page is reported for write-back.
@@ -434,89 +388,155 @@ fn write_back(x: Slot) -> Back
     }
 }
 
-// Step 1, page seen through a holding.
-fn step_one(
-    s: State,
+// What steps 1 to 3 come to in the slot that has the page: the row waits, or the marked rows are killed and the page arrives at a tick.
+struct Plan {
+    wait: bool,
+    marks: [bool; 32],
+    arrival: u32,
+}
+
+// Step 1, page seen through a holding; step 2, level 3, dormant page; step 3, not seen.
+fn plan_steps(
     held: [Holding; 32],
+    rows: [Row; 32],
+    x: Slot,
     row: usize,
-    slot: usize,
-    page: u32,
     mode: Mode,
-) -> Outcome
-    requires { ⌜ (slot < 64) × (row < 32) × (held ≡ holdingsOn s slot) ⌝ }
-    ensures { λ r. ⌜ r ≡ step1 s row slot page mode ⌝ }
+    due: u32,
+) -> Plan
+    requires { ⌜ row < 32 ⌝ }
+    ensures { λ r. ⌜ r ≡ planned held rows x row mode due ⌝ }
 {
-    let rows = s.rows;
-    if must_wait(held, rows, row, mode) {
-        return wait(s, row, page, mode);
-    }
+    let level = row / 8;
     let marks = conflict_marks(held, row, mode);
-    let arrival = least_arrival(held, row / 8);
-    let n = kill_marked(s, marks, Cause::Taken);
-    grant(n, row, slot, mode, arrival, Back::Nothing)
-}
-
-// Step 2, level 3, dormant page.
-fn step_two(s: State, row: usize, slot: usize, mode: Mode) -> Outcome
-    requires { ⌜ (slot < 64) × (row < 32) ⌝ }
-    ensures { λ r. ⌜ r ≡ step2 s row slot mode ⌝ }
-{
-    let x = s.slots[slot];
-    let c = x.content;
-    let arrival = arrival_in(c);
-    grant(s, row, slot, mode, arrival, Back::Nothing)
-}
-
-// Step 3, not seen, in the slot that has the page.
-fn step_three(s: State, held: [Holding; 32], row: usize, slot: usize, mode: Mode) -> Outcome
-    requires { ⌜ (slot < 64) × (row < 32) × (s .clock + s .delay < 2 ^ 32) × (held ≡ holdingsOn s slot) ⌝ }
-    ensures { λ r. ⌜ r ≡ step3 s row slot mode ⌝ }
-{
-    let due = s.clock + s.delay;
-    let marks = conflict_marks(held, row, mode);
-    let n = kill_marked(s, marks, Cause::Taken);
-    grant(n, row, slot, mode, due, Back::Nothing)
-}
-
-// Step 3, not seen, in a chosen slot: rows that pin it are killed, other holders lose it.
-fn into_slot(s: State, row: usize, slot: usize, page: u32, mode: Mode) -> Outcome
-    requires { ⌜ (slot < 64) × (row < 32) × (s .clock + s .delay < 2 ^ 32) ⌝ }
-    ensures { λ r. ⌜ r ≡ intoSlot (At slot) s row page mode ⌝ }
-{
-    let held = holdings_on(s, slot);
-    let marks = pin_marks(held);
-    if has_mark(marks) {
-        let n = model::kill(s, marks, Cause::Taken);
-        let slots = n.slots;
-        let x = slots[slot];
-        let back = write_back(x);
-        return fill_and_grant(n, row, slot, page, mode, back);
+    if see(held, level) {
+        let wait = must_wait(held, rows, row, mode);
+        let arrival = least_arrival(held, level);
+        return Plan {
+            wait,
+            marks,
+            arrival,
+        };
     }
-    let slots = s.slots;
+    if see_dormant(held, x, level) {
+        let c = x.content;
+        let arrival = arrival_in(c);
+        return Plan {
+            wait: false,
+            marks: [false; 32],
+            arrival,
+        };
+    }
+    Plan {
+        wait: false,
+        marks,
+        arrival: due,
+    }
+}
+
+// The rows that a change marks are killed as taken, and lose the slot with their other holdings.
+fn take_rows(c: Change) -> Change
+    ensures { λ r. ⌜ r ≡ rowsTaken c ⌝ }
+{
+    let gone = c.gone;
+    let before = c.rows;
+    let rows = model::kill_rows(before, gone, Cause::Taken);
+    let all = c.held;
+    let held = model::kept_holdings(all, gone);
+    let slots = c.slots;
+    Change {
+        clock: c.clock,
+        rows,
+        slots,
+        gone,
+        slot: c.slot,
+        held,
+    }
+}
+
+// The holders of the slot lose it, and it is given to the page.
+fn fill_slot(c: Change, page: u32, due: u32, level: usize) -> Change
+    requires { ⌜ c .slot < 64 ⌝ }
+    ensures { λ r. ⌜ r ≡ slotFilled c page due level ⌝ }
+{
+    let slot = c.slot;
+    let mut slots = c.slots;
+    let x = fill(page, due, level, c.clock);
+    slots[slot] = x;
+    let rows = c.rows;
+    let gone = c.gone;
+    Change {
+        clock: c.clock,
+        rows,
+        slots,
+        gone,
+        slot,
+        held: [Holding {
+            pin: Pin::Absent,
+            arrival: 0,
+            touch: 0,
+        }; 32],
+    }
+}
+
+// Step 3, not seen, in a chosen slot: rows that pin it are killed, other holders lose it, and it is given to the page, which is due at a tick.
+fn into_slot(c: Change, row: usize, page: u32, mode: Mode, due: u32) -> Reply
+    requires { ⌜ (c .slot < 64) × (row < 32) ⌝ }
+    ensures { λ r. ⌜ r ≡ granting (slotFilled (rowsTaken c) page due (levelOf row)) row mode due (writeBack (getD (c .slots) (c .slot) emptySlot)) ⌝ }
+{
+    let slots = c.slots;
+    let slot = c.slot;
     let x = slots[slot];
     let back = write_back(x);
-    fill_and_grant(s, row, slot, page, mode, back)
+    let taken = take_rows(c);
+    let filled = fill_slot(taken, page, due, row / 8);
+    grant(filled, row, mode, due, back)
 }
 
 // The request of a row for a page: the search for the page, and steps 1 to 4.
-pub fn serve(s: State, row: usize, page: u32, mode: Mode) -> Outcome
+pub fn serve(s: State, row: usize, page: u32, mode: Mode) -> Reply
     requires { ⌜ (s .size ≤ 64) × (row < 32) × (s .clock + s .delay < 2 ^ 32) ⌝ }
-    ensures { λ r. ⌜ r ≡ served s row page mode ⌝ }
+    ensures { λ r. ⌜ outcomeOf s r ≡ served s row page mode ⌝ }
 {
-    let Found::At(slot) = choice::find_page(s, page) else {
+    let clock = s.clock;
+    let due = s.clock + s.delay;
+    let size = s.size;
+    let rows = s.rows;
+    let slots = s.slots;
+    let Found::At(slot) = choice::find_page(slots, size, page) else {
         let Found::At(chosen) = choice::choose(s, row) else {
-            return wait(s, row, page, mode);
+            return wait(clock, rows, slots, row, page, mode);
         };
-        return into_slot(s, row, chosen, page, mode);
+        let held = holdings_on(s, chosen);
+        let gone = pin_marks(held);
+        let left = model::released_slots(s, clock, gone);
+        let c = Change {
+            clock,
+            rows,
+            slots: left,
+            gone,
+            slot: chosen,
+            held,
+        };
+        return into_slot(c, row, page, mode, due);
     };
     let held = holdings_on(s, slot);
-    let x = s.slots[slot];
-    let level = row / 8;
-    if see(held, level) {
-        return step_one(s, held, row, slot, page, mode);
+    let x = slots[slot];
+    let p = plan_steps(held, rows, x, row, mode, due);
+    if p.wait {
+        return wait(clock, rows, slots, row, page, mode);
     }
-    if see_dormant(held, x, level) {
-        return step_two(s, row, slot, mode);
-    }
-    step_three(s, held, row, slot, mode)
+    let gone = p.marks;
+    let arrival = p.arrival;
+    let left = model::released_slots(s, clock, gone);
+    let c = Change {
+        clock,
+        rows,
+        slots: left,
+        gone,
+        slot,
+        held,
+    };
+    let taken = take_rows(c);
+    grant(taken, row, mode, arrival, Back::Nothing)
 }

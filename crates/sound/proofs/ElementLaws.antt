@@ -18,7 +18,7 @@ use Rattle.model.specs.State.{rowAt, slotAt, holdingAt}
 use Rattle.model.specs.Words.{isFilled, holds, pins}
 use Rattle.model.proofs.StateLaws.{Sized}
 use Rattle.rules.specs.Sound.{soundNumbers, arrived, awaits, soundContent, soundSlot, soundCondition, soundRow, soundHolding, soundPins, soundPages, sound}
-use Rattle.sound.specs.Elements.{inRange, contentTest, slotTest, placeTaken, dueIn, arrivedTest, awaitsTest, fetchingTest, waitingTest, conditionTest, rowTest, heldTest, holdingTest}
+use Rattle.sound.specs.Elements.{inRange, contentTest, slotTest, placeTaken, dueIn, arrivedTest, awaitsTest, fetchingTest, waitingTest, conditionTest, rowTest, fitTest, heldTest, holdingTest}
 use Rattle.sound.proofs.PageLaws.{pages-apart}
 
 pub numbers-test : (s : State) → Sized s → inRange (s .size) (s .delay) (s .clock) ≡ soundNumbers s
@@ -74,10 +74,6 @@ row-test s row = go (rowAt s row .condition)
     go (Fetching due) = refl
     go (Waiting page mode) = refl
     go (Killed cause) = refl
-
-pub holding-test : (s : State) (slot row : ℕ) → holdingTest (levelOf row) (rowAt s row) (slotAt s slot) (holdingAt s slot row) (s .clock + s .delay) ≡ soundHolding s slot row
-unfolding holdingTest heldTest soundHolding
-holding-test s slot row = refl
 
 -- the same, as the loop over a row's holdings leaves it
 pub row-end : (s : State) (row due n : ℕ) (settled expected : Bool) (number : ℕ) → n ≡ 64 → due ≡ dueIn (rowAt s row .condition)
@@ -146,6 +142,10 @@ and-assoc : (a b c : Bool) → a && (b && c) ≡ a && b && c
 and-assoc true b c = refl
 and-assoc false b c = refl
 
+pub holding-test : (s : State) (slot row : ℕ) → holdingTest (levelOf row) (rowAt s row) (slotAt s slot) (holdingAt s slot row) (s .clock + s .delay) ≡ soundHolding s slot row
+unfolding holdingTest heldTest fitTest soundHolding
+holding-test s slot row = simp and-assoc
+
 pages-joined : (s : State) → soundNumbers s && allBelow 64 (soundSlot s) && allBelow 64 (λ slot. not (placeTaken (s .slots) slot)) ≡ soundNumbers s && allBelow 64 (soundSlot s) && soundPages s
 pages-joined s = go (soundNumbers s)
   where
@@ -154,10 +154,9 @@ pages-joined s = go (soundNumbers s)
     go false = refl
 
 -- the whole test from its parts, each joined to those before it
-pub sound-test : (s : State) → Sized s → (numbers slots pages rows holdings b2 b3 b4 b5 : Bool) → numbers ≡ inRange (s .size) (s .delay) (s .clock) → slots ≡ allBelow 64 (soundSlot s)
-    → pages ≡ allBelow 64 (λ slot. not (placeTaken (s .slots) slot)) → rows ≡ allBelow 32 (soundRow s) → holdings ≡ allBelow 64 (λ slot. allBelow 32 (soundHolding s slot)) && allBelow 64 (soundPins s)
-    → b2 ≡ numbers && slots → b3 ≡ b2 && pages → b4 ≡ b3 && rows → b5 ≡ b4 && holdings → b5 ≡ sound s
+pub sound-test : (s : State) → Sized s → (numbers slots pages holdings b2 b3 b4 : Bool) → numbers ≡ inRange (s .size) (s .delay) (s .clock) → slots ≡ allBelow 64 (soundSlot s)
+    → pages ≡ allBelow 64 (λ slot. not (placeTaken (s .slots) slot)) → holdings ≡ allBelow 32 (soundRow s) && allBelow 64 (λ slot. allBelow 32 (soundHolding s slot)) && allBelow 64 (soundPins s)
+    → b2 ≡ numbers && slots → b3 ≡ b2 && pages → b4 ≡ b3 && holdings → b4 ≡ sound s
 unfolding sound
-sound-test s z numbers slots pages rows holdings b2 b3 b4 b5 e1 e2 e3 e4 e5 f2 f3 f4 f5 =
-    rw (f5, f4, f3, f2, e1, e2, e3, e4, e5, numbers-test s z, pages-joined s)
-    (and-assoc (soundNumbers s && allBelow 64 (soundSlot s) && soundPages s && allBelow 32 (soundRow s)) (allBelow 64 (λ slot. allBelow 32 (soundHolding s slot))) (allBelow 64 (soundPins s)))
+sound-test s z numbers slots pages holdings b2 b3 b4 e1 e2 e3 e4 f2 f3 f4 =
+    rw (f4, f3, f2, e1, e2, e3, e4, numbers-test s z, pages-joined s) (simp and-assoc)

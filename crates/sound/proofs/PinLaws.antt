@@ -1,21 +1,23 @@
--- No two pins of a slot conflict just where no pin is a write pin, or there is one pin alone.
+-- No two pins of a slot conflict just where its pins weigh at most 64.
 use mathlib.Core.Path.{_≡_, refl, sym, _∙_}
 use mathlib.Core.Bool.{Bool, true, false, cond, _&&_, not}
-use Prim.Native.Nat.{ℕ, _<_}
+use Prim.Native.Nat.{ℕ, zero, suc, _+_, _*_, _<_, _≤_}
+use native.Mathlib.Numerals.{add-one}
 use native.Mathlib.Omega.{arith}
-use native.Mathlib.Decide.{decLt}
-use lib.Dec.{eqb}
-use borrow.Author.Tests.{eqb-true, eq-eqb, not-true}
+use native.Mathlib.Decide.{ℕ-discrete, decLt}
+use lib.Dec.{leb}
+use borrow.Author.Tests.{leb-true, le-leb, not-true}
 use Rattle.seq.specs.Below.{anyBelow, allBelow, countBelow}
 use Rattle.seq.proofs.Tests.{true-false, same-truth, and-false-right}
-use Rattle.seq.proofs.BelowLaws.{One, any-none, any-hit, count-one, one-count, pairs-each, each-pairs}
+use Rattle.seq.proofs.BelowLaws.{One, any-none, any-hit, count-at-most, count-none, none-count, count-one, one-count, pairs-each, each-pairs}
 use Rattle.model.specs.declared.Pin.{Pin}
+use Rattle.model.specs.declared.Pin.the-variants.{Absent, Unpinned, Read, Write}
 use Rattle.model.specs.declared.State.{State}
 use Rattle.model.specs.State.{holdingAt}
 use Rattle.model.specs.Words.{isPin, isWrite, conflict}
 use Rattle.model.proofs.PinLaws.{write-pin, conflict-comm, no-two-pins}
 use Rattle.rules.specs.Sound.{soundPins}
-use Rattle.sound.specs.Elements.{pinsTest}
+use Rattle.sound.specs.Elements.{pinWeight, weightBelow}
 
 -- a pin beside a write pin
 write-first : (p q : Pin) → isWrite p ≡ true → isPin q ≡ true → conflict p q ≡ true
@@ -29,15 +31,37 @@ no-write : (p q : Pin) → isWrite p ≡ false → isWrite q ≡ false → confl
 unfolding conflict
 no-write p q e f = rw (e, f) (and-false-right (isPin p && isPin q) false refl)
 
+-- the weight with row n
+pub weight-turn : (f : ℕ → Pin) (n a w : ℕ) → a ≡ weightBelow n f → w ≡ pinWeight (f n) → a + w ≡ weightBelow (n + 1) f
+unfolding weightBelow
+weight-turn f n a w e q = rw (add-one, e, q)
+
+module _ (f : ℕ → Pin) where
+  abbrev writes : ℕ → ℕ
+  writes n = countBelow n (λ row. isWrite (f row))
+
+  abbrev number : ℕ → ℕ
+  number n = countBelow n (λ row. isPin (f row))
+
+  -- each pin weighs 1, and a write pin 63 more
+  weight-is : (n : ℕ) → (weightBelow n f ≡ number n + 63 * writes n) × (writes n ≤ number n)
+  unfolding weightBelow countBelow
+  weight-is zero = (refl, omega arith)
+  weight-is (suc n) = go (f n) (weight-is n)
+    where
+      go : (p : Pin) → (weightBelow n f ≡ number n + 63 * writes n) × (writes n ≤ number n)
+          → (weightBelow n f + pinWeight p ≡ number n + cond (isPin p) 1 0 + 63 * (writes n + cond (isWrite p) 1 0)) × (writes n + cond (isWrite p) 1 0 ≤ number n + cond (isPin p) 1 0)
+      go Absent h = (omega (arith, h .0), omega (arith, h .1))
+      go Unpinned h = (omega (arith, h .0), omega (arith, h .1))
+      go Read h = (omega (arith, h .0), omega (arith, h .1))
+      go Write h = (omega (arith, h .0), omega (arith, h .1))
+
+  pub weight-at-most : (n : ℕ) → weightBelow n f ≤ 64 * n
+  weight-at-most n = omega (arith, weight-is n .0, weight-is n .1, count-at-most (λ row. isPin (f row)) n)
+
 module _ (f : ℕ → Pin) (n : ℕ) where
   abbrev apart : Bool
   apart = allBelow n (λ row. allBelow row (λ other. not (conflict (f row) (f other))))
-
-  abbrev wrote : Bool
-  wrote = anyBelow n (λ row. isWrite (f row))
-
-  abbrev number : ℕ
-  number = countBelow n (λ row. isPin (f row))
 
   apart-each : apart ≡ true → (i j : ℕ) → i < n → j < i → conflict (f i) (f j) ≡ false
   apart-each e i j a b =
@@ -62,38 +86,33 @@ module _ (f : ℕ → Pin) (n : ℕ) where
     ];
   }
 
-  to-test : apart ≡ true → pinsTest wrote number ≡ true
-  unfolding pinsTest
-  to-test e = go wrote refl
+  to-test : n ≤ 64 → apart ≡ true → leb (weightBelow n f) 64 ≡ true
+  to-test m e = le-leb (weightBelow n f) 64 (go (anyBelow n (λ row. isWrite (f row))) refl)
     where
-      go : (b : Bool) → wrote ≡ b → cond wrote (eqb number 1) true ≡ true
+      go : (b : Bool) → anyBelow n (λ row. isWrite (f row)) ≡ b → weightBelow n f ≤ 64
       go true q =
           let x = any-hit (λ row. isWrite (f row)) n q in
-          rw q (eq-eqb number 1 (one-count (λ row. isPin (f row)) n (only-write e (x .0) (x .1) (x .2))))
-      go false q = rw q
+          omega (arith, weight-is f n .0, weight-is f n .1, one-count (λ row. isPin (f row)) n (only-write e (x .0) (x .1) (x .2)))
+      go false q =
+          omega (arith, weight-is f n .0, count-at-most (λ row. isPin (f row)) n, count-none (λ row. isWrite (f row)) n (λ i h. any-none (λ row. isWrite (f row)) n i q h))
 
-  from-test : pinsTest wrote number ≡ true → apart ≡ true
-  unfolding pinsTest
-  from-test e = go wrote refl
-    where
-      go : (b : Bool) → wrote ≡ b → apart ≡ true
-      go true q =
-          let o = count-one (λ row. isPin (f row)) n (eqb-true number 1 (rw q at e)) in
-          each-apart (λ i j a b. no-two-pins (f i) (f j) (λ c d.
-          let x = o .only i a c in
-          let y = o .only j (omega arith) d in
-          omega arith))
-      go false q = each-apart (λ i j a b. no-write (f i) (f j) (any-none (λ row. isWrite (f row)) n i q a) (any-none (λ row. isWrite (f row)) n j q (omega arith)))
+  from-test : leb (weightBelow n f) 64 ≡ true → apart ≡ true
+  from-test e =
+      let h = leb-true (weightBelow n f) 64 e in
+      elim (ℕ-discrete (writes f n) 0) [
+        | yes z ↦ each-apart (λ i j a b. no-write (f i) (f j) (none-count (λ row. isWrite (f row)) n z i a) (none-count (λ row. isWrite (f row)) n z j (omega arith)))
+        | no z ↦
+            let o = count-one (λ row. isPin (f row)) n (omega (arith, weight-is f n .0, weight-is f n .1)) in
+            each-apart (λ i j a b. no-two-pins (f i) (f j) (λ c d.
+            let x = o .only i a c in
+            let y = o .only j (omega arith) d in
+            omega arith))
+      ]
 
-  pins-test : pinsTest wrote number ≡ apart
-  pins-test = same-truth (pinsTest wrote number) apart from-test to-test
-
-pub slot-pins : (s : State) (slot : ℕ)
-    → pinsTest (anyBelow 32 (λ row. isWrite (holdingAt s slot row .pin))) (countBelow 32 (λ row. isPin (holdingAt s slot row .pin))) ≡ soundPins s slot
+-- the pins of a slot, as the loop over its holdings leaves them
+pub pins-end : (s : State) (slot n weight : ℕ) → n ≡ 32 → weight ≡ weightBelow n (λ row. holdingAt s slot row .pin) → leb weight 64 ≡ soundPins s slot
 unfolding soundPins
-slot-pins s slot = pins-test (λ row. holdingAt s slot row .pin) 32
-
--- the same, as the loop over a slot's holdings leaves it
-pub pins-end : (s : State) (slot n : ℕ) (wrote : Bool) (number : ℕ) → n ≡ 32 → wrote ≡ anyBelow n (λ row. isWrite (holdingAt s slot row .pin)) → number ≡ countBelow n (λ row. isPin (holdingAt s slot row .pin))
-    → pinsTest wrote number ≡ soundPins s slot
-pins-end s slot n wrote number e p q = rw (p, q, e) (slot-pins s slot)
+pins-end s slot n weight e q =
+    rw (q, e)
+    (same-truth (leb (weightBelow 32 (λ row. holdingAt s slot row .pin)) 64) (apart (λ row. holdingAt s slot row .pin) 32)
+    (from-test (λ row. holdingAt s slot row .pin) 32) (to-test (λ row. holdingAt s slot row .pin) 32 (omega arith)))

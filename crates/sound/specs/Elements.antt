@@ -1,8 +1,8 @@
--- The tests of what sound means, each of one element of the state and the numbers that it is compared with.
+-- The tests of what sound means, most of one element of the state and the numbers that it is compared with.
 -- `latest` is the tick clock + delay.
-use mathlib.Core.Bool.{Bool, true, false, cond, _&&_, _||_, not}
+use mathlib.Core.Bool.{Bool, false, cond, _&&_, _||_, not}
 use mathlib.Core.List.{List}
-use Prim.Native.Nat.{ℕ}
+use Prim.Native.Nat.{ℕ, zero, suc, _+_}
 use lib.Dec.{leb, ltb, eqb}
 use lib.ListN.{getD, replicate}
 use Rattle.seq.specs.Below.{anyBelow}
@@ -11,6 +11,8 @@ use Rattle.model.specs.declared.Condition.the-variants.{Free, Idle, Fetching, W
 use Rattle.model.specs.declared.Content.{Content}
 use Rattle.model.specs.declared.Content.the-variants.{Empty, Filled}
 use Rattle.model.specs.declared.Mode.{Mode}
+use Rattle.model.specs.declared.Pin.{Pin}
+use Rattle.model.specs.declared.Pin.the-variants.{Absent, Unpinned, Read, Write}
 use Rattle.model.specs.declared.Row.{Row}
 use Rattle.model.specs.declared.Slot.{Slot}
 use Rattle.model.specs.declared.Holding.{Holding}
@@ -60,17 +62,17 @@ arrivedTest clock h = not (isHeld (h .pin)) || leb (h .arrival) clock
 unfoldable pub awaitsTest : ℕ → Holding → Bool
 awaitsTest due h = isPin (h .pin) && eqb (h .arrival) due
 
--- a fetching row: all its holdings have arrived or are awaited, and how many are awaited
+-- a fetching row, by whether all its holdings have arrived or are awaited, and how many are awaited
 unfoldable pub fetchingTest : ℕ → ℕ → ℕ → Bool → ℕ → Bool
 fetchingTest due deadline clock expected number =
     not (isPast clock deadline) && ltb clock due && eqb number 1 && expected
 
--- a waiting row: all its holdings have arrived
+-- a waiting row, by whether all its holdings have arrived
 unfoldable pub waitingTest : ℕ → Mode → ℕ → ℕ → ℕ → Bool → Bool
 waitingTest page mode deadline level clock settled =
     not (isPast clock deadline) && settled && leb page 4095 && mayAccess level page mode
 
--- a row's condition, by what its holdings are: all have arrived; all have arrived or are awaited; how many are awaited
+-- a row's condition, by whether all its holdings have arrived, whether all have arrived or are awaited, and how many are awaited
 abbrev pub conditionTest : Condition → ℕ → ℕ → ℕ → Bool → Bool → ℕ → Bool
 conditionTest Free deadline level clock settled expected number = eqb deadline 0
 conditionTest (Killed cause) deadline level clock settled expected number = eqb deadline 0
@@ -93,14 +95,20 @@ fitTest level page arrival lowest touch h latest =
 unfoldable pub heldTest : ℕ → Bool → Slot → Holding → ℕ → Bool
 heldTest level live x h latest =
     live && isFilled (x .content)
-    && pinAllowed level (pageIn (x .content)) (h .pin)
-    && leb (arrivalIn (x .content)) (h .arrival) && leb (h .arrival) latest
-    && leb (h .touch) (x .touch) && leb (lowestIn (x .content)) level
+    && fitTest level (pageIn (x .content)) (arrivalIn (x .content)) (lowestIn (x .content)) (x .touch) h latest
 
 unfoldable pub holdingTest : ℕ → Row → Slot → Holding → ℕ → Bool
 holdingTest level y x h latest =
     cond (isHeld (h .pin)) (heldTest level (isLive (y .condition)) x h latest) (eqb (h .arrival) 0 && eqb (h .touch) 0)
 
--- the pins of a slot: no write pin, or no other pin beside it
-unfoldable pub pinsTest : Bool → ℕ → Bool
-pinsTest wrote number = cond wrote (eqb number 1) true
+-- the weight of a pin: the pins of 32 rows weigh at most 64 together just where no two of them conflict
+abbrev pub pinWeight : Pin → ℕ
+pinWeight Absent = 0
+pinWeight Unpinned = 0
+pinWeight Read = 1
+pinWeight Write = 64
+
+-- what the pins of the rows below n weigh together
+unfoldable pub weightBelow : ℕ → (ℕ → Pin) → ℕ
+weightBelow zero pin = 0
+weightBelow (suc n) pin = weightBelow n pin + pinWeight (pin n)

@@ -8,30 +8,12 @@ use model::Row;
 use model::Slot;
 use model::State;
 ghost use mathlib.Core.Path.{_≡_};
-ghost use mathlib.Core.Bool.{cond, _&&_, _||_, not};
+ghost use mathlib.Core.Bool.{cond, _&&_, not};
 ghost use Prim.Native.Nat.{_+_, _<_, _≤_};
 ghost use Rattle.seq.specs.Below.{allBelow};
 ghost use Rattle.model.specs.Parties.{mayAccess};
 ghost use Rattle.rules.specs.Sound.{pinAllowed, soundSlot, soundRow, soundHolding, soundPins, sound};
-ghost use Rattle.sound.specs.Elements.{inRange, slotTest, placeIn, noPages, placeTaken, dueIn, arrivedTest, awaitsTest, fetchingTest, waitingTest, rowTest, fitTest, heldTest, holdingTest, pinsTest};
-
-fn both(a: bool, b: bool) -> bool
-    ensures { λ r. ⌜ r ≡ a && b ⌝ }
-{
-    if a {
-        return b;
-    }
-    false
-}
-
-fn either(a: bool, b: bool) -> bool
-    ensures { λ r. ⌜ r ≡ a || b ⌝ }
-{
-    if a {
-        return true;
-    }
-    b
-}
+ghost use Rattle.sound.specs.Elements.{inRange, slotTest, placeIn, noPages, placeTaken, dueIn, arrivedTest, awaitsTest, fetchingTest, waitingTest, rowTest, fitTest, heldTest, holdingTest, pinWeight};
 
 fn unless(a: bool, b: bool) -> bool
     ensures { λ r. ⌜ r ≡ a && not b ⌝ }
@@ -74,7 +56,7 @@ fn is_in_range(size: usize, delay: u32, clock: u32) -> bool
     clock <= 4000000000
 }
 
-// The tick clock + delay, which no arrival passes. It is wide, since the numbers of a state may be any.
+// The tick clock + delay, which no arrival of a sound state passes. It is wide, since the numbers of a state may be any.
 fn latest_arrival(clock: u32, delay: u32) -> u64
     ensures { λ r. ⌜ r ≡ clock + delay ⌝ }
 {
@@ -123,7 +105,7 @@ fn are_slots_sound(s: State) -> bool
     for i in 0..64usize {
         let x = slots[i];
         let t = is_slot_sound(x, i, size, clock, latest);
-        ok = both(ok, t);
+        ok = seq::both(ok, t);
     }
     ok
 }
@@ -207,7 +189,7 @@ fn is_awaited(h: Holding, due: u32) -> bool
     false
 }
 
-// A fetching row: all its holdings have arrived or are awaited, and how many are awaited.
+// A fetching row, by whether all its holdings have arrived or are awaited, and how many are awaited.
 fn is_fetching_sound(due: u32, deadline: u32, clock: u32, expected: bool, number: usize) -> bool
     ensures { λ r. ⌜ r ≡ fetchingTest due deadline clock expected number ⌝ }
 {
@@ -223,7 +205,7 @@ fn is_fetching_sound(due: u32, deadline: u32, clock: u32, expected: bool, number
     false
 }
 
-// A waiting row: all its holdings have arrived.
+// A waiting row, by whether all its holdings have arrived.
 fn is_waiting_sound(
     page: u32,
     mode: Mode,
@@ -247,7 +229,7 @@ fn is_waiting_sound(
     false
 }
 
-// A row, by what its holdings are: all have arrived; all have arrived or are awaited; how many are awaited.
+// A row, by whether all its holdings have arrived, whether all have arrived or are awaited, and how many are awaited.
 fn is_row_sound(
     x: Row,
     level: usize,
@@ -292,42 +274,7 @@ fn again(passed: bool) -> usize
     64
 }
 
-fn are_rows_sound(s: State) -> bool
-    ensures { λ r. ⌜ r ≡ allBelow 32 (soundRow s) ⌝ }
-{
-    let rows = s.rows;
-    let holdings = s.holdings;
-    let mut ok = true;
-    for r in 0..32usize {
-        let x = rows[r];
-        let c = x.condition;
-        let due = due_of(c);
-        let mut quiet = true;
-        for i in 0..64usize {
-            let h = holdings[i * 32 + r];
-            let past = h.arrival <= s.clock;
-            quiet = both(quiet, past);
-        }
-        let n = again(quiet);
-        let mut settled = true;
-        let mut expected = true;
-        let mut number: usize = 0;
-        for i in 0..n {
-            let h = holdings[i * 32 + r];
-            let here = has_arrived(h, s.clock);
-            let awaited = is_awaited(h, due);
-            let known = either(here, awaited);
-            settled = both(settled, here);
-            expected = both(expected, known);
-            number = counted(number, awaited);
-        }
-        let t = is_row_sound(x, r / 8, s.clock, settled, expected, number);
-        ok = both(ok, t);
-    }
-    ok
-}
-
-// The access rule for any page.
+// The access rule for any page number. It is computed, so that the loop over the 2,048 holdings has no table look-up.
 fn may_access(level: usize, page: u32, mode: Mode) -> bool
     ensures { λ r. ⌜ r ≡ mayAccess level page mode ⌝ }
 {
@@ -427,46 +374,72 @@ fn is_holding_sound(level: usize, y: Row, x: Slot, h: Holding, latest: u64) -> b
     false
 }
 
-// The pins of a slot, by whether one is a write pin, and their number.
-fn are_pins_sound(wrote: bool, number: usize) -> bool
-    ensures { λ r. ⌜ r ≡ pinsTest wrote number ⌝ }
+// The weight of a pin: 32 read pins weigh less than a write pin, and a write pin beside another pin more than 64.
+fn pin_weight(p: Pin) -> u32
+    ensures { λ r. ⌜ (r ≡ pinWeight p) × (r ≤ 64) ⌝ }
 {
-    if wrote {
-        return number == 1;
+    match p {
+        Pin::Absent => 0,
+        Pin::Unpinned => 0,
+        Pin::Read => 1,
+        Pin::Write => 64,
     }
-    true
 }
 
-fn are_holdings_sound(s: State) -> bool
-    ensures { λ r. ⌜ r ≡ allBelow 64 (λ slot. allBelow 32 (soundHolding s slot)) && allBelow 64 (soundPins s) ⌝ }
+// The rows, the holdings and the pins on each slot, in one function: each function over the holdings copies them.
+fn are_rows_and_holdings_sound(s: State) -> bool
+    ensures { λ r. ⌜ r ≡ allBelow 32 (soundRow s) && allBelow 64 (λ slot. allBelow 32 (soundHolding s slot)) && allBelow 64 (soundPins s) ⌝ }
 {
     let rows = s.rows;
     let slots = s.slots;
     let holdings = s.holdings;
+    let mut valid = true;
+    for r in 0..32usize {
+        let x = rows[r];
+        let c = x.condition;
+        let due = due_of(c);
+        let mut quiet = true;
+        for i in 0..64usize {
+            let h = holdings[i * 32 + r];
+            let past = h.arrival <= s.clock;
+            quiet = seq::both(quiet, past);
+        }
+        let n = again(quiet);
+        let mut settled = true;
+        let mut expected = true;
+        let mut number: usize = 0;
+        for i in 0..n {
+            let h = holdings[i * 32 + r];
+            let here = has_arrived(h, s.clock);
+            let awaited = is_awaited(h, due);
+            let known = seq::either(here, awaited);
+            settled = seq::both(settled, here);
+            expected = seq::both(expected, known);
+            number = counted(number, awaited);
+        }
+        let t = is_row_sound(x, r / 8, s.clock, settled, expected, number);
+        valid = seq::both(valid, t);
+    }
     let mut ok = true;
     let mut clear = true;
     for i in 0..64usize {
         let latest = latest_arrival(s.clock, s.delay);
         let x = slots[i];
         let mut fit = true;
-        let mut wrote = false;
-        let mut number: usize = 0;
+        let mut weight: u32 = 0;
         for r in 0..32usize {
             let h = holdings[i * 32 + r];
             let y = rows[r];
             let t = is_holding_sound(r / 8, y, x, h, latest);
             let p = h.pin;
-            let write = model::is_write(p);
-            let pin = model::is_pin(p);
-            fit = both(fit, t);
-            wrote = either(wrote, write);
-            number = counted(number, pin);
+            fit = seq::both(fit, t);
+            weight = weight + pin_weight(p);
         }
-        ok = both(ok, fit);
-        let u = are_pins_sound(wrote, number);
-        clear = both(clear, u);
+        ok = seq::both(ok, fit);
+        let light = weight <= 64;
+        clear = seq::both(clear, light);
     }
-    both(ok, clear)
+    seq::both(seq::both(valid, ok), clear)
 }
 
 // Whether the state is sound.
@@ -476,7 +449,6 @@ pub fn is_sound(s: State) -> bool
     let numbers = is_in_range(s.size, s.delay, s.clock);
     let slots = are_slots_sound(s);
     let pages = are_pages_apart(s);
-    let rows = are_rows_sound(s);
-    let holdings = are_holdings_sound(s);
-    both(both(both(both(numbers, slots), pages), rows), holdings)
+    let holdings = are_rows_and_holdings_sound(s);
+    seq::both(seq::both(seq::both(numbers, slots), pages), holdings)
 }

@@ -2,6 +2,7 @@
 use mathlib.Core.Path.{_≡_, refl, _∙_}
 use mathlib.Core.List.{List, [], _++_, append-assoc, append-nil}
 use Prim.Native.Nat.{ℕ, zero, suc, _+_, _*_, _^_, _<_, _≤_}
+use native.Mathlib.Nat.{add-zero, add-suc}
 use native.Mathlib.Omega.{arith}
 use native.Mathlib.Decide.{ℕ-discrete}
 use lib.ListN.{length, getD, take, drop, length-append, length-drop, take-append-drop}
@@ -39,6 +40,11 @@ module _ {A : Type 0} where
   unfolding joined
   joined-same zero f g h = refl
   joined-same (suc n) f g h = rw (joined-same n f g (λ i b. h i (omega arith)), h n (omega arith))
+
+  pub joined-add : (m n : ℕ) (f : ℕ → List A) → joined (m + n) f ≡ joined m f ++ joined n (λ j. f (m + j))
+  unfolding joined
+  joined-add m zero f = rw (add-zero m, append-nil)
+  joined-add m (suc n) f = rw (add-suc m n, joined-add m n f) (append-assoc (joined m f) (joined n (λ j. f (m + j))) (f (m + n)))
 
   -- the piece at i, between what stands before it and what stands after it
   pub joined-split : (n : ℕ) (f : ℕ → List A) (i : ℕ) → i < n → (r : List A) × (joined n f ≡ joined i f ++ (f i ++ r))

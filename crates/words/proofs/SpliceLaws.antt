@@ -9,7 +9,7 @@ use native.Mathlib.Omega.{arith}
 use borrow.Author.Tests.{eq-eqb, ne-eqb}
 use lib.Dec.{eqb}
 use lib.ListN.{length, getD, take, drop, set, replicate, length-append, length-take, length-drop, length-replicate, take-append-drop, replicate-append-replicate}
-use lib.Seq.{take-suc, drop-cons, take-at, drop-append-add, drop-drop, length-take-le, sets, sets-eq}
+use lib.Seq.{take-suc, drop-cons, take-at, drop-at, drop-append-add, drop-drop, length-take-le, sets, sets-eq}
 use Rattle.seq.specs.Below.{allBelow}
 use Rattle.seq.proofs.BelowLaws.{all-more, fail-all}
 use Rattle.words.specs.Bytes.{valueOf, bytesOf, wordAt, wordBytes, spliced, zeroWords, hasWords}
@@ -34,6 +34,12 @@ module _ {A : Type 0} where
       ∙ drop-drop (length ys) (at + length xs) a
       ∙ ap (λ (m : ℕ). drop m a) m in
       rw (take-at (take at a ++ xs) (drop (at + length xs) a) n t, d) (simp append-assoc)
+
+  -- a list written over one of its length that stands in the middle
+  pub spliced-middle : (p x r y : List A) (at : ℕ) → length p ≡ at → length x ≡ length y → spliced (p ++ (x ++ r)) at y ≡ p ++ (y ++ r)
+  spliced-middle p x r y at e f =
+      let d : drop (at + length y) (p ++ (x ++ r)) ≡ r = rw (← e, drop-append-add) (drop-at x r (length y) f) in
+      rw (take-at p (x ++ r) at e, d) (append-assoc p y r)
 
 pub bytes-length : (n x : ℕ) → length (bytesOf n x) ≡ n
 unfolding bytesOf

@@ -15,7 +15,7 @@ use Rattle.area.proofs.get_rows.Statement.{statement}
 use Rattle.area.proofs.get_rows.Tie as tie
 use Rattle.area.proofs.get_rows.Reads as reads
 use Rattle.area.proofs.get_rows.Lts as lts
-use Rattle.area.proofs.both.Reads as both-reads
+use Rattle.seq.proofs.both.Reads as both-reads
 use Rattle.area.proofs.free_rows.Reads as free-rows-reads
 use Rattle.area.proofs.get_row.Reads as get-row-reads
 use Rattle.area.proofs.row_words.Reads as row-words-reads

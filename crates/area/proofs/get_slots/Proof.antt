@@ -15,7 +15,7 @@ use Rattle.area.proofs.get_slots.Statement.{statement}
 use Rattle.area.proofs.get_slots.Tie as tie
 use Rattle.area.proofs.get_slots.Reads as reads
 use Rattle.area.proofs.get_slots.Lts as lts
-use Rattle.area.proofs.both.Reads as both-reads
+use Rattle.seq.proofs.both.Reads as both-reads
 use Rattle.area.proofs.empty_slots.Reads as empty-slots-reads
 use Rattle.area.proofs.get_slot.Reads as get-slot-reads
 use Rattle.area.proofs.slot_words.Reads as slot-words-reads

@@ -1,5 +1,9 @@
+use native.Mathlib.Omega.{arith}
+use Rattle.model.proofs.Ranges.{state-ok}
+use Rattle.calls.proofs.CallLaws.{refused, taken, none-applies}
+use mathlib.Core.Path.{_∙_, ap}
+use Rattle.model.specs.declared.Outcome.{Outcome}
 use Rattle.rules.specs.Calls.{counted}
-use Rattle.calls.proofs.CallLaws.{refused, taken}
 use borrow.Author.Needs.{needs}
 use Rattle.calls.proofs.count.Statement.{statement}
 use Rattle.calls.proofs.count.Tie as tie
@@ -8,19 +12,23 @@ use Rattle.calls.proofs.count.Lts as lts
 use Rattle.calls.proofs.count_refusal.Reads as count-refusal-reads
 use Rattle.calls.proofs.open_slots.Reads as open-slots-reads
 
+-- src/lib.rt:655:9
 count-refusal-requires : tie.Need-count-refusal-requires
 count-refusal-requires c κs = search needs
 
+-- src/lib.rt:657:9
 returns : tie.Need-returns
 unfolding counted
-returns c = refused _ _ _ _ (c .before .count-refusal .ensures) (c .if1 .taken)
+returns c = ap (λ (o : Outcome). o .answer) (refused _ _ _ _ (c .before .count-refusal .ensures) (c .if1 .taken))
 
+-- src/lib.rt:659:9
 open-slots-requires : tie.Need-open-slots-requires
 open-slots-requires c κs = search needs
 
+-- src/lib.rt:651:1
 returns-2 : tie.Need-returns-2
 unfolding counted
-returns-2 c = rw (c .open-slots .ensures) (taken _ _ _ _ (c .before .before .count-refusal .ensures) (c .before .if1 .left))
+returns-2 c = rw (c .open-slots .ensures) (ap (λ (o : Outcome). o .answer) (taken _ _ _ _ (c .before .before .count-refusal .ensures) (c .before .if1 .left)))
 
 pub count-spec : {M : Type 1} → statement M
 count-spec = tie.close (tie.spec count-refusal-requires returns open-slots-requires returns-2)

@@ -13,7 +13,7 @@ use Rattle.calls.proofs.open_slots.Tie as tie
 use Rattle.calls.proofs.open_slots.Reads as reads
 use Rattle.calls.proofs.open_slots.Lts as lts
 use Rattle.calls.proofs.count_open.Reads as count-open-reads
-use Rattle.serve.proofs.either.Reads as either-reads
+use Rattle.seq.proofs.either.Reads as either-reads
 use Rattle.serve.proofs.is_seen.Reads as is-seen-reads
 
 abbrev Inv-loop2 : tie.InvT-loop2

@@ -17,7 +17,7 @@ use Rattle.calls.proofs.strongest_pin.Tie as tie
 use Rattle.calls.proofs.strongest_pin.Reads as reads
 use Rattle.calls.proofs.strongest_pin.Lts as lts
 use Rattle.calls.proofs.strongest_with.Reads as strongest-with-reads
-use Rattle.serve.proofs.either.Reads as either-reads
+use Rattle.seq.proofs.either.Reads as either-reads
 use Rattle.serve.proofs.is_seen.Reads as is-seen-reads
 
 abbrev Inv-loop : tie.InvT-loop

@@ -1,4 +1,6 @@
-use Rattle.rules.specs.Calls.{unpinnedAt}
+use native.Mathlib.Omega.{arith}
+use Rattle.model.proofs.Ranges.{state-ok}
+use Rattle.calls.proofs.ReplyLaws.{unpin-changed}
 use borrow.Author.Needs.{needs}
 use Rattle.calls.proofs.unpin_at.Statement.{statement}
 use Rattle.calls.proofs.unpin_at.Tie as tie
@@ -6,69 +8,69 @@ use Rattle.calls.proofs.unpin_at.Reads as reads
 use Rattle.calls.proofs.unpin_at.Lts as lts
 use Rattle.model.proofs.is_written.Reads as is-written-reads
 use Rattle.model.proofs.marked_slot.Reads as marked-slot-reads
+use Rattle.serve.proofs.holdings_on.Reads as holdings-on-reads
 
+-- src/lib.rt:346:20
+holdings-on-requires : tie.Need-holdings-on-requires
+holdings-on-requires c κs = search needs
+
+-- src/lib.rt:347:13
 mul-h : tie.Need-mul-h
 mul-h c = search needs
 
-add-h : tie.Need-add-h
-add-h c = search needs
+-- src/lib.rt:347:13
+array-copy-out-h : tie.Need-array-copy-out-h
+array-copy-out-h c = search needs
 
-mul-h-2 : tie.Need-mul-h-2
-mul-h-2 c = search needs
-
-element-copy-out-h : tie.Need-element-copy-out-h
-element-copy-out-h c = search needs
-
+-- src/lib.rt:349:13
 mul-x : tie.Need-mul-x
 mul-x c = search needs
 
-element-copy-out-x : tie.Need-element-copy-out-x
-element-copy-out-x c = search needs
+-- src/lib.rt:349:13
+array-copy-out-x : tie.Need-array-copy-out-x
+array-copy-out-x c = search needs
 
+-- src/lib.rt:350:9
 is-written-requires : tie.Need-is-written-requires
 is-written-requires c κs = search needs
 
+-- src/lib.rt:351:9
 marked-slot-requires : tie.Need-marked-slot-requires
 marked-slot-requires c κs = search needs
 
-mul-y : tie.Need-mul-y
-mul-y c = search needs
+-- src/lib.rt:352:5
+mul-slots : tie.Need-mul-slots
+mul-slots c = search needs
 
-element-set-from-y : tie.Need-element-set-from-y
-element-set-from-y c = search needs
+-- src/lib.rt:352:5
+array-set-from-slots : tie.Need-array-set-from-slots
+array-set-from-slots c = search needs
 
-mul-t12 : tie.Need-mul-t12
-mul-t12 c = search needs
+-- src/lib.rt:353:5
+mul-held : tie.Need-mul-held
+mul-held c = search needs
 
-add-t13 : tie.Need-add-t13
-add-t13 c = search needs
+-- src/lib.rt:353:5
+array-set-from-held : tie.Need-array-set-from-held
+array-set-from-held c = search needs
 
-mul-t11 : tie.Need-mul-t11
-mul-t11 c = search needs
-
-element-set-from-t : tie.Need-element-set-from-t
-element-set-from-t c = search needs
-
+-- src/lib.rt:340:1
 returns : tie.Need-returns
-unfolding unpinnedAt
-returns c = simp (c .marked-slot .ensures, c .before .is-written .ensures)
+returns c = unpin-changed (c .before .before .before .before .before .before .before .args .s) (state-ok (c .before .before .before .before .before .before .before .args .s) _ (c .before .before .before .before .before .before .before .good .0) .sized) (c .before .before .before .before .before .before .before .args .row) (c .before .before .before .before .before .before .before .args .slot) (c .before .before .before .before .before .before .before .pre .0) (c .before .before .before .before .before .before .before .pre .1) (c .before .before .before .before .before .holdings-on .result) (c .before .is-written .result) (c .marked-slot .result) (c .before .before .before .before .before .holdings-on .ensures) (c .before .is-written .ensures) (c .marked-slot .ensures)
 
 pub unpin-at-spec : {M : Type 1} → statement M
 unpin-at-spec =
     tie.close
     (tie.spec
+    holdings-on-requires
     mul-h
-    add-h
-    mul-h-2
-    element-copy-out-h
+    array-copy-out-h
     mul-x
-    element-copy-out-x
+    array-copy-out-x
     is-written-requires
     marked-slot-requires
-    mul-y
-    element-set-from-y
-    mul-t12
-    add-t13
-    mul-t11
-    element-set-from-t
+    mul-slots
+    array-set-from-slots
+    mul-held
+    array-set-from-held
     returns)

@@ -8,7 +8,7 @@ use Rattle.choice.proofs.first_dormant.Statement.{statement}
 use Rattle.choice.proofs.first_dormant.Tie as tie
 use Rattle.choice.proofs.first_dormant.Reads as reads
 use Rattle.choice.proofs.first_dormant.Lts as lts
-use Rattle.choice.proofs.either.Reads as either-reads
+use Rattle.seq.proofs.either.Reads as either-reads
 use Rattle.choice.proofs.found_at.Reads as found-at-reads
 use Rattle.choice.proofs.is_dormant.Reads as is-dormant-reads
 use Rattle.choice.proofs.is_dormant_before.Reads as is-dormant-before-reads

@@ -3,26 +3,27 @@ use mathlib.Core.Bool.{false}
 use Prim.Native.Nat.{ℕ, _≤_, _<_, _-_}
 use native.Mathlib.Omega.{arith}
 use borrow.Author.Needs.{needs}
-use Rattle.choice.specs.Summary.{emptyIn, noOrder, pickFrom, foundAt}
+use Rattle.choice.specs.Search.{never}
+use Rattle.choice.specs.Summary.{emptyIn, pickFrom, foundAt}
 use Rattle.choice.proofs.ScanLaws.{scan-none, scan-turn, place-below}
 use Rattle.choice.proofs.first_empty.Statement.{statement}
 use Rattle.choice.proofs.first_empty.Tie as tie
 use Rattle.choice.proofs.first_empty.Reads as reads
 use Rattle.choice.proofs.first_empty.Lts as lts
-use Rattle.choice.proofs.either.Reads as either-reads
+use Rattle.seq.proofs.either.Reads as either-reads
 use Rattle.choice.proofs.found_at.Reads as found-at-reads
 use Rattle.choice.proofs.negated.Reads as negated-reads
 use Rattle.choice.proofs.place_with.Reads as place-with-reads
 
 abbrev Inv-loop : tie.InvT-loop
-Inv-loop n m some₀ at₀ i₀ some at i = (i ≤ n) × (at < 64) × (foundAt some at ≡ pickFrom m i emptyIn noOrder)
+Inv-loop n m some₀ at₀ i₀ some at i = (i ≤ n) × (at < 64) × (foundAt some at ≡ pickFrom m i emptyIn never)
 
 abbrev μ-loop : tie.MeasureT-loop
 μ-loop n m some₀ at₀ i₀ some at i = n - i
 
 -- src/lib.rt:442:5
 loop-holds : tie.Need-loop-holds Inv-loop μ-loop
-loop-holds c = (omega arith, omega arith, scan-none (c .args .t1) emptyIn noOrder)
+loop-holds c = (omega arith, omega arith, scan-none (c .args .t1) emptyIn never)
 
 -- src/lib.rt:443:17
 mul-x : tie.Need-mul-x Inv-loop μ-loop
@@ -58,7 +59,7 @@ unfolding emptyIn
 loop-again c = (
   omega arith,
   place-below (c .before .before .negated .result) (c .before .before .before .before .before .loop .some) false (c .before .before .before .before .before .loop .at) (c .before .before .before .before .before .loop .i) 64 (c .before .place-with .result) (omega arith) (omega arith) (c .before .place-with .ensures),
-  scan-turn (c .before .before .before .before .before .before .args .t1) emptyIn noOrder (c .before .before .before .before .before .loop .i) (c .before .before .before .before .before .loop .at) (c .before .place-with .result) (c .before .before .before .before .before .loop .some) (c .before .before .negated .result) false (c .either .result)
+  scan-turn (c .before .before .before .before .before .before .args .t1) emptyIn never (c .before .before .before .before .before .loop .i) (c .before .before .before .before .before .loop .at) (c .before .place-with .result) (c .before .before .before .before .before .loop .some) (c .before .before .negated .result) false (c .either .result)
       (c .before .before .before .before .before .loop .inv .2) (c .before .before .negated .ensures) refl (c .before .place-with .ensures) (c .either .ensures),
 )
 
@@ -69,7 +70,7 @@ found-at-requires c κs = search needs
 -- src/lib.rt:436:1
 returns : tie.Need-returns Inv-loop μ-loop
 returns c = let e : c .before .before .loop .i ≡ c .before .before .before .args .n = omega arith in
-    c .found-at .ensures ∙ c .before .before .loop .inv .2 ∙ ap (λ (k : ℕ). pickFrom (c .before .before .before .args .t1) k emptyIn noOrder) e
+    c .found-at .ensures ∙ c .before .before .loop .inv .2 ∙ ap (λ (k : ℕ). pickFrom (c .before .before .before .args .t1) k emptyIn never) e
 
 pub first-empty-spec : {M : Type 1} → statement M
 first-empty-spec =

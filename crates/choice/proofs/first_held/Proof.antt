@@ -2,27 +2,27 @@ use mathlib.Core.Path.{_≡_, _∙_, ap}
 use Prim.Native.Nat.{ℕ, _≤_, _<_, _-_}
 use native.Mathlib.Omega.{arith}
 use borrow.Author.Needs.{needs}
-use Rattle.choice.specs.Summary.{inClass, heldBefore, pickFrom, foundAt, heldFrom}
+use Rattle.choice.specs.Summary.{inStep, heldBefore, pickFrom, foundAt, heldFrom}
 use Rattle.choice.proofs.ScanLaws.{scan-none, scan-turn, place-below}
 use Rattle.choice.proofs.first_held.Statement.{statement}
 use Rattle.choice.proofs.first_held.Tie as tie
 use Rattle.choice.proofs.first_held.Reads as reads
 use Rattle.choice.proofs.first_held.Lts as lts
-use Rattle.choice.proofs.either.Reads as either-reads
+use Rattle.seq.proofs.either.Reads as either-reads
 use Rattle.choice.proofs.found_at.Reads as found-at-reads
 use Rattle.choice.proofs.is_held_before.Reads as is-held-before-reads
 use Rattle.choice.proofs.is_in.Reads as is-in-reads
 use Rattle.choice.proofs.place_with.Reads as place-with-reads
 
 abbrev Inv-loop : tie.InvT-loop
-Inv-loop n class top m some₀ at₀ i₀ some at i = (i ≤ n) × (at < 64) × (foundAt some at ≡ pickFrom m i (inClass class top) heldBefore)
+Inv-loop n step top m some₀ at₀ i₀ some at i = (i ≤ n) × (at < 64) × (foundAt some at ≡ pickFrom m i (inStep step top) heldBefore)
 
 abbrev μ-loop : tie.MeasureT-loop
-μ-loop n class top m some₀ at₀ i₀ some at i = n - i
+μ-loop n step top m some₀ at₀ i₀ some at i = n - i
 
 -- src/lib.rt:499:5
 loop-holds : tie.Need-loop-holds Inv-loop μ-loop
-loop-holds c = (omega arith, omega arith, scan-none (c .args .t1) (inClass (c .args .class) (c .args .top)) heldBefore)
+loop-holds c = (omega arith, omega arith, scan-none (c .args .t1) (inStep (c .args .step) (c .args .top)) heldBefore)
 
 -- src/lib.rt:500:17
 mul-x : tie.Need-mul-x Inv-loop μ-loop
@@ -69,7 +69,7 @@ loop-again : tie.Need-loop-again Inv-loop μ-loop
 loop-again c = (
   omega arith,
   place-below (c .before .before .before .is-in .result) (c .before .before .before .before .before .before .before .loop .some) (c .before .before .is-held-before .result) (c .before .before .before .before .before .before .before .loop .at) (c .before .before .before .before .before .before .before .loop .i) 64 (c .before .place-with .result) (omega arith) (omega arith) (c .before .place-with .ensures),
-  scan-turn (c .before .before .before .before .before .before .before .before .args .t1) (inClass (c .before .before .before .before .before .before .before .before .args .class) (c .before .before .before .before .before .before .before .before .args .top)) heldBefore (c .before .before .before .before .before .before .before .loop .i) (c .before .before .before .before .before .before .before .loop .at) (c .before .place-with .result) (c .before .before .before .before .before .before .before .loop .some) (c .before .before .before .is-in .result) (c .before .before .is-held-before .result) (c .either .result)
+  scan-turn (c .before .before .before .before .before .before .before .before .args .t1) (inStep (c .before .before .before .before .before .before .before .before .args .step) (c .before .before .before .before .before .before .before .before .args .top)) heldBefore (c .before .before .before .before .before .before .before .loop .i) (c .before .before .before .before .before .before .before .loop .at) (c .before .place-with .result) (c .before .before .before .before .before .before .before .loop .some) (c .before .before .before .is-in .result) (c .before .before .is-held-before .result) (c .either .result)
       (c .before .before .before .before .before .before .before .loop .inv .2) (c .before .before .before .is-in .ensures) (c .before .before .is-held-before .ensures) (c .before .place-with .ensures) (c .either .ensures),
 )
 
@@ -81,7 +81,7 @@ found-at-requires c κs = search needs
 returns : tie.Need-returns Inv-loop μ-loop
 unfolding heldFrom
 returns c = let e : c .before .before .loop .i ≡ c .before .before .before .args .n = omega arith in
-    c .found-at .ensures ∙ c .before .before .loop .inv .2 ∙ ap (λ (k : ℕ). pickFrom (c .before .before .before .args .t1) k (inClass (c .before .before .before .args .class) (c .before .before .before .args .top)) heldBefore) e
+    c .found-at .ensures ∙ c .before .before .loop .inv .2 ∙ ap (λ (k : ℕ). pickFrom (c .before .before .before .args .t1) k (inStep (c .before .before .before .args .step) (c .before .before .before .args .top)) heldBefore) e
 
 pub first-held-spec : {M : Type 1} → statement M
 first-held-spec =

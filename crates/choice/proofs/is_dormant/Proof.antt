@@ -4,7 +4,7 @@ use Rattle.choice.proofs.is_dormant.Statement.{statement}
 use Rattle.choice.proofs.is_dormant.Tie as tie
 use Rattle.choice.proofs.is_dormant.Reads as reads
 use Rattle.choice.proofs.is_dormant.Lts as lts
-use Rattle.choice.proofs.both.Reads as both-reads
+use Rattle.seq.proofs.both.Reads as both-reads
 use Rattle.choice.proofs.negated.Reads as negated-reads
 
 -- src/lib.rt:351:20

@@ -3,7 +3,7 @@ use Rattle.choice.proofs.is_in.Statement.{statement}
 use Rattle.choice.proofs.is_in.Tie as tie
 use Rattle.choice.proofs.is_in.Reads as reads
 use Rattle.choice.proofs.is_in.Lts as lts
-use Rattle.choice.proofs.both.Reads as both-reads
+use Rattle.seq.proofs.both.Reads as both-reads
 use Rattle.choice.proofs.negated.Reads as negated-reads
 
 -- src/lib.rt:359:9

@@ -5,7 +5,7 @@ use Rattle.choice.proofs.is_worse.Statement.{statement}
 use Rattle.choice.proofs.is_worse.Tie as tie
 use Rattle.choice.proofs.is_worse.Reads as reads
 use Rattle.choice.proofs.is_worse.Lts as lts
-use Rattle.choice.proofs.both.Reads as both-reads
+use Rattle.seq.proofs.both.Reads as both-reads
 use Rattle.model.proofs.is_better.Reads as is-better-reads
 
 -- src/lib.rt:391:8

@@ -4,7 +4,7 @@ use Rattle.choice.proofs.join_level.Statement.{statement}
 use Rattle.choice.proofs.join_level.Tie as tie
 use Rattle.choice.proofs.join_level.Reads as reads
 use Rattle.choice.proofs.join_level.Lts as lts
-use Rattle.choice.proofs.either.Reads as either-reads
+use Rattle.seq.proofs.either.Reads as either-reads
 use Rattle.choice.proofs.larger.Reads as larger-reads
 
 -- src/lib.rt:132:9

@@ -9,7 +9,7 @@ use Rattle.choice.proofs.top_level.Statement.{statement}
 use Rattle.choice.proofs.top_level.Tie as tie
 use Rattle.choice.proofs.top_level.Reads as reads
 use Rattle.choice.proofs.top_level.Lts as lts
-use Rattle.choice.proofs.either.Reads as either-reads
+use Rattle.seq.proofs.either.Reads as either-reads
 use Rattle.choice.proofs.is_higher.Reads as is-higher-reads
 use Rattle.choice.proofs.place_with.Reads as place-with-reads
 

@@ -1,25 +1,29 @@
+use mathlib.Core.Path.{_∙_, ap}
+use mathlib.Core.Bool.{Bool, _||_}
 use borrow.Author.Needs.{needs}
 use Rattle.model.proofs.wrote_also.Statement.{statement}
 use Rattle.model.proofs.wrote_also.Tie as tie
 use Rattle.model.proofs.wrote_also.Reads as reads
 use Rattle.model.proofs.wrote_also.Lts as lts
 use Rattle.model.proofs.is_written.Reads as is-written-reads
+use Rattle.seq.proofs.both.Reads as both-reads
+use Rattle.seq.proofs.either.Reads as either-reads
 
--- src/lib.rt:341:9
-returns : tie.Need-returns
-returns c = search needs
-
--- src/lib.rt:344:9
+-- src/lib.rt:371:32
 is-written-requires : tie.Need-is-written-requires
 is-written-requires c κs = search needs
 
--- src/lib.rt:344:9
-returns-2 : tie.Need-returns-2
-returns-2 c = simp (c .before .before .if1 .left, c .before .if2 .taken, c .is-written .ensures)
+-- src/lib.rt:371:9
+both-requires : tie.Need-both-requires
+both-requires c κs = search needs
 
--- src/lib.rt:337:1
-returns-3 : tie.Need-returns-3
-returns-3 c = search needs
+-- src/lib.rt:372:5
+either-requires : tie.Need-either-requires
+either-requires c κs = search needs
+
+-- src/lib.rt:368:1
+returns : tie.Need-returns
+returns c = c .either .ensures ∙ ap (λ (b : Bool). c .before .before .before .args .wrote || b) (simp (c .before .both .ensures, c .before .before .is-written .ensures))
 
 pub wrote-also-spec : {M : Type 1} → statement M
-wrote-also-spec = tie.close (tie.spec returns is-written-requires returns-2 returns-3)
+wrote-also-spec = tie.close (tie.spec is-written-requires both-requires either-requires returns)

@@ -24,7 +24,7 @@ add-count c = omega arith
 -- src/lib.rt:478:5
 loop-holds : tie.Need-loop-holds Inv-loop μ-loop
 unfolding records
-loop-holds c = (omega arith, refl, refl, refl, upto-none (c .before .before .before .args .turn) (c .before .before .before .args .area .now) (c .before .before .before .args .bytes .now) (c .before .before .before .args .out .now))
+loop-holds c = (omega arith, refl, refl, refl, upto-none (c .before .before .before .args .progress) (c .before .before .before .args .area .now) (c .before .before .before .args .bytes .now) (c .before .before .before .args .out .now))
 
 -- src/lib.rt:479:41
 record-at-requires : tie.Need-record-at-requires Inv-loop μ-loop
@@ -34,7 +34,7 @@ record-at-requires c κs = omega arith
 -- src/lib.rt:479:13
 play-one-requires : tie.Need-play-one-requires Inv-loop μ-loop
 unfolding records
-play-one-requires c κs = let u = upto-room (c .before .before .before .before .before .before .before .before .args .turn) (c .before .before .before .before .before .before .before .before .args .area .now) (c .before .before .before .before .before .before .before .before .args .bytes .now) (c .before .before .before .before .before .before .before .before .args .out .now) (c .before .before .before .before .loop .i) (c .before .before .before .before .loop .next) (c .before .before .before .before .loop .area) (c .before .before .before .before .loop .out) (c .before .before .before .before .loop .at) (c .before .before .before .before .loop .inv .4) in (omega (arith, u .1, c .before .before .before .before .before .before .before .before .pre .0), omega (arith, u .0, c .before .before .before .before .before .before .before .before .pre .1))
+play-one-requires c κs = let u = upto-room (c .before .before .before .before .before .before .before .before .args .progress) (c .before .before .before .before .before .before .before .before .args .area .now) (c .before .before .before .before .before .before .before .before .args .bytes .now) (c .before .before .before .before .before .before .before .before .args .out .now) (c .before .before .before .before .loop .i) (c .before .before .before .before .loop .next) (c .before .before .before .before .loop .area) (c .before .before .before .before .loop .out) (c .before .before .before .before .loop .at) (c .before .before .before .before .loop .inv .4) in (omega (arith, u .1, c .before .before .before .before .before .before .before .before .pre .0), omega (arith, u .0, c .before .before .before .before .before .before .before .before .pre .1))
 
 -- src/lib.rt:478:9
 add-i : tie.Need-add-i Inv-loop μ-loop
@@ -51,9 +51,9 @@ loop-again c = (
   c .before .before .before .before .before .before .before .before .before .before .loop .inv .1,
   c .before .before .before .before .before .play-one .kept .0 ∙ c .before .before .before .before .before .before .before .before .before .before .loop .inv .2,
   c .before .before .before .before .before .play-one .kept .1 .1 .1 .0 ∙ c .before .before .before .before .before .before .before .before .before .before .loop .inv .3,
-  upto-more (c .before .before .before .before .before .before .before .before .before .before .before .before .before .before .args .turn) (c .before .before .before .before .before .before .before .before .before .before .before .before .before .before .args .area .now) (c .before .before .before .before .before .before .before .before .before .before .before .before .before .before .args .bytes .now) (c .before .before .before .before .before .before .before .before .before .before .before .before .before .before .args .out .now) (c .before .before .before .before .before .before .before .before .before .before .loop .i) (c .before .before .before .before .before .before .before .before .before .before .loop .next) (c .before .before .before .before .before .before .before .before .before .before .loop .area) (c .before .before .before .before .before .before .before .before .before .before .loop .out) (c .before .before .before .before .before .before .before .before .before .before .loop .at) (c .before .before .before .before .before .before .before .before .before .before .loop .inv .4)
-      (omega (arith, c .before .before .before .before .before .before .before .before .before .before .before .before .before .before .pre .1, c .before .before .before .before .before .before .before .before .before .before .loop .inv .1)) _ (c .before .before .before .before .before .before .before .record-at .ensures) (c .before .before .before .before .before .play-one .result .turn) (c .before .before .before .before .before .play-one .last .0) (c .before .before .before .before .before .play-one .last .1 .1 .1 .0) (c .before .before .before .before .before .play-one .result .end)
-      (record { turn-is = c .before .before .before .before .before .play-one .ensures .0; area-is = c .before .before .before .before .before .play-one .ensures .1 .0; text-is = c .before .before .before .before .before .play-one .ensures .1 .1 }),
+  upto-more (c .before .before .before .before .before .before .before .before .before .before .before .before .before .before .args .progress) (c .before .before .before .before .before .before .before .before .before .before .before .before .before .before .args .area .now) (c .before .before .before .before .before .before .before .before .before .before .before .before .before .before .args .bytes .now) (c .before .before .before .before .before .before .before .before .before .before .before .before .before .before .args .out .now) (c .before .before .before .before .before .before .before .before .before .before .loop .i) (c .before .before .before .before .before .before .before .before .before .before .loop .next) (c .before .before .before .before .before .before .before .before .before .before .loop .area) (c .before .before .before .before .before .before .before .before .before .before .loop .out) (c .before .before .before .before .before .before .before .before .before .before .loop .at) (c .before .before .before .before .before .before .before .before .before .before .loop .inv .4)
+      (omega (arith, c .before .before .before .before .before .before .before .before .before .before .before .before .before .before .pre .1, c .before .before .before .before .before .before .before .before .before .before .loop .inv .1)) _ (c .before .before .before .before .before .before .before .record-at .ensures) (c .before .before .before .before .before .play-one .result .progress) (c .before .before .before .before .before .play-one .last .0) (c .before .before .before .before .before .play-one .last .1 .1 .1 .0) (c .before .before .before .before .before .play-one .result .end)
+      (record { progress-is = c .before .before .before .before .before .play-one .ensures .0; area-is = c .before .before .before .before .before .play-one .ensures .1 .0; text-is = c .before .before .before .before .before .play-one .ensures .1 .1 }),
 )
 
 -- src/lib.rt:469:1
@@ -66,7 +66,7 @@ same-length-2 c = c .before .loop .inv .3
 
 -- src/lib.rt:469:1
 returns : tie.Need-returns Inv-loop μ-loop
-returns c = let e : c .before .loop .i ≡ records (c .before .before .before .before .before .args .bytes .now) = omega (arith, c .before .loop .inv .1) in (rw (← e) (c .before .loop .inv .4 .turn-is), (rw (← e) (c .before .loop .inv .4 .area-is), rw (← e) (c .before .loop .inv .4 .text-is)))
+returns c = let e : c .before .loop .i ≡ records (c .before .before .before .before .before .args .bytes .now) = omega (arith, c .before .loop .inv .1) in (rw (← e) (c .before .loop .inv .4 .progress-is), (rw (← e) (c .before .loop .inv .4 .area-is), rw (← e) (c .before .loop .inv .4 .text-is)))
 
 pub play-spec : {M : Type 1} → statement M
 play-spec =

@@ -6,13 +6,13 @@ use Rattle.record.proofs.play_one.Reads as reads
 use Rattle.record.proofs.play_one.Lts as lts
 use Rattle.record.proofs.admit.Reads as admit-reads
 use Rattle.record.proofs.make_call.Reads as make-call-reads
-use Rattle.record.proofs.next_turn.Reads as next-turn-reads
+use Rattle.record.proofs.next_progress.Reads as next-progress-reads
 use Rattle.record.proofs.put_line.Reads as put-line-reads
 use Rattle.record.proofs.read_record.Reads as read-record-reads
 
 -- src/lib.rt:443:9
 returns : tie.Need-returns
-returns c = let o = one-over (c .before .before .before .before .args .turn) (c .before .before .before .before .args .area .now) (c .before .before .before .before .args .bytes .now) (c .before .before .before .before .args .out .now) (c .before .before .before .before .args .at) (c .if1 .taken) in (o .turn-is, (o .area-is, o .text-is))
+returns c = let o = one-over (c .before .before .before .before .args .progress) (c .before .before .before .before .args .area .now) (c .before .before .before .before .args .bytes .now) (c .before .before .before .before .args .out .now) (c .before .before .before .before .args .at) (c .if1 .taken) in (o .progress-is, (o .area-is, o .text-is))
 
 -- src/lib.rt:447:32
 read-record-requires : tie.Need-read-record-requires
@@ -31,12 +31,12 @@ put-line-requires : tie.Need-put-line-requires
 put-line-requires c κs = search needs
 
 -- src/lib.rt:451:39
-array-read-next-turn : tie.Need-array-read-next-turn
-array-read-next-turn c = search needs
+array-read-next-progress : tie.Need-array-read-next-progress
+array-read-next-progress c = search needs
 
 -- src/lib.rt:451:9
-next-turn-requires : tie.Need-next-turn-requires
-next-turn-requires c κs = search needs
+next-progress-requires : tie.Need-next-progress-requires
+next-progress-requires c κs = search needs
 
 -- src/lib.rt:436:1
 same-length : tie.Need-same-length
@@ -49,10 +49,10 @@ same-length-2 c = search needs
 -- src/lib.rt:436:1
 returns-2 : tie.Need-returns-2
 returns-2 c =
-    let o = one-played (c .before .before .before .before .before .before .before .before .before .before .before .before .before .before .before .before .args .turn) (c .before .before .before .before .before .before .before .before .before .before .before .before .before .before .before .before .args .area .now) (c .before .before .before .before .before .before .before .before .before .before .before .before .before .before .before .before .args .bytes .now) (c .before .before .before .before .before .before .before .before .before .before .before .before .before .before .before .before .args .out .now) (c .before .before .before .before .before .before .before .before .before .before .before .before .before .before .before .before .args .at)
-    (c .before .before .before .before .before .before .before .before .before .before .before .read-record .result) (c .before .before .before .before .before .before .before .before .before .before .admit .result) (c .before .before .before .before .before .before .before .make-call .last .1 .1 .0) (c .before .before .before .before .before .before .before .make-call .last .0) (c .before .before .before .put-line .last .0) (c .before .before .before .put-line .result) (c .next-turn .result)
-    (c .before .before .before .before .before .before .before .before .before .before .before .before .if1 .left) (c .before .before .before .before .before .before .before .before .before .before .before .read-record .ensures) (c .before .before .before .before .before .before .before .before .before .before .admit .ensures) (c .before .before .before .before .before .before .before .make-call .ensures .1 .0) (c .before .before .before .before .before .before .before .make-call .ensures .1 .1) (c .before .before .before .put-line .ensures) (c .next-turn .ensures) in
-    (o .turn-is, (o .area-is, o .text-is))
+    let o = one-played (c .before .before .before .before .before .before .before .before .before .before .before .before .before .before .before .before .args .progress) (c .before .before .before .before .before .before .before .before .before .before .before .before .before .before .before .before .args .area .now) (c .before .before .before .before .before .before .before .before .before .before .before .before .before .before .before .before .args .bytes .now) (c .before .before .before .before .before .before .before .before .before .before .before .before .before .before .before .before .args .out .now) (c .before .before .before .before .before .before .before .before .before .before .before .before .before .before .before .before .args .at)
+    (c .before .before .before .before .before .before .before .before .before .before .before .read-record .result) (c .before .before .before .before .before .before .before .before .before .before .admit .result) (c .before .before .before .before .before .before .before .make-call .last .1 .1 .0) (c .before .before .before .before .before .before .before .make-call .last .0) (c .before .before .before .put-line .last .0) (c .before .before .before .put-line .result) (c .next-progress .result)
+    (c .before .before .before .before .before .before .before .before .before .before .before .before .if1 .left) (c .before .before .before .before .before .before .before .before .before .before .before .read-record .ensures) (c .before .before .before .before .before .before .before .before .before .before .admit .ensures) (c .before .before .before .before .before .before .before .make-call .ensures .1 .0) (c .before .before .before .before .before .before .before .make-call .ensures .1 .1) (c .before .before .before .put-line .ensures) (c .next-progress .ensures) in
+    (o .progress-is, (o .area-is, o .text-is))
 
 pub play-one-spec : {M : Type 1} → statement M
 play-one-spec =
@@ -63,8 +63,8 @@ play-one-spec =
     admit-requires
     make-call-requires
     put-line-requires
-    array-read-next-turn
-    next-turn-requires
+    array-read-next-progress
+    next-progress-requires
     same-length
     same-length-2
     returns-2)

@@ -1,40 +1,42 @@
 use mathlib.Core.Path.{_≡_, refl, _∙_, sym, ap}
 use mathlib.Core.Bool.{cond}
+use native.Mathlib.Omega.{arith}
+use lib.ListN.{length}
 use Rattle.sabre.proofs.CallLaws.{finish-refused, finish-left}
 use borrow.Author.Needs.{needs}
 use Rattle.sabre.proofs.finish.Statement.{statement}
 use Rattle.sabre.proofs.finish.Tie as tie
 use Rattle.sabre.proofs.finish.Reads as reads
 use Rattle.sabre.proofs.finish.Lts as lts
-use Rattle.area.proofs.encode.Reads as encode-reads
+use Rattle.area.proofs.amend.Reads as amend-reads
 use Rattle.sabre.proofs.is_refused.Reads as is-refused-reads
 use Rattle.sabre.proofs.tell.Reads as tell-reads
 
--- src/lib.rt:159:9
+-- src/lib.rt:160:9
 tell-requires : tie.Need-tell-requires
 tell-requires c κs = search needs
 
--- src/lib.rt:160:8
+-- src/lib.rt:161:8
 is-refused-requires : tie.Need-is-refused-requires
 is-refused-requires c κs = search needs
 
--- src/lib.rt:161:9
+-- src/lib.rt:162:9
 returns : tie.Need-returns
-returns c = (c .before .before .tell .ensures .0, c .before .before .tell .ensures .1, finish-refused (c .before .before .before .before .before .args .o .answer) _ _ _ (c .before .is-refused .ensures) (c .if1 .taken))
+returns c = (c .before .before .tell .ensures .0, c .before .before .tell .ensures .1, finish-refused (c .before .before .before .before .before .args .r .answer) _ _ _ (c .before .is-refused .ensures) (c .if1 .taken))
 
--- src/lib.rt:164:5
-encode-requires : tie.Need-encode-requires
-encode-requires c κs = search needs
+-- src/lib.rt:165:5
+amend-requires : tie.Need-amend-requires
+amend-requires c κs = c .before .before .before .before .before .before .before .pre .0
 
--- src/lib.rt:154:1
+-- src/lib.rt:155:1
 same-length : tie.Need-same-length
 same-length c = search needs
 
--- src/lib.rt:154:1
+-- src/lib.rt:155:1
 returns-2 : tie.Need-returns-2
-returns-2 c = (c .before .before .before .before .before .before .before .tell .ensures .0, c .before .before .before .before .before .before .before .tell .ensures .1, finish-left (c .before .before .before .before .before .before .before .before .before .before .args .o .answer) _ _ _ _ (c .before .before .before .before .before .before .is-refused .ensures) (c .before .before .before .before .before .if1 .left) (c .before .before .encode .ensures))
+returns-2 c = (c .before .before .before .before .before .before .before .tell .ensures .0, c .before .before .before .before .before .before .before .tell .ensures .1, finish-left (c .before .before .before .before .before .before .before .before .before .before .args .r .answer) _ _ _ _ (c .before .before .before .before .before .before .is-refused .ensures) (c .before .before .before .before .before .if1 .left) (c .before .before .amend .ensures))
 
 pub finish-spec : {M : Type 1} → statement M
 finish-spec =
     tie.close
-    (tie.spec tell-requires is-refused-requires returns encode-requires same-length returns-2)
+    (tie.spec tell-requires is-refused-requires returns amend-requires same-length returns-2)

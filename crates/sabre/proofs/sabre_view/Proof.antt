@@ -1,10 +1,10 @@
-use Rattle.rules.specs.Run.{outcome, view}
+use native.Mathlib.Omega.{arith}
 use mathlib.Core.Path.{_≡_, refl, _∙_, sym, ap}
 use mathlib.Core.Bool.{not}
-use lib.ListN.{length, length-append}
-use Rattle.sabre.proofs.CallLaws.{short-unsound, Promise, refused-1, finished, sound-state, fits-clock, answered-slot, on-area}
-use Rattle.rules.specs.Run.{view}
+use lib.ListN.{length}
+use Rattle.rules.specs.Run.{outcome, view}
 use Rattle.sabre.specs.Lent.{unfit}
+use Rattle.sabre.proofs.CallLaws.{short-unsound, refused-1, sound-state, fits-clock, answered-slot, answered}
 use borrow.Author.Needs.{needs}
 use Rattle.sabre.proofs.sabre_view.Statement.{statement}
 use Rattle.sabre.proofs.sabre_view.Tie as tie
@@ -26,28 +26,27 @@ returns c =
     let p = refused-1 (c .before .before .before .before .args .area .now) (view (c .before .before .before .before .args .level) (c .before .before .before .before .args .page)) _ _ (rw (short-unsound (c .before .before .before .before .args .area .now) (c .before .before .if1 .taken))) (c .refuse .ensures .0) (c .refuse .ensures .1) in
     (p .returned, p .told)
 
--- src/lib.rt:340:9
+-- src/lib.rt:341:9
 decode-requires : tie.Need-decode-requires
 decode-requires c κs = search needs
 
 -- src/lib.rt:343:13
 view-requires : tie.Need-view-requires
-view-requires c κs = fits-clock (c .before .before .decode .result .state) (sound-state (c .before .before .before .before .before .args .area .now) (c .before .before .decode .result .state) (c .before .before .decode .ensures .0) (sym (c .before .before .decode .ensures .1) ∙ c .before .if2 .taken)) .0
+view-requires c κs = (fits-clock (c .before .decode .result) (sound-state (c .before .before .before .before .before .args .area .now) (c .before .decode .result) (c .before .decode .ensures .0) (sym (c .before .decode .ensures .1) ∙ c .if2 .taken))) .0
 
--- src/lib.rt:345:9
+-- src/lib.rt:344:9
 tell-requires : tie.Need-tell-requires
 unfolding outcome
-tell-requires c κs = answered-slot (c .before .before .before .before .before .before .before .args .area .now) (view (c .before .before .before .before .before .before .before .args .level) (c .before .before .before .before .before .before .before .args .page)) (c .before .before .before .before .decode .result .state) _ (c .before .before .before .before .decode .ensures .0) (sym (c .before .before .before .before .decode .ensures .1) ∙ c .before .before .before .if2 .taken) (c .before .view .ensures)
+tell-requires c κs = answered-slot (c .before .before .before .before .before .before .before .args .area .now) (view (c .before .before .before .before .before .before .before .args .level) (c .before .before .before .before .before .before .before .args .page)) (c .before .before .before .decode .result) (c .before .before .before .decode .ensures .0) (c .before .view .result) (sym (c .before .before .before .decode .ensures .1) ∙ c .before .before .if2 .taken) (c .before .view .ensures)
 
--- src/lib.rt:345:9
+-- src/lib.rt:344:9
 returns-2 : tie.Need-returns-2
 unfolding unfit outcome
 returns-2 c =
-    let h = sym (c .before .before .before .before .before .decode .ensures .1) ∙ c .before .before .before .before .if2 .taken in
-    let p = finished (c .before .before .before .before .before .before .before .before .args .area .now) (view (c .before .before .before .before .before .before .before .before .args .level) (c .before .before .before .before .before .before .before .before .args .page)) (c .before .before .view .result) _ _ _ (rw h) (on-area (c .before .before .before .before .before .before .before .before .args .area .now) (view (c .before .before .before .before .before .before .before .before .args .level) (c .before .before .before .before .before .before .before .before .args .page)) (c .before .before .before .before .before .decode .result .state) _ (c .before .before .before .before .before .decode .ensures .0) (c .before .before .view .ensures)) (c .tell .ensures .0) (c .tell .ensures .1) refl in
-    (p .returned, p .told)
+    let h = sym (c .before .before .before .before .decode .ensures .1) ∙ c .before .before .before .if2 .taken in
+    answered (c .before .before .before .before .before .before .before .before .args .area .now) (view (c .before .before .before .before .before .before .before .before .args .level) (c .before .before .before .before .before .before .before .before .args .page)) (c .before .before .before .before .decode .result) (c .before .before .before .before .decode .ensures .0) (c .before .before .view .result) _ _ (rw h) (c .before .before .view .ensures) (c .tell .ensures .0) (c .tell .ensures .1)
 
--- src/lib.rt:347:5
+-- src/lib.rt:346:5
 refuse-requires-2 : tie.Need-refuse-requires-2
 refuse-requires-2 c κs = search needs
 
@@ -55,7 +54,7 @@ refuse-requires-2 c κs = search needs
 returns-3 : tie.Need-returns-3
 unfolding unfit
 returns-3 c =
-    let p = refused-1 (c .before .before .before .before .before .before .args .area .now) (view (c .before .before .before .before .before .before .args .level) (c .before .before .before .before .before .before .args .page)) _ _ (rw (sym (c .before .before .before .decode .ensures .1) ∙ c .before .before .if2 .left)) (c .refuse2 .ensures .0) (c .refuse2 .ensures .1) in
+    let p = refused-1 (c .before .before .before .before .before .before .before .args .area .now) (view (c .before .before .before .before .before .before .before .args .level) (c .before .before .before .before .before .before .before .args .page)) _ _ (rw (sym (c .before .before .before .decode .ensures .1) ∙ c .before .before .if2 .left)) (c .refuse2 .ensures .0) (c .refuse2 .ensures .1) in
     (p .returned, p .told)
 
 pub sabre-view-spec : {M : Type 1} → statement M

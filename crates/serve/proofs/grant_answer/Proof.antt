@@ -5,12 +5,10 @@ use Rattle.serve.proofs.grant_answer.Tie as tie
 use Rattle.serve.proofs.grant_answer.Reads as reads
 use Rattle.serve.proofs.grant_answer.Lts as lts
 
--- src/lib.rt:299:9
 returns : tie.Need-returns
 unfolding grantedAnswer
 returns c = simp (tests, c .if1 .taken)
 
--- src/lib.rt:295:1
 returns-2 : tie.Need-returns-2
 unfolding grantedAnswer
 returns-2 c = simp (tests, c .if1 .left)

@@ -5,12 +5,10 @@ use Rattle.serve.proofs.grant_row.Tie as tie
 use Rattle.serve.proofs.grant_row.Reads as reads
 use Rattle.serve.proofs.grant_row.Lts as lts
 
--- src/lib.rt:283:9
 returns : tie.Need-returns
 unfolding grantedRow
 returns c = simp (tests, c .if1 .taken)
 
--- src/lib.rt:279:1
 returns-2 : tie.Need-returns-2
 unfolding grantedRow
 returns-2 c = simp (tests, c .if1 .left)

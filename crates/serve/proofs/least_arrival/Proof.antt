@@ -13,7 +13,7 @@ use Rattle.serve.proofs.least_arrival.Statement.{statement}
 use Rattle.serve.proofs.least_arrival.Tie as tie
 use Rattle.serve.proofs.least_arrival.Reads as reads
 use Rattle.serve.proofs.least_arrival.Lts as lts
-use Rattle.serve.proofs.either.Reads as either-reads
+use Rattle.seq.proofs.either.Reads as either-reads
 use Rattle.serve.proofs.is_seen.Reads as is-seen-reads
 use Rattle.serve.proofs.lesser_arrival.Reads as lesser-arrival-reads
 

@@ -5,22 +5,18 @@ use Rattle.serve.proofs.lesser_arrival.Tie as tie
 use Rattle.serve.proofs.lesser_arrival.Reads as reads
 use Rattle.serve.proofs.lesser_arrival.Lts as lts
 
--- src/lib.rt:78:17
 returns : tie.Need-returns
 unfolding lesser
 returns c = simp (tests, c .if3 .taken, c .before .if2 .taken, c .before .before .if1 .taken)
 
--- src/lib.rt:80:13
 returns-2 : tie.Need-returns-2
 unfolding lesser
 returns-2 c = simp (tests, c .if3 .left, c .before .if2 .taken, c .before .before .if1 .taken)
 
--- src/lib.rt:82:9
 returns-3 : tie.Need-returns-3
 unfolding lesser
 returns-3 c = simp (c .if2 .left, c .before .if1 .taken)
 
--- src/lib.rt:72:1
 returns-4 : tie.Need-returns-4
 unfolding lesser
 returns-4 c = simp (c .if1 .left)

@@ -12,7 +12,7 @@ use Rattle.serve.proofs.must_wait.Statement.{statement}
 use Rattle.serve.proofs.must_wait.Tie as tie
 use Rattle.serve.proofs.must_wait.Reads as reads
 use Rattle.serve.proofs.must_wait.Lts as lts
-use Rattle.serve.proofs.either.Reads as either-reads
+use Rattle.seq.proofs.either.Reads as either-reads
 use Rattle.serve.proofs.is_barred.Reads as is-barred-reads
 
 abbrev Inv-loop : tie.InvT-loop

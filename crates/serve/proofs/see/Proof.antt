@@ -10,7 +10,7 @@ use Rattle.serve.proofs.see.Statement.{statement}
 use Rattle.serve.proofs.see.Tie as tie
 use Rattle.serve.proofs.see.Reads as reads
 use Rattle.serve.proofs.see.Lts as lts
-use Rattle.serve.proofs.either.Reads as either-reads
+use Rattle.seq.proofs.either.Reads as either-reads
 use Rattle.serve.proofs.is_seen.Reads as is-seen-reads
 
 abbrev Inv-loop : tie.InvT-loop

@@ -1,20 +1,25 @@
 use native.Mathlib.Omega.{arith}
+use Rattle.model.proofs.Ranges.{state-ok}
+use Rattle.serve.proofs.ReplyLaws.{leaving, taken-slot}
+use Rattle.serve.proofs.ServeLaws.{found-at, chosen-at, serve-wait, serve-into, serve-plan-wait, serve-plan-grant}
 use borrow.Author.Needs.{needs}
-use Rattle.serve.proofs.ServeLaws.{found-at, chosen-at, serve-wait, serve-into, serve-one, serve-two, serve-three}
 use Rattle.serve.proofs.serve.Statement.{statement}
 use Rattle.serve.proofs.serve.Tie as tie
 use Rattle.serve.proofs.serve.Reads as reads
 use Rattle.serve.proofs.serve.Lts as lts
 use Rattle.choice.proofs.choose.Reads as choose-reads
 use Rattle.choice.proofs.find_page.Reads as find-page-reads
+use Rattle.model.proofs.released_slots.Reads as released-slots-reads
+use Rattle.serve.proofs.grant.Reads as grant-reads
 use Rattle.serve.proofs.holdings_on.Reads as holdings-on-reads
 use Rattle.serve.proofs.into_slot.Reads as into-slot-reads
-use Rattle.serve.proofs.see.Reads as see-reads
-use Rattle.serve.proofs.see_dormant.Reads as see-dormant-reads
-use Rattle.serve.proofs.step_one.Reads as step-one-reads
-use Rattle.serve.proofs.step_three.Reads as step-three-reads
-use Rattle.serve.proofs.step_two.Reads as step-two-reads
+use Rattle.serve.proofs.pin_marks.Reads as pin-marks-reads
+use Rattle.serve.proofs.plan_steps.Reads as plan-steps-reads
+use Rattle.serve.proofs.take_rows.Reads as take-rows-reads
 use Rattle.serve.proofs.wait.Reads as wait-reads
+
+add-due : tie.Need-add-due
+add-due c = search needs
 
 find-page-requires : tie.Need-find-page-requires
 find-page-requires c κs = search needs
@@ -38,51 +43,58 @@ wait-requires : tie.Need-wait-requires
 wait-requires c κs = search needs
 
 returns : tie.Need-returns
-returns c = serve-wait (c .before .before .before .before .before .before .before .args .t1) (c .before .before .before .before .before .before .before .args .row) (c .before .before .before .before .before .before .before .args .page) (c .before .before .before .before .before .before .before .args .mode) (c .before .before .before .before .before .before .find-page .result) (c .before .before .before .before .before .before .find-page .ensures) (c .before .before .before .before .enum-told .given .1) (c .before .before .before .choose .result) (c .before .before .before .choose .ensures) (c .wait .result) (c .before .enum-told2 .given .1) (c .wait .ensures)
-
-into-slot-requires : tie.Need-into-slot-requires
-into-slot-requires c κs = (chosen-at (c .before .before .before .before .before .before .before .args .t1) (c .before .before .before .before .before .before .before .args .row) (c .before .before .before .before .before .before .before .args .page) (c .before .before .before .before .before .before .before .args .mode) (c .before .before .before .choose .result) (c .before .chosen .given .0 .0) (c .before .before .before .before .before .before .before .pre .0) (c .before .before .before .choose .ensures) (c .before .chosen .given .1), c .before .before .before .before .before .before .before .pre .1, c .before .before .before .before .before .before .before .pre .2)
-
-returns-2 : tie.Need-returns-2
-returns-2 c = serve-into (c .before .before .before .before .before .before .before .before .args .t1) (c .before .before .before .before .before .before .before .before .args .row) (c .before .before .before .before .before .before .before .before .args .page) (c .before .before .before .before .before .before .before .before .args .mode) (c .before .before .before .before .before .before .before .find-page .result) (c .before .before .before .before .before .before .before .find-page .ensures) (c .before .before .before .before .before .enum-told .given .1) (c .before .before .before .before .choose .result) (c .before .before .before .before .choose .ensures) (c .into-slot .result) (c .before .before .chosen .given .0 .0) (c .before .before .chosen .given .1) (c .into-slot .ensures)
+returns c = serve-wait (c .before .before .before .before .before .before .before .before .before .before .args .s) (c .before .before .before .before .before .before .before .before .before .before .args .row) (c .before .before .before .before .before .before .before .before .before .before .args .page) (c .before .before .before .before .before .before .before .before .before .before .args .mode) (state-ok (c .before .before .before .before .before .before .before .before .before .before .args .s) _ (c .before .before .before .before .before .before .before .before .before .before .good .0) .sized) (c .before .before .before .before .before .before .find-page .result) (c .before .before .before .before .before .before .find-page .ensures) (c .before .before .before .before .enum-told .given .1) (c .before .before .before .choose .result) (c .before .before .before .choose .ensures) (c .before .enum-told2 .given .1) (c .wait .result) (c .wait .ensures)
 
 holdings-on-requires : tie.Need-holdings-on-requires
-holdings-on-requires c κs = found-at (c .before .before .before .before .args .t1) (c .before .before .before .before .args .row) (c .before .before .before .before .args .page) (c .before .before .before .before .args .mode) (c .before .before .before .find-page .result) (c .before .slot .given .0 .0) (c .before .before .before .before .pre .0) (c .before .before .before .find-page .ensures) (c .before .slot .given .1)
+holdings-on-requires c κs = chosen-at (c .before .before .before .before .before .before .before .before .before .before .args .s) (c .before .before .before .before .before .before .before .before .before .before .args .row) (c .before .before .before .before .before .before .before .before .before .before .args .page) (c .before .before .before .before .before .before .before .before .before .before .args .mode) (c .before .before .before .choose .result) (c .before .chosen .given .0 .0) (c .before .before .before .before .before .before .before .before .before .before .pre .0) (c .before .before .before .choose .ensures) (c .before .chosen .given .1)
+
+pin-marks-requires : tie.Need-pin-marks-requires
+pin-marks-requires c κs = search needs
+
+released-slots-requires : tie.Need-released-slots-requires
+released-slots-requires c κs = search needs
+
+into-slot-requires : tie.Need-into-slot-requires
+into-slot-requires c κs = (chosen-at (c .before .before .before .before .before .before .before .before .before .before .before .before .before .args .s) (c .before .before .before .before .before .before .before .before .before .before .before .before .before .args .row) (c .before .before .before .before .before .before .before .before .before .before .before .before .before .args .page) (c .before .before .before .before .before .before .before .before .before .before .before .before .before .args .mode) (c .before .before .before .before .before .before .choose .result) (c .before .before .before .before .chosen .given .0 .0) (c .before .before .before .before .before .before .before .before .before .before .before .before .before .pre .0) (c .before .before .before .before .before .before .choose .ensures) (c .before .before .before .before .chosen .given .1), c .before .before .before .before .before .before .before .before .before .before .before .before .before .pre .1)
+
+returns-2 : tie.Need-returns-2
+returns-2 c = serve-into (c .before .before .before .before .before .before .before .before .before .before .before .before .before .before .args .s) (c .before .before .before .before .before .before .before .before .before .before .before .before .before .before .args .row) (c .before .before .before .before .before .before .before .before .before .before .before .before .before .before .args .page) (c .before .before .before .before .before .before .before .before .before .before .before .before .before .before .args .mode) (state-ok (c .before .before .before .before .before .before .before .before .before .before .before .before .before .before .args .s) _ (c .before .before .before .before .before .before .before .before .before .before .before .before .before .before .good .0) .sized) (c .before .before .before .before .before .before .before .before .before .before .find-page .result) (c .before .before .before .before .before .before .before .before .before .before .find-page .ensures) (c .before .before .before .before .before .before .before .before .enum-told .given .1) (c .before .before .before .before .before .before .before .choose .result) (c .before .before .before .before .before .before .before .choose .ensures) (c .before .before .before .before .before .chosen .given .0 .0) (c .before .before .before .before .before .chosen .given .1) (chosen-at (c .before .before .before .before .before .before .before .before .before .before .before .before .before .before .args .s) (c .before .before .before .before .before .before .before .before .before .before .before .before .before .before .args .row) (c .before .before .before .before .before .before .before .before .before .before .before .before .before .before .args .page) (c .before .before .before .before .before .before .before .before .before .before .before .before .before .before .args .mode) (c .before .before .before .before .before .before .before .choose .result) (c .before .before .before .before .before .chosen .given .0 .0) (c .before .before .before .before .before .before .before .before .before .before .before .before .before .before .pre .0) (c .before .before .before .before .before .before .before .choose .ensures) (c .before .before .before .before .before .chosen .given .1)) (c .before .before .before .before .before .before .before .before .before .before .before .before .before .before .pre .1) (c .before .before .before .holdings-on .result) (c .before .before .pin-marks .result) (c .before .released-slots .result) (c .into-slot .result) (c .before .before .before .holdings-on .ensures) (c .before .before .pin-marks .ensures) (c .before .released-slots .ensures) (c .into-slot .ensures)
+
+holdings-on-requires-2 : tie.Need-holdings-on-requires-2
+holdings-on-requires-2 c κs = found-at (c .before .before .before .before .before .before .before .args .s) (c .before .before .before .before .before .before .before .args .row) (c .before .before .before .before .before .before .before .args .page) (c .before .before .before .before .before .before .before .args .mode) (c .before .before .before .find-page .result) (c .before .slot .given .0 .0) (c .before .before .before .before .before .before .before .pre .0) (c .before .before .before .find-page .ensures) (c .before .slot .given .1)
 
 mul-x : tie.Need-mul-x
-mul-x c = omega (arith, found-at (c .before .before .before .before .before .args .t1) (c .before .before .before .before .before .args .row) (c .before .before .before .before .before .args .page) (c .before .before .before .before .before .args .mode) (c .before .before .before .before .find-page .result) (c .before .before .slot .given .0 .0) (c .before .before .before .before .before .pre .0) (c .before .before .before .before .find-page .ensures) (c .before .before .slot .given .1))
+mul-x c = omega (arith, found-at (c .before .before .before .before .before .before .before .before .args .s) (c .before .before .before .before .before .before .before .before .args .row) (c .before .before .before .before .before .before .before .before .args .page) (c .before .before .before .before .before .before .before .before .args .mode) (c .before .before .before .before .find-page .result) (c .before .before .slot .given .0 .0) (c .before .before .before .before .before .before .before .before .pre .0) (c .before .before .before .before .find-page .ensures) (c .before .before .slot .given .1))
 
-element-copy-out-x : tie.Need-element-copy-out-x
-element-copy-out-x c = found-at (c .before .before .before .before .before .args .t1) (c .before .before .before .before .before .args .row) (c .before .before .before .before .before .args .page) (c .before .before .before .before .before .args .mode) (c .before .before .before .before .find-page .result) (c .before .before .slot .given .0 .0) (c .before .before .before .before .before .pre .0) (c .before .before .before .before .find-page .ensures) (c .before .before .slot .given .1)
+array-copy-out-x : tie.Need-array-copy-out-x
+array-copy-out-x c = found-at (c .before .before .before .before .before .before .before .before .args .s) (c .before .before .before .before .before .before .before .before .args .row) (c .before .before .before .before .before .before .before .before .args .page) (c .before .before .before .before .before .before .before .before .args .mode) (c .before .before .before .before .find-page .result) (c .before .before .slot .given .0 .0) (c .before .before .before .before .before .before .before .before .pre .0) (c .before .before .before .before .find-page .ensures) (c .before .before .slot .given .1)
 
-see-requires : tie.Need-see-requires
-see-requires c κs = search needs
+plan-steps-requires : tie.Need-plan-steps-requires
+plan-steps-requires c κs = search needs
 
-step-one-requires : tie.Need-step-one-requires
-step-one-requires c κs = (found-at (c .before .before .before .before .before .before .before .before .args .t1) (c .before .before .before .before .before .before .before .before .args .row) (c .before .before .before .before .before .before .before .before .args .page) (c .before .before .before .before .before .before .before .before .args .mode) (c .before .before .before .before .before .before .before .find-page .result) (c .before .before .before .before .before .slot .given .0 .0) (c .before .before .before .before .before .before .before .before .pre .0) (c .before .before .before .before .before .before .before .find-page .ensures) (c .before .before .before .before .before .slot .given .1), c .before .before .before .before .before .before .before .before .pre .1, c .before .before .before .holdings-on .ensures)
+wait-requires-2 : tie.Need-wait-requires-2
+wait-requires-2 c κs = search needs
 
 returns-3 : tie.Need-returns-3
-returns-3 c = serve-one (c .before .before .before .before .before .before .before .before .before .args .t1) (c .before .before .before .before .before .before .before .before .before .args .row) (c .before .before .before .before .before .before .before .before .before .args .page) (c .before .before .before .before .before .before .before .before .before .args .mode) (c .before .before .before .before .before .before .before .before .find-page .result) (c .before .before .before .before .before .before .slot .given .0 .0) (c .before .before .before .before .before .before .before .before .find-page .ensures) (c .before .before .before .before .before .before .slot .given .1) (c .before .before .before .before .holdings-on .result) (c .before .before .before .before .holdings-on .ensures) (c .before .before .see .result) (c .before .before .see .ensures) (c .step-one .result) (c .before .if1 .taken) (c .step-one .ensures)
+returns-3 c = serve-plan-wait (c .before .before .before .before .before .before .before .before .before .before .before .before .args .s) (c .before .before .before .before .before .before .before .before .before .before .before .before .args .row) (c .before .before .before .before .before .before .before .before .before .before .before .before .args .page) (c .before .before .before .before .before .before .before .before .before .before .before .before .args .mode) (state-ok (c .before .before .before .before .before .before .before .before .before .before .before .before .args .s) _ (c .before .before .before .before .before .before .before .before .before .before .before .before .good .0) .sized) (c .before .before .before .before .before .before .before .before .find-page .result) (c .before .before .before .before .before .before .before .before .find-page .ensures) (c .before .before .before .before .before .before .slot .given .0 .0) (c .before .before .before .before .before .before .slot .given .1) (c .before .before .before .before .holdings-on2 .result) (c .before .before .before .before .holdings-on2 .ensures) (c .before .before .plan-steps .result) (c .before .before .plan-steps .ensures) (c .before .if1 .taken) (c .wait2 .result) (c .wait2 .ensures)
 
-see-dormant-requires : tie.Need-see-dormant-requires
-see-dormant-requires c κs = search needs
+released-slots-requires-2 : tie.Need-released-slots-requires-2
+released-slots-requires-2 c κs = search needs
 
-step-two-requires : tie.Need-step-two-requires
-step-two-requires c κs = (found-at (c .before .before .before .before .before .before .before .before .before .before .args .t1) (c .before .before .before .before .before .before .before .before .before .before .args .row) (c .before .before .before .before .before .before .before .before .before .before .args .page) (c .before .before .before .before .before .before .before .before .before .before .args .mode) (c .before .before .before .before .before .before .before .before .before .find-page .result) (c .before .before .before .before .before .before .before .slot .given .0 .0) (c .before .before .before .before .before .before .before .before .before .before .pre .0) (c .before .before .before .before .before .before .before .before .before .find-page .ensures) (c .before .before .before .before .before .before .before .slot .given .1), c .before .before .before .before .before .before .before .before .before .before .pre .1)
+take-rows-requires : tie.Need-take-rows-requires
+take-rows-requires c κs = search needs
+
+grant-requires : tie.Need-grant-requires
+grant-requires c κs = (taken-slot (leaving (c .before .before .before .before .before .before .before .before .before .before .before .before .before .before .args .s) (c .before .released-slots2 .result) (c .before .before .before .before .plan-steps .result .marks) (c .before .before .before .before .before .before .before .before .slot .given .0 .0) (c .before .before .before .before .before .before .holdings-on2 .result)) (c .take-rows .result) (c .take-rows .ensures) (found-at (c .before .before .before .before .before .before .before .before .before .before .before .before .before .before .args .s) (c .before .before .before .before .before .before .before .before .before .before .before .before .before .before .args .row) (c .before .before .before .before .before .before .before .before .before .before .before .before .before .before .args .page) (c .before .before .before .before .before .before .before .before .before .before .before .before .before .before .args .mode) (c .before .before .before .before .before .before .before .before .before .before .find-page .result) (c .before .before .before .before .before .before .before .before .slot .given .0 .0) (c .before .before .before .before .before .before .before .before .before .before .before .before .before .before .pre .0) (c .before .before .before .before .before .before .before .before .before .before .find-page .ensures) (c .before .before .before .before .before .before .before .before .slot .given .1)), c .before .before .before .before .before .before .before .before .before .before .before .before .before .before .pre .1)
 
 returns-4 : tie.Need-returns-4
-returns-4 c = serve-two (c .before .before .before .before .before .before .before .before .before .before .before .args .t1) (c .before .before .before .before .before .before .before .before .before .before .before .args .row) (c .before .before .before .before .before .before .before .before .before .before .before .args .page) (c .before .before .before .before .before .before .before .before .before .before .before .args .mode) (c .before .before .before .before .before .before .before .before .before .before .find-page .result) (c .before .before .before .before .before .before .before .before .slot .given .0 .0) (c .before .before .before .before .before .before .before .before .before .before .find-page .ensures) (c .before .before .before .before .before .before .before .before .slot .given .1) (c .before .before .before .before .before .before .holdings-on .result) (c .before .before .before .before .before .before .holdings-on .ensures) (c .before .before .before .before .see .result) (c .before .before .before .before .see .ensures) (c .step-two .result) (c .before .before .before .if1 .left) (c .before .before .see-dormant .result) (c .before .before .see-dormant .ensures) (c .before .if2 .taken) (c .step-two .ensures)
-
-step-three-requires : tie.Need-step-three-requires
-step-three-requires c κs = (found-at (c .before .before .before .before .before .before .before .before .before .before .args .t1) (c .before .before .before .before .before .before .before .before .before .before .args .row) (c .before .before .before .before .before .before .before .before .before .before .args .page) (c .before .before .before .before .before .before .before .before .before .before .args .mode) (c .before .before .before .before .before .before .before .before .before .find-page .result) (c .before .before .before .before .before .before .before .slot .given .0 .0) (c .before .before .before .before .before .before .before .before .before .before .pre .0) (c .before .before .before .before .before .before .before .before .before .find-page .ensures) (c .before .before .before .before .before .before .before .slot .given .1), c .before .before .before .before .before .before .before .before .before .before .pre .1, c .before .before .before .before .before .before .before .before .before .before .pre .2, c .before .before .before .before .before .holdings-on .ensures)
-
-returns-5 : tie.Need-returns-5
-returns-5 c = serve-three (c .before .before .before .before .before .before .before .before .before .before .before .args .t1) (c .before .before .before .before .before .before .before .before .before .before .before .args .row) (c .before .before .before .before .before .before .before .before .before .before .before .args .page) (c .before .before .before .before .before .before .before .before .before .before .before .args .mode) (c .before .before .before .before .before .before .before .before .before .before .find-page .result) (c .before .before .before .before .before .before .before .before .slot .given .0 .0) (c .before .before .before .before .before .before .before .before .before .before .find-page .ensures) (c .before .before .before .before .before .before .before .before .slot .given .1) (c .before .before .before .before .before .before .holdings-on .result) (c .before .before .before .before .before .before .holdings-on .ensures) (c .before .before .before .before .see .result) (c .before .before .before .before .see .ensures) (c .step-three .result) (c .before .before .before .if1 .left) (c .before .before .see-dormant .result) (c .before .before .see-dormant .ensures) (c .before .if2 .left) (c .step-three .ensures)
+returns-4 c = serve-plan-grant (c .before .before .before .before .before .before .before .before .before .before .before .before .before .before .before .args .s) (c .before .before .before .before .before .before .before .before .before .before .before .before .before .before .before .args .row) (c .before .before .before .before .before .before .before .before .before .before .before .before .before .before .before .args .page) (c .before .before .before .before .before .before .before .before .before .before .before .before .before .before .before .args .mode) (state-ok (c .before .before .before .before .before .before .before .before .before .before .before .before .before .before .before .args .s) _ (c .before .before .before .before .before .before .before .before .before .before .before .before .before .before .before .good .0) .sized) (c .before .before .before .before .before .before .before .before .before .before .before .find-page .result) (c .before .before .before .before .before .before .before .before .before .before .before .find-page .ensures) (c .before .before .before .before .before .before .before .before .before .slot .given .0 .0) (c .before .before .before .before .before .before .before .before .before .slot .given .1) (c .before .before .before .before .before .before .before .holdings-on2 .result) (c .before .before .before .before .before .before .before .holdings-on2 .ensures) (c .before .before .before .before .before .plan-steps .result) (c .before .before .before .before .before .plan-steps .ensures) (c .before .before .before .before .if1 .left) (found-at (c .before .before .before .before .before .before .before .before .before .before .before .before .before .before .before .args .s) (c .before .before .before .before .before .before .before .before .before .before .before .before .before .before .before .args .row) (c .before .before .before .before .before .before .before .before .before .before .before .before .before .before .before .args .page) (c .before .before .before .before .before .before .before .before .before .before .before .before .before .before .before .args .mode) (c .before .before .before .before .before .before .before .before .before .before .before .find-page .result) (c .before .before .before .before .before .before .before .before .before .slot .given .0 .0) (c .before .before .before .before .before .before .before .before .before .before .before .before .before .before .before .pre .0) (c .before .before .before .before .before .before .before .before .before .before .before .find-page .ensures) (c .before .before .before .before .before .before .before .before .before .slot .given .1)) (c .before .before .before .before .before .before .before .before .before .before .before .before .before .before .before .pre .1) (c .before .before .released-slots2 .result) (c .before .take-rows .result) (c .grant .result) (c .before .before .released-slots2 .ensures) (c .before .take-rows .ensures) (c .grant .ensures)
 
 pub serve-spec : {M : Type 1} → statement M
 serve-spec =
     tie.close
     (tie.spec
+    add-due
     find-page-requires
     enum-known-slot
     enum-told
@@ -91,16 +103,18 @@ serve-spec =
     enum-told-2
     wait-requires
     returns
+    holdings-on-requires
+    pin-marks-requires
+    released-slots-requires
     into-slot-requires
     returns-2
-    holdings-on-requires
+    holdings-on-requires-2
     mul-x
-    element-copy-out-x
-    see-requires
-    step-one-requires
+    array-copy-out-x
+    plan-steps-requires
+    wait-requires-2
     returns-3
-    see-dormant-requires
-    step-two-requires
-    returns-4
-    step-three-requires
-    returns-5)
+    released-slots-requires-2
+    take-rows-requires
+    grant-requires
+    returns-4)

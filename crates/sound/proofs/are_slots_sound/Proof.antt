@@ -13,7 +13,7 @@ use Rattle.sound.proofs.are_slots_sound.Statement.{statement}
 use Rattle.sound.proofs.are_slots_sound.Tie as tie
 use Rattle.sound.proofs.are_slots_sound.Reads as reads
 use Rattle.sound.proofs.are_slots_sound.Lts as lts
-use Rattle.sound.proofs.both.Reads as both-reads
+use Rattle.seq.proofs.both.Reads as both-reads
 use Rattle.sound.proofs.is_slot_sound.Reads as is-slot-sound-reads
 use Rattle.sound.proofs.latest_arrival.Reads as latest-arrival-reads
 

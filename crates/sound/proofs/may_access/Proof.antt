@@ -5,24 +5,19 @@ use Rattle.sound.proofs.may_access.Tie as tie
 use Rattle.sound.proofs.may_access.Reads as reads
 use Rattle.sound.proofs.may_access.Lts as lts
 
--- src/lib.rt:307:17
 cast-class : tie.Need-cast-class
 cast-class c = search needs
 
--- src/lib.rt:309:23
 enum-told : tie.Need-enum-told
 enum-told c = search needs
 
--- src/lib.rt:310:24
 enum-told-2 : tie.Need-enum-told-2
 enum-told-2 c = search needs
 
--- src/lib.rt:304:1
 returns : tie.Need-returns
 unfolding allowed
 returns c = rw (c .enum-told .given .1)
 
--- src/lib.rt:304:1
 returns-2 : tie.Need-returns-2
 unfolding allowed
 returns-2 c = rw (c .enum-told2 .given .1)

@@ -1,0 +1,284 @@
+-- What the writes of amend make of a state's bytes.
+use mathlib.Core.Path.{_≡_, refl, _∙_, sym, ap}
+use mathlib.Core.Bool.{Bool, true, false, cond, _&&_}
+use mathlib.Core.List.{List, [], _∷_, _++_, append-assoc}
+use Prim.Native.Nat.{ℕ, zero, suc, _+_, _-_, _*_, _/_, _%_, _<_, _≤_}
+use native.Mathlib.Nat.{add-zero}
+use native.Mathlib.Omega.{arith}
+use native.Mathlib.Decide.{ℕ-discrete, decLt}
+use borrow.Author.Tests.{lt-ltb, le-ltb, eq-eqb, ne-eqb}
+use lib.Dec.{eqb, ltb}
+use lib.ListN.{length, getD, length-append}
+use Rattle.seq.specs.Each.{each}
+use Rattle.seq.proofs.EachLaws.{each-at}
+use Rattle.words.specs.Bytes.{wordBytes, zeroWords, spliced, joined}
+use Rattle.words.proofs.ByteLaws.{length-words}
+use Rattle.words.proofs.JoinLaws.{joined-same, joined-add, length-joined}
+use Rattle.words.proofs.SpliceLaws.{spliced-middle, words-append}
+use Rattle.model.specs.declared.Row.{Row}
+use Rattle.model.specs.declared.Slot.{Slot}
+use Rattle.model.specs.declared.Holding.{Holding}
+use Rattle.model.specs.declared.State.{State}
+use Rattle.model.specs.declared.Change.{Change}
+use Rattle.model.specs.State.{freeRow, emptySlot, emptyHolding, withClock, withRows, withSlots}
+use Rattle.model.specs.Changes.{marked, holdingAfter, changed}
+use Rattle.area.specs.Layout.{mark, version, headerWords, rowWords, slotWords, holdingWords, encoded}
+use Rattle.area.specs.Writes.{rowDropped, rowsDropped}
+use Rattle.area.proofs.Elements.{header-wide, holding-wide}
+use Rattle.area.proofs.Pieces.{rowsBytes, slotsBytes, rows-long, slots-long, zeros-long}
+
+-- ---- one of six regions written over
+
+module _ (x₀ x₁ x₂ x₃ x₄ x₅ r : List ℕ) where
+  -- the end of the first
+  first-over : (p x y : List ℕ) (n : ℕ) → x₀ ≡ p ++ x → length p ≡ n → length x ≡ length y
+      → spliced ((x₀ ++ (x₁ ++ (x₂ ++ (x₃ ++ (x₄ ++ x₅))))) ++ r) n y ≡ ((p ++ y) ++ (x₁ ++ (x₂ ++ (x₃ ++ (x₄ ++ x₅))))) ++ r
+  first-over p x y n e l m =
+      let t = x₁ ++ (x₂ ++ (x₃ ++ (x₄ ++ x₅))) ++ r in
+      let a : (x₀ ++ (x₁ ++ (x₂ ++ (x₃ ++ (x₄ ++ x₅))))) ++ r ≡ p ++ (x ++ t) = rw e (simp append-assoc) in
+      let b : ((p ++ y) ++ (x₁ ++ (x₂ ++ (x₃ ++ (x₄ ++ x₅))))) ++ r ≡ p ++ (y ++ t) = simp append-assoc in
+      ap (λ (w : List ℕ). spliced w n y) a ∙ spliced-middle p x t y n l m ∙ sym b
+
+  module _ (e₀ : length x₀ ≡ 40) (e₁ : length x₁ ≡ 472) where
+    third-over : (y : List ℕ) → length x₂ ≡ length y
+        → spliced ((x₀ ++ (x₁ ++ (x₂ ++ (x₃ ++ (x₄ ++ x₅))))) ++ r) 512 y ≡ (x₀ ++ (x₁ ++ (y ++ (x₃ ++ (x₄ ++ x₅))))) ++ r
+    third-over y m =
+        let p = x₀ ++ x₁ in
+        let t = x₃ ++ (x₄ ++ x₅) ++ r in
+        let a : (x₀ ++ (x₁ ++ (x₂ ++ (x₃ ++ (x₄ ++ x₅))))) ++ r ≡ p ++ (x₂ ++ t) = simp append-assoc in
+        let b : (x₀ ++ (x₁ ++ (y ++ (x₃ ++ (x₄ ++ x₅))))) ++ r ≡ p ++ (y ++ t) = simp append-assoc in
+        ap (λ (w : List ℕ). spliced w 512 y) a ∙ spliced-middle p x₂ t y 512 (simp length-append (omega arith)) m ∙ sym b
+
+    module _ (e₂ : length x₂ ≡ 2048) where
+      fourth-over : (y : List ℕ) → length x₃ ≡ length y
+          → spliced ((x₀ ++ (x₁ ++ (x₂ ++ (x₃ ++ (x₄ ++ x₅))))) ++ r) 2560 y ≡ (x₀ ++ (x₁ ++ (x₂ ++ (y ++ (x₄ ++ x₅))))) ++ r
+      fourth-over y m =
+          let p = x₀ ++ (x₁ ++ x₂) in
+          let t = x₄ ++ x₅ ++ r in
+          let a : (x₀ ++ (x₁ ++ (x₂ ++ (x₃ ++ (x₄ ++ x₅))))) ++ r ≡ p ++ (x₃ ++ t) = simp append-assoc in
+          let b : (x₀ ++ (x₁ ++ (x₂ ++ (y ++ (x₄ ++ x₅))))) ++ r ≡ p ++ (y ++ t) = simp append-assoc in
+          ap (λ (w : List ℕ). spliced w 2560 y) a ∙ spliced-middle p x₃ t y 2560 (simp length-append (omega arith)) m ∙ sym b
+
+      -- the middle of the fifth
+      fifth-over : length x₃ ≡ 4096 → (p x q y : List ℕ) (n : ℕ) → x₄ ≡ p ++ (x ++ q) → length p ≡ n → length x ≡ length y
+          → spliced ((x₀ ++ (x₁ ++ (x₂ ++ (x₃ ++ (x₄ ++ x₅))))) ++ r) (6656 + n) y ≡ (x₀ ++ (x₁ ++ (x₂ ++ (x₃ ++ ((p ++ (y ++ q)) ++ x₅))))) ++ r
+      fifth-over e₃ p x q y n e l m =
+          let f = x₀ ++ (x₁ ++ (x₂ ++ (x₃ ++ p))) in
+          let t = q ++ (x₅ ++ r) in
+          let a : (x₀ ++ (x₁ ++ (x₂ ++ (x₃ ++ (x₄ ++ x₅))))) ++ r ≡ f ++ (x ++ t) = rw e (simp append-assoc) in
+          let b : (x₀ ++ (x₁ ++ (x₂ ++ (x₃ ++ ((p ++ (y ++ q)) ++ x₅))))) ++ r ≡ f ++ (y ++ t) = simp append-assoc in
+          ap (λ (w : List ℕ). spliced w (6656 + n) y) a ∙ spliced-middle f x t y (6656 + n) (simp length-append (omega arith)) m ∙ sym b
+
+-- ---- the bytes of a state, its holdings given place by place
+
+abbrev pub laid : State → (ℕ → Holding) → List ℕ
+laid s x =
+    wordBytes (headerWords s) ++ (zeroWords 59 ++ (rowsBytes s ++ (slotsBytes s ++ (joined 2048 (λ k. wordBytes (holdingWords (x k))) ++ zeroWords 1216))))
+
+pub laid-same : (s : State) (x y : ℕ → Holding) → ((k : ℕ) → k < 2048 → x k ≡ y k) → laid s x ≡ laid s y
+laid-same s x y h =
+    ap (λ (b : List ℕ). wordBytes (headerWords s) ++ (zeroWords 59 ++ (rowsBytes s ++ (slotsBytes s ++ (b ++ zeroWords 1216)))))
+    (joined-same 2048 (λ k. wordBytes (holdingWords (x k))) (λ k. wordBytes (holdingWords (y k))) (λ k b. ap (λ (z : Holding). wordBytes (holdingWords z)) (h k b)))
+
+held-wide : (x : ℕ → Holding) (k : ℕ) → length (wordBytes (holdingWords (x k))) ≡ 24
+held-wide x k = length-words (holdingWords (x k)) ∙ holding-wide (x k)
+
+module _ (s : State) (x : ℕ → Holding) (r : List ℕ) where
+  pub clock-put : (clock : ℕ) → spliced (laid s x ++ r) 32 (wordBytes (clock ∷ [])) ≡ laid (withClock s clock) x ++ r
+  unfolding headerWords
+  clock-put clock =
+      let p = wordBytes (mark ∷ version ∷ s .size ∷ s .delay ∷ []) in
+      let h : (t : ℕ) → wordBytes (mark ∷ version ∷ s .size ∷ s .delay ∷ t ∷ []) ≡ p ++ wordBytes (t ∷ []) =
+      λ t. words-append (mark ∷ version ∷ s .size ∷ s .delay ∷ []) (t ∷ []) in
+      let holdings = joined 2048 (λ k. wordBytes (holdingWords (x k))) in
+      first-over (wordBytes (headerWords s)) (zeroWords 59) (rowsBytes s) (slotsBytes s) holdings (zeroWords 1216) r
+      p (wordBytes (s .clock ∷ [])) (wordBytes (clock ∷ [])) 32 (h (s .clock)) (length-words (mark ∷ version ∷ s .size ∷ s .delay ∷ []))
+      (length-words (s .clock ∷ []) ∙ sym (length-words (clock ∷ [])))
+      ∙ ap (λ (b : List ℕ). (b ++ (zeroWords 59 ++ (rowsBytes s ++ (slotsBytes s ++ (holdings ++ zeroWords 1216))))) ++ r) (sym (h clock))
+
+  pub rows-put : (rows : List Row) → spliced (laid s x ++ r) 512 (rowsBytes (withRows s rows)) ≡ laid (withRows s rows) x ++ r
+  unfolding headerWords
+  rows-put rows =
+      third-over (wordBytes (headerWords s)) (zeroWords 59) (rowsBytes s) (slotsBytes s) (joined 2048 (λ k. wordBytes (holdingWords (x k)))) (zeroWords 1216) r
+      (header-wide s) (zeros-long 59) (rowsBytes (withRows s rows)) (rows-long s ∙ sym (rows-long (withRows s rows)))
+
+  pub slots-put : (slots : List Slot) → spliced (laid s x ++ r) 2560 (slotsBytes (withSlots s slots)) ≡ laid (withSlots s slots) x ++ r
+  unfolding headerWords
+  slots-put slots =
+      fourth-over (wordBytes (headerWords s)) (zeroWords 59) (rowsBytes s) (slotsBytes s) (joined 2048 (λ k. wordBytes (holdingWords (x k)))) (zeroWords 1216) r
+      (header-wide s) (zeros-long 59) (rows-long s) (slotsBytes (withSlots s slots)) (slots-long s ∙ sym (slots-long (withSlots s slots)))
+
+  -- m holdings from place i on
+  pub held-put : (y : ℕ → Holding) (i m l : ℕ) → i + m + l ≡ 2048 → ((k : ℕ) → k < i → x k ≡ y k) → ((k : ℕ) → i + m ≤ k → x k ≡ y k)
+      → spliced (laid s x ++ r) (6656 + i * 24) (joined m (λ j. wordBytes (holdingWords (y (i + j))))) ≡ laid s y ++ r
+  held-put y i m l e low high =
+      let f : (ℕ → Holding) → ℕ → List ℕ = λ z k. wordBytes (holdingWords (z k)) in
+      let split : (z : ℕ → Holding) → joined 2048 (f z) ≡ joined i (f z) ++ (joined m (λ j. f z (i + j)) ++ joined l (λ j. f z (i + m + j))) =
+      λ z. ap (λ (n : ℕ). joined n (f z)) (sym e) ∙ joined-add (i + m) l (f z) ∙ rw (joined-add i m (f z)) (append-assoc (joined i (f z)) (joined m (λ j. f z (i + j))) (joined l (λ j. f z (i + m + j)))) in
+      let front : joined i (f x) ≡ joined i (f y) = joined-same i (f x) (f y) (λ k b. ap (λ (z : Holding). wordBytes (holdingWords z)) (low k b)) in
+      let back : joined l (λ j. f x (i + m + j)) ≡ joined l (λ j. f y (i + m + j)) =
+      joined-same l (λ j. f x (i + m + j)) (λ j. f y (i + m + j)) (λ j b. ap (λ (z : Holding). wordBytes (holdingWords z)) (high (i + m + j) (omega arith))) in
+      let whole : joined i (f x) ++ (joined m (λ j. f y (i + j)) ++ joined l (λ j. f x (i + m + j))) ≡ joined 2048 (f y) = rw (front, back) (sym (split y)) in
+      fifth-over (wordBytes (headerWords s)) (zeroWords 59) (rowsBytes s) (slotsBytes s) (joined 2048 (f x)) (zeroWords 1216) r
+      (header-wide s) (zeros-long 59) (rows-long s) (slots-long s)
+      (joined i (f x)) (joined m (λ j. f x (i + j))) (joined l (λ j. f x (i + m + j))) (joined m (λ j. f y (i + j))) (i * 24) (split x)
+      (length-joined 24 (f x) (held-wide x) i)
+      (length-joined 24 (λ j. f x (i + j)) (λ j. held-wide x (i + j)) m ∙ sym (length-joined 24 (λ j. f y (i + j)) (λ j. held-wide y (i + j)) m))
+      ∙ ap (λ (b : List ℕ). (wordBytes (headerWords s) ++ (zeroWords 59 ++ (rowsBytes s ++ (slotsBytes s ++ (b ++ zeroWords 1216))))) ++ r) whole
+
+-- ---- the holdings of rows dropped
+
+empty-words : wordBytes (holdingWords emptyHolding) ≡ zeroWords 3
+unfolding holdingWords
+empty-words = refl
+
+-- the holding at place k, of a row on one of the first n slots
+abbrev dropsAt : ℕ → ℕ → ℕ → Bool
+dropsAt row n k = eqb (k % 32) row && ltb (k / 32) n
+
+-- the next slot adds one place
+drops-more : (row n k : ℕ) → (k ≡ n * 32 + row → ⊥) → dropsAt row n k ≡ dropsAt row (suc n) k
+drops-more row n k h = elim (ℕ-discrete (k % 32) row) [
+  | yes e ↦ elim (decLt (k / 32) n) [
+    | yes b ↦ rw (lt-ltb (k / 32) n b, lt-ltb (k / 32) (suc n) (omega arith))
+    | no b ↦
+        let q : k / 32 ≡ n → ⊥ = λ g. h (omega arith) in
+        rw (le-ltb (k / 32) n (omega arith), le-ltb (k / 32) (suc n) (omega arith))
+  ]
+  | no e ↦ rw (ne-eqb (k % 32) row e)
+]
+
+drops-here : (row n : ℕ) → row < 32 → dropsAt row (suc n) (n * 32 + row) ≡ true
+drops-here row n h = rw (eq-eqb ((n * 32 + row) % 32) row (omega arith)) (lt-ltb ((n * 32 + row) / 32) (suc n) (omega arith))
+
+-- the holdings without those of some of the first n rows
+abbrev rowsLeft : (ℕ → Bool) → (ℕ → Holding) → ℕ → ℕ → Holding
+rowsLeft some x n k = cond (ltb (k % 32) n && some (k % 32)) emptyHolding (x k)
+
+module _ (some : ℕ → Bool) (x : ℕ → Holding) (n : ℕ) where
+  -- at a place of row n, and at a place of another row
+  left-here : (k : ℕ) (t : Bool) → some n ≡ t → k % 32 ≡ n → rowsLeft some x (suc n) k ≡ cond t emptyHolding (x k)
+  left-here k t e q = rw (q, lt-ltb n (suc n) (omega arith), e)
+
+  left-other : (k : ℕ) → (k % 32 ≡ n → ⊥) → rowsLeft some x n k ≡ rowsLeft some x (suc n) k
+  left-other k q = elim (decLt (k % 32) n) [
+    | yes l ↦ rw (lt-ltb (k % 32) n l, lt-ltb (k % 32) (suc n) (omega arith))
+    | no l ↦ rw (le-ltb (k % 32) n (omega arith), le-ltb (k % 32) (suc n) (omega arith))
+  ]
+
+  left-dropped : some n ≡ true → (k : ℕ) → k < 2048 → cond (dropsAt n 64 k) emptyHolding (rowsLeft some x n k) ≡ rowsLeft some x (suc n) k
+  left-dropped e k b = elim (ℕ-discrete (k % 32) n) [
+    | yes q ↦ rw (eq-eqb (k % 32) n q, lt-ltb (k / 32) 64 (omega arith)) (sym (left-here k true e q))
+    | no q ↦ rw (ne-eqb (k % 32) n q) (left-other k q)
+  ]
+
+  left-kept : some n ≡ false → (k : ℕ) → rowsLeft some x n k ≡ rowsLeft some x (suc n) k
+  left-kept e k = elim (ℕ-discrete (k % 32) n) [
+    | yes q ↦
+        let was : rowsLeft some x n k ≡ x k = rw (q, le-ltb n n (omega arith)) in
+        was ∙ sym (left-here k false e q)
+    | no q ↦ left-other k q
+  ]
+
+module _ (s : State) (r : List ℕ) where
+  -- one holding goes
+  hole-put : (x y : ℕ → Holding) (i : ℕ) → i < 2048 → ((k : ℕ) → (k ≡ i → ⊥) → x k ≡ y k) → y i ≡ emptyHolding
+      → spliced (laid s x ++ r) (6656 + i * 24) (zeroWords 3) ≡ laid s y ++ r
+  unfolding joined
+  hole-put x y i b same e =
+      let z : joined 1 (λ j. wordBytes (holdingWords (y (i + j)))) ≡ zeroWords 3 = rw (add-zero i, e) empty-words in
+      ap (λ (w : List ℕ). spliced (laid s x ++ r) (6656 + i * 24) w) (sym z)
+      ∙ held-put s x r y i 1 (2047 - i) (omega arith) (λ k h. same k (omega arith)) (λ k h. same k (omega arith))
+
+  row-drop : (x : ℕ → Holding) (row : ℕ) → row < 32 → (n : ℕ) → n ≤ 64
+      → rowDropped row n (laid s x ++ r) ≡ laid s (λ k. cond (dropsAt row n k) emptyHolding (x k)) ++ r
+  unfolding rowDropped
+  row-drop x row h zero b =
+      ap (λ (w : List ℕ). w ++ r) (laid-same s x (λ k. cond (dropsAt row zero k) emptyHolding (x k)) (λ k _. rw (none k)))
+    where
+      none : (k : ℕ) → dropsAt row zero k ≡ false
+      none k = go (eqb (k % 32) row)
+        where
+          go : (t : Bool) → t && ltb (k / 32) zero ≡ false
+          go true = le-ltb (k / 32) zero (omega arith)
+          go false = refl
+  row-drop x row h (suc n) b =
+      let old : ℕ → Holding = λ k. cond (dropsAt row n k) emptyHolding (x k) in
+      let new : ℕ → Holding = λ k. cond (dropsAt row (suc n) k) emptyHolding (x k) in
+      ap (λ (w : List ℕ). spliced w (6656 + (n * 32 + row) * 24) (zeroWords 3)) (row-drop x row h n (omega arith))
+      ∙ hole-put old new (n * 32 + row) (omega arith) (λ k q. rw (drops-more row n k q)) (rw (drops-here row n h))
+
+  rows-drop : (some : ℕ → Bool) (x : ℕ → Holding) (n : ℕ) → n ≤ 32 → rowsDropped some n (laid s x ++ r) ≡ laid s (rowsLeft some x n) ++ r
+  unfolding rowsDropped
+  rows-drop some x zero b = ap (λ (w : List ℕ). w ++ r) (laid-same s x (rowsLeft some x zero) (λ k _. rw (le-ltb (k % 32) zero (omega arith))))
+  rows-drop some x (suc n) b = go (some n) refl (rows-drop some x n (omega arith))
+    where
+      go : (t : Bool) → some n ≡ t → rowsDropped some n (laid s x ++ r) ≡ laid s (rowsLeft some x n) ++ r
+          → cond t (rowDropped n 64 (rowsDropped some n (laid s x ++ r))) (rowsDropped some n (laid s x ++ r)) ≡ laid s (rowsLeft some x (suc n)) ++ r
+      go true e h =
+          ap (rowDropped n 64) h
+          ∙ row-drop (rowsLeft some x n) n (omega arith) 64 (omega arith)
+          ∙ ap (λ (w : List ℕ). w ++ r) (laid-same s (λ k. cond (dropsAt n 64 k) emptyHolding (rowsLeft some x n k)) (rowsLeft some x (suc n)) (left-dropped some x n e))
+      go false e h = h ∙ ap (λ (w : List ℕ). w ++ r) (laid-same s (rowsLeft some x n) (rowsLeft some x (suc n)) (λ k _. left-kept some x n e k))
+
+  -- the 32 holdings of a slot
+  slot-put : (x : ℕ → Holding) (slot : ℕ) (held : List Holding) → slot < 64
+      → spliced (laid s x ++ r) (6656 + slot * 768) (joined 32 (λ row. wordBytes (holdingWords (getD held row emptyHolding))))
+      ≡ laid s (λ k. cond (eqb (k / 32) slot) (getD held (k % 32) emptyHolding) (x k)) ++ r
+  slot-put x slot held b =
+      let y : ℕ → Holding = λ k. cond (eqb (k / 32) slot) (getD held (k % 32) emptyHolding) (x k) in
+      let at : 6656 + slot * 768 ≡ 6656 + slot * 32 * 24 = omega arith in
+      let there : (j : ℕ) → j < 32 → getD held j emptyHolding ≡ y (slot * 32 + j) =
+      λ j h. let row : (slot * 32 + j) % 32 ≡ j = omega arith in rw (eq-eqb ((slot * 32 + j) / 32) slot (omega arith), row) in
+      let z : joined 32 (λ row. wordBytes (holdingWords (getD held row emptyHolding))) ≡ joined 32 (λ j. wordBytes (holdingWords (y (slot * 32 + j)))) =
+      joined-same 32 (λ row. wordBytes (holdingWords (getD held row emptyHolding))) (λ j. wordBytes (holdingWords (y (slot * 32 + j))))
+      (λ j h. ap (λ (g : Holding). wordBytes (holdingWords g)) (there j h)) in
+      (λ i. spliced (laid s x ++ r) (at i) (z i))
+      ∙ held-put s x r y (slot * 32) 32 (2016 - slot * 32) (omega arith)
+      (λ k h. rw (ne-eqb (k / 32) slot (λ e. omega arith))) (λ k h. rw (ne-eqb (k / 32) slot (λ e. omega arith)))
+
+-- ---- all writes of a change
+
+module _ (s : State) (long : length (s .holdings) ≡ 2048) (c : Change) (r a a1 a2 a3 a4 : List ℕ) (e : encoded s ++ r ≡ a)
+    (e1 : a1 ≡ spliced a 32 (wordBytes (c .clock ∷ [])))
+    (e2 : a2 ≡ spliced a1 512 (joined 32 (λ i. wordBytes (rowWords (getD (c .rows) i freeRow)))))
+    (e3 : a3 ≡ spliced a2 2560 (joined 64 (λ i. wordBytes (slotWords (getD (c .slots) i emptySlot)))))
+    (e4 : a4 ≡ rowsDropped (marked (c .gone)) 32 a3) where
+  abbrev was : ℕ → Holding
+  was k = getD (s .holdings) k emptyHolding
+
+  abbrev old : ℕ → Holding
+  old = rowsLeft (marked (c .gone)) was 32
+
+  -- before the slot's holdings are written
+  dropped : a4 ≡ laid (changed s c) old ++ r
+  unfolding encoded changed headerWords
+  dropped =
+      let s1 = withClock s (c .clock) in
+      let s2 = withRows s1 (c .rows) in
+      let s3 = withSlots s2 (c .slots) in
+      let d1 : a1 ≡ laid s1 was ++ r = e1 ∙ ap (λ (w : List ℕ). spliced w 32 (wordBytes (c .clock ∷ []))) (sym e) ∙ clock-put s was r (c .clock) in
+      let d2 : a2 ≡ laid s2 was ++ r = e2 ∙ ap (λ (w : List ℕ). spliced w 512 (rowsBytes s2)) d1 ∙ rows-put s1 was r (c .rows) in
+      let d3 : a3 ≡ laid s3 was ++ r = e3 ∙ ap (λ (w : List ℕ). spliced w 2560 (slotsBytes s3)) d2 ∙ slots-put s2 was r (c .slots) in
+      e4 ∙ ap (rowsDropped (marked (c .gone)) 32) d3 ∙ rows-drop s3 r (marked (c .gone)) was 32 (omega arith)
+
+  holding-after : (k : ℕ) → k < 2048 → getD (each (holdingAfter c) (s .holdings)) k emptyHolding ≡ cond (eqb (k / 32) (c .slot)) (getD (c .held) (k % 32) emptyHolding) (old k)
+  unfolding holdingAfter
+  holding-after k b = each-at (holdingAfter c) (s .holdings) k emptyHolding (rw long b) ∙ rw (lt-ltb (k % 32) 32 (omega arith))
+
+  encoded-after : (y : ℕ → Holding) → ((k : ℕ) → k < 2048 → y k ≡ cond (eqb (k / 32) (c .slot)) (getD (c .held) (k % 32) emptyHolding) (old k))
+      → laid (changed s c) y ++ r ≡ encoded (changed s c) ++ r
+  unfolding encoded changed
+  encoded-after y h = ap (λ (w : List ℕ). w ++ r)
+      (laid-same (changed s c) y (λ k. getD (each (holdingAfter c) (s .holdings)) k emptyHolding) (λ k b. h k b ∙ sym (holding-after k b)))
+
+  pub amended : (a5 : List ℕ) → c .slot < 64 → a5 ≡ spliced a4 (6656 + c .slot * 768) (joined 32 (λ row. wordBytes (holdingWords (getD (c .held) row emptyHolding))))
+      → a5 ≡ encoded (changed s c) ++ r
+  amended a5 b e5 =
+      e5
+      ∙ ap (λ (w : List ℕ). spliced w (6656 + c .slot * 768) (joined 32 (λ row. wordBytes (holdingWords (getD (c .held) row emptyHolding))))) dropped
+      ∙ slot-put (changed s c) r old (c .slot) (c .held) b
+      ∙ encoded-after (λ k. cond (eqb (k / 32) (c .slot)) (getD (c .held) (k % 32) emptyHolding) (old k)) (λ k _. refl)
+
+  pub amended-rows : 64 ≤ c .slot → a4 ≡ encoded (changed s c) ++ r
+  amended-rows b = dropped ∙ encoded-after old (λ k h. rw (ne-eqb (k / 32) (c .slot) (λ q. omega arith)))

@@ -1,0 +1,14 @@
+use mathlib.Core.Path.{refl}
+use Rattle.model.specs.Changes.{holdingsDropped}
+use Rattle.model.proofs.drop_holdings.Statement.{statement}
+use Rattle.model.proofs.drop_holdings.Tie as tie
+use Rattle.model.proofs.drop_holdings.Reads as reads
+use Rattle.model.proofs.drop_holdings.Lts as lts
+
+-- src/lib.rt:481:1
+returns : tie.Need-returns
+unfolding holdingsDropped
+returns c = refl
+
+pub drop-holdings-spec : {M : Type 1} → statement M
+drop-holdings-spec = tie.close (tie.spec returns)

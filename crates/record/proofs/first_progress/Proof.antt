@@ -1,0 +1,14 @@
+use mathlib.Core.Path.{refl}
+use Rattle.record.specs.Play.{firstProgress}
+use Rattle.record.proofs.first_progress.Statement.{statement}
+use Rattle.record.proofs.first_progress.Tie as tie
+use Rattle.record.proofs.first_progress.Reads as reads
+use Rattle.record.proofs.first_progress.Lts as lts
+
+-- src/lib.rt:405:1
+returns : tie.Need-returns
+unfolding firstProgress
+returns c = refl
+
+pub first-progress-spec : {M : Type 1} → statement M
+first-progress-spec = tie.close (tie.spec returns)

@@ -1,0 +1,4 @@
+// The player on the recorded run of docs/RECORDED.md.
+fn main() {
+    stream::play_standard_input();
+}

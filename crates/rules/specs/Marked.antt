@@ -1,0 +1,203 @@
+-- Document 01, "The player", session S, and "Marked for the table", M1 to M11: each call with the line it must have.
+use mathlib.Core.List.{List, [], _∷_, map}
+use Prim.Native.Nat.{ℕ, _+_}
+use Rattle.model.specs.State.{fresh}
+use Rattle.model.specs.declared.Answer.{Answer}
+use Rattle.rules.specs.Answers.{word, value, slotTold, backTold}
+use Rattle.rules.specs.Run.{Call, start, begin, request, unpin, end, tick, look, view, count, answers}
+
+-- an output line: word, value, slot plus one or 0, page to write back plus one or 0
+pub record Line : Type 0 where
+  pub word : ℕ
+  pub value : ℕ
+  pub slot : ℕ
+  pub back : ℕ
+
+abbrev pub line : Answer → Line
+line a = record { word = word a; value = value a; slot = slotTold a; back = backTold a }
+
+-- the lines by their words; the number of each word is that of specs/Answers.antt
+abbrev pub plain : ℕ → ℕ → Line
+plain w v = record { word = w; value = v; slot = 0; back = 0 }
+
+abbrev pub refused! : ℕ → Line
+refused! n = plain 0 n
+
+abbrev pub started! : Line
+started! = plain 1 0
+
+abbrev pub begun! : Line
+begun! = plain 2 0
+
+abbrev pub ready! : ℕ → Line
+ready! slot = record { word = 3; value = 0; slot = slot + 1; back = 0 }
+
+abbrev pub fetch! : ℕ → ℕ → Line
+fetch! due slot = record { word = 4; value = due; slot = slot + 1; back = 0 }
+
+abbrev pub fetch-back! : ℕ → ℕ → ℕ → Line
+fetch-back! due slot page = record { word = 4; value = due; slot = slot + 1; back = page + 1 }
+
+abbrev pub wait! : Line
+wait! = plain 5 0
+
+abbrev pub unpinned! : Line
+unpinned! = plain 6 0
+
+abbrev pub ended! : Line
+ended! = plain 7 0
+
+abbrev pub clock! : ℕ → Line
+clock! n = plain 8 n
+
+abbrev pub idle! : Line
+idle! = plain 10 0
+
+abbrev pub late! : Line
+late! = plain 11 0
+
+abbrev pub taken! : Line
+taken! = plain 12 0
+
+abbrev pub active! : ℕ → Line
+active! arrival = plain 14 arrival
+
+abbrev pub read! : ℕ → Line
+read! arrival = plain 15 arrival
+
+abbrev pub open! : ℕ → Line
+open! n = plain 18 n
+
+-- a call and the line it must have
+pub record Played : Type 0 where
+  pub call : Call
+  pub line : Line
+
+abbrev pub _gives_ : Call → Line → Played
+c gives l = record { call = c; line = l }
+
+infix 90 _gives_
+abbrev pub callOf : Played → Call
+callOf p = p .call
+
+abbrev pub lineOf : Played → Line
+lineOf p = p .line
+
+-- document 01's session S
+abbrev pub session : List Played
+session =
+    start 1 1 gives started!
+    ∷ begin 1 0 100 gives begun!
+    ∷ request 1 0 1024 1 gives fetch! 1 0
+    ∷ tick gives clock! 1
+    ∷ begin 0 0 90 gives begun!
+    ∷ count 0 gives open! 1
+    ∷ request 0 0 7 0 gives fetch-back! 2 0 1024
+    ∷ look 1 0 gives taken!
+    ∷ view 1 7 gives read! 2
+    ∷ count 1 gives open! 0
+    ∷ request 1 0 1024 0 gives refused! 10
+    ∷ []
+
+-- M1 slots 64 and 65
+abbrev pub m1 : List Played
+m1 = start 64 1 gives started! ∷ start 65 1 gives refused! 2 ∷ []
+
+-- M2 delay 255 and 256
+abbrev pub m2 : List Played
+m2 = start 1 255 gives started! ∷ start 1 256 gives refused! 3 ∷ []
+
+-- M3 level 1 reads 1,023; 2,048 gives 13
+abbrev pub m3 : List Played
+m3 = start 1 1 gives started! ∷ begin 1 0 100 gives begun! ∷ request 1 0 2048 0 gives refused! 13 ∷ request 1 0 1023 0 gives fetch! 1 0 ∷ []
+
+-- M4 level 1 writes 4,095; 1,023 gives 14
+abbrev pub m4 : List Played
+m4 = start 1 1 gives started! ∷ begin 1 0 100 gives begun! ∷ request 1 0 1023 1 gives refused! 14 ∷ request 1 0 4095 1 gives fetch! 1 0 ∷ []
+
+-- M5 deadline 1 begun at clock 0 is late after one tick
+abbrev pub m5 : List Played
+m5 = start 1 1 gives started! ∷ begin 0 0 1 gives begun! ∷ look 0 0 gives idle! ∷ tick gives clock! 1 ∷ look 0 0 gives late! ∷ []
+
+-- M6 one slot, equal deadlines at level 0: row 2 pins 7, row 3 waits for 8; the other way round row 3 is taken
+abbrev pub m6 : List Played
+m6 = start 1 1 gives started! ∷ begin 0 2 100 gives begun! ∷ begin 0 3 100 gives begun! ∷ request 0 2 7 0 gives fetch! 1 0 ∷ request 0 3 8 0 gives wait! ∷ []
+
+abbrev pub m6-round : List Played
+m6-round =
+    start 1 1 gives started!
+    ∷ begin 0 2 100 gives begun!
+    ∷ begin 0 3 100 gives begun!
+    ∷ request 0 3 7 0 gives fetch! 1 0
+    ∷ request 0 2 8 0 gives fetch! 1 0
+    ∷ look 0 3 gives taken!
+    ∷ []
+
+-- M7 one slot: row 0 (deadline 50) has 7 unpinned, row 1 (40) fetches 8; row 0 stays idle
+abbrev pub m7 : List Played
+m7 =
+    start 1 1 gives started!
+    ∷ begin 0 0 50 gives begun!
+    ∷ begin 0 1 40 gives begun!
+    ∷ request 0 0 7 0 gives fetch! 1 0
+    ∷ tick gives clock! 1
+    ∷ unpin 0 0 7 gives unpinned!
+    ∷ request 0 1 8 0 gives fetch! 2 0
+    ∷ look 0 0 gives idle!
+    ∷ []
+
+-- M8 page 7 dormant and arrived: a level 0 request is a fetch; from that same state a level 3 request instead is ready
+abbrev pub m8-before : List Played → List Played
+m8-before last =
+    start 1 1 gives started!
+    ∷ begin 0 0 100 gives begun!
+    ∷ request 0 0 7 0 gives fetch! 1 0
+    ∷ tick gives clock! 1
+    ∷ end 0 0 gives ended!
+    ∷ begin 0 0 100 gives begun!
+    ∷ begin 3 0 100 gives begun!
+    ∷ last
+
+abbrev pub m8 : List Played
+m8 = m8-before (request 0 0 7 0 gives fetch! 2 0 ∷ [])
+
+abbrev pub m8-instead : List Played
+m8-instead = m8-before (request 3 0 7 0 gives ready! 0 ∷ [])
+
+-- M9 level 3 reads 7; level 0 writes it: same slot, level 3 taken
+abbrev pub m9 : List Played
+m9 =
+    start 2 1 gives started!
+    ∷ begin 3 0 100 gives begun!
+    ∷ begin 0 0 100 gives begun!
+    ∷ request 3 0 7 0 gives fetch! 1 0
+    ∷ request 0 0 7 1 gives fetch! 1 0
+    ∷ look 3 0 gives taken!
+    ∷ []
+
+-- M10 a row pinning the only slot waits for a second page
+abbrev pub m10 : List Played
+m10 = start 1 1 gives started! ∷ begin 0 0 100 gives begun! ∷ request 0 0 7 0 gives fetch! 1 0 ∷ tick gives clock! 1 ∷ request 0 0 8 0 gives wait! ∷ []
+
+-- M11 two slots: level 1 has 1,024 unpinned, level 2 pins 2,048; level 0 fetches 7: level 2 is taken, level 1 still sees 1,024
+abbrev pub m11 : List Played
+m11 =
+    start 2 1 gives started!
+    ∷ begin 1 0 100 gives begun!
+    ∷ begin 2 0 100 gives begun!
+    ∷ request 1 0 1024 0 gives fetch! 1 0
+    ∷ tick gives clock! 1
+    ∷ unpin 1 0 1024 gives unpinned!
+    ∷ request 2 0 2048 0 gives fetch! 2 1
+    ∷ begin 0 0 100 gives begun!
+    ∷ request 0 0 7 0 gives fetch! 2 1
+    ∷ look 2 0 gives taken!
+    ∷ view 1 1024 gives active! 1
+    ∷ []
+
+abbrev pub table : List (List Played)
+table = session ∷ m1 ∷ m2 ∷ m3 ∷ m4 ∷ m5 ∷ m6 ∷ m6-round ∷ m7 ∷ m8 ∷ m8-instead ∷ m9 ∷ m10 ∷ m11 ∷ []
+
+-- what the definitions answer, each example from a state that its first call replaces
+abbrev pub lines : List Played → List Line
+lines ps = map line (answers (fresh 1 1) (map callOf ps))
