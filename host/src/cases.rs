@@ -1,4 +1,4 @@
-//! Session S, M1 to M11 and the example of each refusal of document 01, call by call.
+//! Session S, M1 to M11 and the examples of refusals 1 to 17 of document 01, call by call.
 
 use crate::calls::*;
 use crate::compare::check;
