@@ -17,7 +17,7 @@ ghost use lib.ListN.{length, getD, drop, replicate};
 ghost use Rattle.words.specs.Bytes.{hasWords, spliced, joined, wordBytes};
 ghost use Rattle.model.specs.Parties.{modeOf};
 ghost use Rattle.model.specs.State.{freeRow, emptySlot, emptyHolding};
-ghost use Rattle.model.specs.Changes.{marked, changed};
+ghost use Rattle.model.specs.Inner.Changed.{marked, changed};
 ghost use Rattle.area.specs.Layout.{mark, version, bit, low, causeNumber, conditionOf, pinNumbered, contentOf, rowFrom, slotFrom, holdingFrom, headerWords, rowWords, slotWords, holdingWords, freeRows, emptySlots, exactRows, exactSlots, exactHoldings, decoded, encoded, exact, soundArea};
 ghost use Rattle.area.specs.Writes.{rowDropped, rowsDropped};
 

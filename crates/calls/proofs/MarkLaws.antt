@@ -13,11 +13,12 @@ use Rattle.model.specs.declared.Row.{Row}
 use Rattle.model.specs.declared.Cause.the-variants.{Late}
 use Rattle.model.specs.declared.State.{State}
 use Rattle.model.specs.State.{freeRow, withClock, withRows, putRow}
-use Rattle.model.specs.Changes.{marked, released, killed}
+use Rattle.model.specs.Changes.{released, killed}
+use Rattle.model.specs.Inner.Changed.{marked}
 use Rattle.model.proofs.StateLaws.{Sized}
 use Rattle.model.proofs.SameRows.{released-same, killed-same}
 use Rattle.rules.specs.Calls.{deliveredRow, deliveredRows, isLate, lateKilled, advanced}
-use Rattle.rules.proofs.TickLaws.{later, sized-later}
+use Rattle.rules.proofs.Leaves.TickLaws.{later, sized-later}
 use Rattle.calls.specs.Elements.{oneMark, lateTest, lateMarks}
 
 cond-self : (b : Bool) → cond b true false ≡ b

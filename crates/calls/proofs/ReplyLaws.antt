@@ -22,7 +22,8 @@ use Rattle.model.specs.declared.Reply.{Reply}
 use Rattle.model.specs.declared.Outcome.{Outcome}
 use Rattle.model.specs.declared.State.{State}
 use Rattle.model.specs.State.{emptyHolding, slotAt, holdingAt, withClock, withRows, putSlot, putHolding}
-use Rattle.model.specs.Changes.{marked, written, dirtied, released, killed, killedRow, holdingAfter, changed, outcomeOf, holdingsDropped}
+use Rattle.model.specs.Changes.{written, dirtied, released, killed, killedRow}
+use Rattle.model.specs.Inner.Changed.{marked, holdingAfter, changed, outcomeOf, holdingsDropped}
 use Rattle.model.proofs.StateLaws.{Sized}
 use Rattle.model.proofs.ChangedLaws.{changed-dropped, changed-none, held-set}
 use Rattle.rules.specs.Calls.{unless, unpinnedAt}

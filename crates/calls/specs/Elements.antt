@@ -20,7 +20,7 @@ use Rattle.model.specs.declared.State.{State}
 use Rattle.model.specs.Parties.{modeOf, mayAccess, isPast}
 use Rattle.model.specs.State.{freeRow}
 use Rattle.model.specs.Words.{isLive, strength, stronger}
-use Rattle.model.specs.Changes.{holdingsDropped}
+use Rattle.model.specs.Inner.Changed.{holdingsDropped}
 use Rattle.rules.specs.Calls.{viewedIn}
 use Rattle.serve.specs.Elements.{seenTest}
 use Rattle.serve.specs.SlotHoldings.{heldBy}

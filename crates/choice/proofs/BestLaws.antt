@@ -20,7 +20,7 @@ use Rattle.model.proofs.PinLaws.{pin-held}
 use Rattle.model.proofs.PriorityLaws.{outranks-trans}
 use Rattle.model.proofs.SeenLaws.{seen-by, by-seen, none-seen}
 use Rattle.rules.specs.Choice.{holderLevel, heldAbove, pinnedAt, heldAtOwnLevel, seenPin, worse}
-use Rattle.rules.proofs.ChoiceRank.{best-is, best-level, holder-level}
+use Rattle.rules.proofs.Choosing.ChoiceRank.{best-is, best-level, holder-level}
 use Rattle.choice.specs.Summary.{bestBelow, latestBelow, pinnedBelow, holdersBelow, aboveBy, besideBy, worseIn}
 
 module _ (s : State) (i : ℕ) where

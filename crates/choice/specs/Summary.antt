@@ -12,7 +12,7 @@ use Rattle.seq.specs.declared.Found.the-variants.{At, Nowhere}
 use Rattle.model.specs.declared.Holding.{Holding}
 use Rattle.model.specs.declared.Slot.{Slot}
 use Rattle.model.specs.declared.State.{State}
-use Rattle.model.specs.Parties.{levelOf, better}
+use Rattle.model.specs.Parties.{levelOf, rankOf, better}
 use Rattle.model.specs.State.{rowAt, slotAt, holdingAt}
 use Rattle.model.specs.Words.{isFilled, pageIn, dirtyIn, lowestIn, isHeld, isPin, holds, pins, outranks}
 use Rattle.rules.specs.Choice.{orElse, dirtyNumber}
@@ -69,7 +69,7 @@ holdersWith w row deadline h =
     cond (isHeld (h .pin))
     (cond (w .held)
     (cond (eqb (levelOf row) (levelOf (w .best)))
-    (joinedLevel (better row deadline (w .best) (w .deadline)) w row deadline (h .touch) (isPin (h .pin)))
+    (joinedLevel (better (rankOf row deadline) (rankOf (w .best) (w .deadline))) w row deadline (h .touch) (isPin (h .pin)))
     w)
     (record { best = row; deadline = deadline; latest = h .touch; held = true; pinned = isPin (h .pin) }))
     w
@@ -81,7 +81,7 @@ aboveBy w level = w .held && ltb level (levelOf (w .best))
 
 -- seen holders all of the requester's level, none better than the requester
 unfoldable pub besideBy : Holders → ℕ → ℕ → Bool
-besideBy w me mine = w .held && (eqb (levelOf (w .best)) (levelOf me) && not (better (w .best) (w .deadline) me mine))
+besideBy w me mine = w .held && (eqb (levelOf (w .best)) (levelOf me) && not (better (rankOf (w .best) (w .deadline)) (rankOf me mine)))
 
 unfoldable pub summaryWith : Slot → Holders → Bool → ℕ → ℕ → Summary
 summaryWith x w own me mine = record {
@@ -131,7 +131,7 @@ unfoldable pub higher : Summary → Summary → Bool
 higher x y = ltb (levelOf (y .holders .best)) (levelOf (x .holders .best))
 
 unfoldable pub worseIn : Holders → Holders → Bool → Bool
-worseIn v w next = cond (v .held && w .held) (cond (eqb (v .best) (w .best)) next (better (w .best) (w .deadline) (v .best) (v .deadline))) next
+worseIn v w next = cond (v .held && w .held) (cond (eqb (v .best) (w .best)) next (better (rankOf (w .best) (w .deadline)) (rankOf (v .best) (v .deadline)))) next
 
 unfoldable pub heldBefore : Summary → Summary → Bool
 heldBefore x y =

@@ -137,7 +137,9 @@ fn holders_with(w: Holders, row: usize, deadline: u32, h: Holding) -> Holders
         let pin = model::is_pin(p);
         if w.held {
             if row / 8 == w.best / 8 {
-                let better = model::is_better(row, deadline, w.best, w.deadline);
+                let x = model::rank_of(row, deadline);
+                let y = model::rank_of(w.best, w.deadline);
+                let better = model::is_better(x, y);
                 return join_level(better, w, row, deadline, h.touch, pin);
             }
             return w;
@@ -225,7 +227,9 @@ fn is_beside(w: Holders, me: usize, mine: u32) -> bool
 {
     if w.held {
         if w.best / 8 == me / 8 {
-            return negated(model::is_better(w.best, w.deadline, me, mine));
+            let x = model::rank_of(w.best, w.deadline);
+            let y = model::rank_of(me, mine);
+            return negated(model::is_better(x, y));
         }
         return false;
     }
@@ -371,7 +375,9 @@ fn is_worse(v: Holders, w: Holders, next: bool) -> bool
         if v.best == w.best {
             return next;
         }
-        return model::is_better(w.best, w.deadline, v.best, v.deadline);
+        let x = model::rank_of(w.best, w.deadline);
+        let y = model::rank_of(v.best, v.deadline);
+        return model::is_better(x, y);
     }
     next
 }

@@ -7,9 +7,8 @@ use Rattle.seq.proofs.Tests.{both-true}
 use Rattle.seq.proofs.BelowLaws.{hit-any}
 use Rattle.model.specs.State.{emptyHolding, slotAt, holdingAt}
 use Rattle.model.specs.Words.{hasPage, dirtyIn}
-use Rattle.model.specs.Changes.{written, dirtied}
+use Rattle.model.specs.Changes.{written, dirtied, wroteSlot}
 use Rattle.model.specs.declared.State.{State}
-use Rattle.model.proofs.ChangeLaws.{wroteSlot}
 use Rattle.model.proofs.ContentLaws.{dirtied-page, dirtied-stays, dirtied-is}
 
 -- from s to t the slot keeps the page and its dirty mark, and a write pin that had arrived stays or leaves the slot dirty

@@ -7,14 +7,10 @@ use Rattle.seq.specs.Below.{anyBelow}
 use Rattle.seq.proofs.Tests.{cond-same}
 use Rattle.seq.proofs.EachLaws.{each-at, each-length, each-any}
 use Rattle.model.specs.State.{freeRow, emptySlot, emptyHolding, rowAt, slotAt, holdingAt}
-use Rattle.model.specs.Changes.{written, dirtied, released, killed, killedRow, cleared}
+use Rattle.model.specs.Changes.{written, dirtied, wroteSlot, released, killed, killedRow, cleared}
 use Rattle.model.specs.declared.Cause.{Cause}
 use Rattle.model.specs.declared.State.{State}
 use Rattle.model.proofs.StateLaws.{Sized, place-slot, place-row}
-
--- some of the rows wrote the slot: one of them has a write pin on it that had arrived
-abbrev pub wroteSlot : (ℕ → Bool) → State → ℕ → Bool
-wroteSlot some s slot = anyBelow 32 (λ row. some row && written (s .clock) (holdingAt s slot row))
 
 module _ (some : ℕ → Bool) (s : State) (z : Sized s) where
   pub released-holding : (slot row : ℕ) → row < 32 → holdingAt (released some s) slot row ≡ cond (some row) emptyHolding (holdingAt s slot row)

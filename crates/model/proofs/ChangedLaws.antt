@@ -12,7 +12,7 @@ use lib.Seq.{ext-getD, getD-set-same, getD-set-other}
 use Rattle.seq.specs.Each.{each}
 use Rattle.seq.proofs.EachLaws.{each-length, each-at, each-same, each-still}
 use Rattle.model.specs.State.{emptyHolding, holdingAt}
-use Rattle.model.specs.Changes.{marked, holdingAfter, changed, holdingsDropped}
+use Rattle.model.specs.Inner.Changed.{marked, holdingAfter, changed, holdingsDropped}
 use Rattle.model.specs.declared.Row.{Row}
 use Rattle.model.specs.declared.Slot.{Slot}
 use Rattle.model.specs.declared.Holding.{Holding}

@@ -1,67 +1,74 @@
 -- Priority is a strict total order on rows, whatever their deadlines; a lower level has better priority.
-use mathlib.Core.Path.{_≡_}
+use mathlib.Core.Path.{_≡_, sym, _∙_}
 use mathlib.Core.Bool.{Bool, true, false}
 use Prim.Native.Nat.{ℕ, _<_, _≤_}
 use native.Mathlib.Omega.{arith}
 use lib.Dec.{ltb}
 use Rattle.seq.specs.Order.{lexLess}
-use Rattle.seq.proofs.OrderLaws.{lex-true, less-lex, lex-strict, lex-trans, lex-total, ltb-strict, ltb-trans, ltb-total}
-use Rattle.model.specs.Parties.{levelOf, numberOf, better}
+use Rattle.seq.proofs.OrderLaws.{lex-true, lex-next, less-lex, lex-strict, lex-trans, lex-total, ltb-strict, ltb-trans, ltb-total}
+use Rattle.model.specs.Parties.{levelOf, rankOf, better}
 use Rattle.model.specs.State.{rowAt}
 use Rattle.model.specs.Words.{outranks}
 use Rattle.model.specs.declared.State.{State}
+use Rattle.model.specs.declared.Rank.{Rank}
 
--- what decides between rows of one level
-abbrev later : ℕ → ℕ → ℕ → ℕ → Bool
-later row d other e = lexLess d e (ltb (numberOf row) (numberOf other))
+-- what decides between ranks of one level
+abbrev later : Rank → Rank → Bool
+later x y = lexLess (x .deadline) (y .deadline) (ltb (x .number) (y .number))
 
-pub better-strict : (row d : ℕ) → better row d row d ≡ false
+pub better-strict : (x : Rank) → better x x ≡ false
 unfolding better
-better-strict row d = lex-strict (levelOf row) (later row d row d) (lex-strict d (ltb (numberOf row) (numberOf row)) (ltb-strict (numberOf row)))
+better-strict x = lex-strict (x .level) (later x x) (lex-strict (x .deadline) (ltb (x .number) (x .number)) (ltb-strict (x .number)))
 
-pub better-trans : (a d b e c f : ℕ) → better a d b e ≡ true → better b e c f ≡ true → better a d c f ≡ true
+pub better-trans : (x y z : Rank) → better x y ≡ true → better y z ≡ true → better x z ≡ true
 unfolding better
-better-trans a d b e c f =
-    lex-trans (levelOf a) (levelOf b) (levelOf c) (later a d b e) (later b e c f) (later a d c f)
-    (lex-trans d e f (ltb (numberOf a) (numberOf b)) (ltb (numberOf b) (numberOf c)) (ltb (numberOf a) (numberOf c)) (ltb-trans (numberOf a) (numberOf b) (numberOf c)))
+better-trans x y z =
+    lex-trans (x .level) (y .level) (z .level) (later x y) (later y z) (later x z)
+    (lex-trans (x .deadline) (y .deadline) (z .deadline) (ltb (x .number) (y .number)) (ltb (y .number) (z .number)) (ltb (x .number) (z .number)) (ltb-trans (x .number) (y .number) (z .number)))
 
--- two rows of which neither is better are one row
-pub better-total : (row d other e : ℕ) → better row d other e ≡ false → better other e row d ≡ false → row ≡ other
+-- two ranks of which neither is better have one level and one number
+pub better-total : (x y : Rank) → better x y ≡ false → better y x ≡ false → (x .level ≡ y .level) × (x .number ≡ y .number)
 unfolding better
-better-total row d other e p q =
-    let x = lex-total (levelOf row) (levelOf other) (later row d other e) (later other e row d) p q in
-    let y = lex-total d e (ltb (numberOf row) (numberOf other)) (ltb (numberOf other) (numberOf row)) (x .1) (x .2) in
-    last (x .0) (ltb-total (numberOf row) (numberOf other) (y .1) (y .2))
-  where
-    last : levelOf row ≡ levelOf other → numberOf row ≡ numberOf other → row ≡ other
-    last a b = omega arith
+better-total x y p q =
+    let a = lex-total (x .level) (y .level) (later x y) (later y x) p q in
+    let b = lex-total (x .deadline) (y .deadline) (ltb (x .number) (y .number)) (ltb (y .number) (x .number)) (a .1) (a .2) in
+    (a .0, ltb-total (x .number) (y .number) (b .1) (b .2))
 
-pub better-level : (row d other e : ℕ) → levelOf row < levelOf other → better row d other e ≡ true
+pub better-level : (x y : Rank) → x .level < y .level → better x y ≡ true
 unfolding better
-better-level row d other e h = less-lex (levelOf row) (levelOf other) (later row d other e) h
+better-level x y h = less-lex (x .level) (y .level) (later x y) h
 
-pub level-better : (row d other e : ℕ) → better row d other e ≡ true → levelOf row ≤ levelOf other
+pub level-better : (x y : Rank) → better x y ≡ true → x .level ≤ y .level
 unfolding better
-level-better row d other e h = lex-true (levelOf row) (levelOf other) (later row d other e) h
+level-better x y h = lex-true (x .level) (y .level) (later x y) h
+
+-- between ranks of one level and one deadline the number decides
+pub number-better : (x y : Rank) → x .level ≡ y .level → x .deadline ≡ y .deadline → ltb (x .number) (y .number) ≡ better x y
+unfolding better
+number-better x y p q =
+    sym (lex-next (x .level) (y .level) (later x y) p ∙ lex-next (x .deadline) (y .deadline) (ltb (x .number) (y .number)) q)
 
 -- the same of the rows of a state
 module _ (s : State) where
+  abbrev rank : ℕ → Rank
+  rank row = rankOf row (rowAt s row .deadline)
+
   pub outranks-strict : (row : ℕ) → outranks s row row ≡ false
   unfolding outranks
-  outranks-strict row = better-strict row (rowAt s row .deadline)
+  outranks-strict row = better-strict (rank row)
 
   pub outranks-trans : (a b c : ℕ) → outranks s a b ≡ true → outranks s b c ≡ true → outranks s a c ≡ true
   unfolding outranks
-  outranks-trans a b c = better-trans a (rowAt s a .deadline) b (rowAt s b .deadline) c (rowAt s c .deadline)
+  outranks-trans a b c = better-trans (rank a) (rank b) (rank c)
 
   pub outranks-total : (row other : ℕ) → outranks s row other ≡ false → outranks s other row ≡ false → row ≡ other
   unfolding outranks
-  outranks-total row other = better-total row (rowAt s row .deadline) other (rowAt s other .deadline)
+  outranks-total row other p q = let x = better-total (rank row) (rank other) p q in omega (arith, x .0, x .1)
 
   pub outranks-level : (row other : ℕ) → levelOf row < levelOf other → outranks s row other ≡ true
   unfolding outranks
-  outranks-level row other = better-level row (rowAt s row .deadline) other (rowAt s other .deadline)
+  outranks-level row other = better-level (rank row) (rank other)
 
   pub level-outranks : (row other : ℕ) → outranks s row other ≡ true → levelOf row ≤ levelOf other
   unfolding outranks
-  level-outranks row other = level-better row (rowAt s row .deadline) other (rowAt s other .deadline)
+  level-outranks row other = level-better (rank row) (rank other)

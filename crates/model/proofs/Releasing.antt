@@ -8,7 +8,8 @@ use Rattle.seq.specs.Below.{anyBelow}
 use Rattle.seq.proofs.BelowLaws.{none-any, any-none}
 use Rattle.seq.proofs.EachLaws.{each-still}
 use Rattle.model.specs.State.{emptySlot, emptyHolding, withClock}
-use Rattle.model.specs.Changes.{marked, written, dirtied, released}
+use Rattle.model.specs.Changes.{written, dirtied, released}
+use Rattle.model.specs.Inner.Changed.{marked}
 use Rattle.model.specs.declared.Slot.{Slot}
 use Rattle.model.specs.declared.Holding.{Holding}
 use Rattle.model.specs.declared.State.{State}

@@ -8,9 +8,8 @@ use Rattle.seq.proofs.EachLaws.{each-same}
 use Rattle.model.specs.declared.Cause.{Cause}
 use Rattle.model.specs.declared.State.{State}
 use Rattle.model.specs.State.{freeRow, emptySlot, emptyHolding, holdingAt, withRows, withSlots, withHoldings}
-use Rattle.model.specs.Changes.{written, dirtied, released, killed, killedRow}
+use Rattle.model.specs.Changes.{written, dirtied, released, killed, killedRow, wroteSlot}
 use Rattle.model.proofs.StateLaws.{Sized}
-use Rattle.model.proofs.ChangeLaws.{wroteSlot}
 
 module _ (some other : ℕ → Bool) (s : State) (same : (row : ℕ) → row < 32 → some row ≡ other row) where
   wrote-same : (slot : ℕ) → wroteSlot some s slot ≡ wroteSlot other s slot

@@ -2,3 +2,5 @@ pub mod Parties
 pub mod State
 pub mod Words
 pub mod Changes
+-- for the code
+pub mod Inner

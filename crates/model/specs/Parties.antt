@@ -5,6 +5,7 @@ use lib.Dec.{leb, ltb, eqb}
 use Rattle.seq.specs.Order.{lexLess}
 use Rattle.model.specs.declared.Mode.{Mode}
 use Rattle.model.specs.declared.Mode.the-variants.{Read, Write}
+use Rattle.model.specs.declared.Rank.{Rank}
 
 -- each level has eight rows of its own, numbers 0 to 7; over all levels a row is one number below 32
 abbrev pub rowOf : ℕ → ℕ → ℕ
@@ -45,8 +46,12 @@ lastClock = 4000000000
 abbrev pub isPast : ℕ → ℕ → Bool
 isPast clock deadline = leb deadline clock
 
--- priority compares level, then deadline, then row number; smaller is better
-unfoldable pub better : ℕ → ℕ → ℕ → ℕ → Bool
-better row deadline other deadline′ =
-    lexLess (levelOf row) (levelOf other)
-    (lexLess deadline deadline′ (ltb (numberOf row) (numberOf other)))
+-- a row's rank is what priority compares: level, then deadline, then row number
+abbrev pub rankOf : ℕ → ℕ → Rank
+rankOf row deadline = record { level = levelOf row; deadline = deadline; number = numberOf row }
+
+-- priority: smaller is better
+unfoldable pub better : Rank → Rank → Bool
+better x y =
+    lexLess (x .level) (y .level)
+    (lexLess (x .deadline) (y .deadline) (ltb (x .number) (y .number)))

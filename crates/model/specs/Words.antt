@@ -16,7 +16,7 @@ use Rattle.model.specs.declared.Pin.{Pin}
 use Rattle.model.specs.declared.Pin.the-variants.{Absent, Unpinned, Read, Write}
 use Rattle.model.specs.declared.Slot.{Slot}
 use Rattle.model.specs.declared.State.{State}
-use Rattle.model.specs.Parties.{levelOf, better}
+use Rattle.model.specs.Parties.{levelOf, rankOf, better}
 use Rattle.model.specs.State.{emptySlot, rowAt, slotAt, holdingAt}
 
 -- idle, fetching and waiting rows are live
@@ -120,7 +120,7 @@ seesDormant s level slot = eqb level 3 && dormant s slot
 
 -- the first row has better priority than the second
 unfoldable pub outranks : State → ℕ → ℕ → Bool
-outranks s row other = better row (rowAt s row .deadline) other (rowAt s other .deadline)
+outranks s row other = better (rankOf row (rowAt s row .deadline)) (rankOf other (rowAt s other .deadline))
 
 -- the holder of best priority
 unfoldable pub bestHolder : State → ℕ → Found

@@ -20,7 +20,9 @@ use Rattle.model.specs.Words.{isOpen, slotOf}
 use Rattle.rules.specs.Refusals.{lookRefusal, viewRefusal, countRefusal}
 use Rattle.rules.specs.Answers.{word, value, slotTold, backTold}
 use Rattle.rules.specs.Calls.{unless, looked, lookedAt, viewedIn, viewed, counted}
-use Rattle.rules.specs.Run.{Call, look, view, count, outcome}
+use Rattle.model.specs.declared.Call.{Call}
+use Rattle.model.specs.declared.Call.the-variants.{Look, View, Count}
+use Rattle.rules.specs.Run.{outcome}
 use Rattle.area.specs.Layout.{encoded, decoded, soundArea}
 use Rattle.area.proofs.RoundTrip.{sound-area-bytes}
 use Rattle.sabre.specs.Lent.{unfit, isRefused, answerOn, areaAfter, status, answerNumbers}
@@ -45,17 +47,17 @@ unless-keeps : (n : ℕ) (s : State) (x : Answer) → unless n s (record { state
 unless-keeps zero s x = refl
 unless-keeps (suc n) s x = refl
 
-pub look-keeps : (a : List ℕ) (level number : ℕ) → areaAfter a (look level number) ≡ a
+pub look-keeps : (a : List ℕ) (level number : ℕ) → areaAfter a (Look level number) ≡ a
 unfolding unfit outcome lookedAt
-look-keeps a level number = kept-area a (look level number) refl (unless-keeps (lookRefusal level number) (decoded a) (looked (rowAt (decoded a) (rowOf level number) .condition)))
+look-keeps a level number = kept-area a (Look level number) refl (unless-keeps (lookRefusal level number) (decoded a) (looked (rowAt (decoded a) (rowOf level number) .condition)))
 
-pub view-keeps : (a : List ℕ) (level page : ℕ) → areaAfter a (view level page) ≡ a
+pub view-keeps : (a : List ℕ) (level page : ℕ) → areaAfter a (View level page) ≡ a
 unfolding unfit outcome viewed
-view-keeps a level page = kept-area a (view level page) refl (unless-keeps (viewRefusal level page) (decoded a) (viewedIn (slotOf (decoded a) page) (decoded a) level))
+view-keeps a level page = kept-area a (View level page) refl (unless-keeps (viewRefusal level page) (decoded a) (viewedIn (slotOf (decoded a) page) (decoded a) level))
 
-pub count-keeps : (a : List ℕ) (level : ℕ) → areaAfter a (count level) ≡ a
+pub count-keeps : (a : List ℕ) (level : ℕ) → areaAfter a (Count level) ≡ a
 unfolding unfit outcome counted
-count-keeps a level = kept-area a (count level) refl (unless-keeps (countRefusal level) (decoded a) (Open (countBelow (decoded a .size) (isOpen (decoded a) level))))
+count-keeps a level = kept-area a (Count level) refl (unless-keeps (countRefusal level) (decoded a) (Open (countBelow (decoded a .size) (isOpen (decoded a) level))))
 
 -- what a record's call returns, tells and leaves
 module _ (a : List ℕ) (x : Input) (r : ℕ) (ns b : List ℕ) where

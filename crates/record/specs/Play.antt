@@ -10,7 +10,8 @@ use Rattle.words.specs.Bytes.{part}
 use Rattle.model.specs.declared.Answer.{Answer}
 use Rattle.model.specs.declared.Answer.the-variants.{Refused}
 use Rattle.rules.specs.Answers.{word}
-use Rattle.rules.specs.Run.{Call, start, begin, request, retry, unpin, end, tick, look, view, count}
+use Rattle.model.specs.declared.Call.{Call}
+use Rattle.model.specs.declared.Call.the-variants.{Start, Begin, Request, Retry, Unpin, End, Tick, Look, View, Count}
 use Rattle.sabre.specs.Lent.{answerOn, areaAfter, answerNumbers}
 use Rattle.record.specs.declared.Progress.{Progress}
 use Rattle.record.specs.Record.{Record, bad, call, recordOf}
@@ -22,16 +23,16 @@ isBad (call c) = false
 
 abbrev pub isStart : Record → Bool
 isStart bad = false
-isStart (call (start slots delay)) = true
-isStart (call (begin level number deadline)) = false
-isStart (call (request level number page mode)) = false
-isStart (call (retry level number)) = false
-isStart (call (unpin level number page)) = false
-isStart (call (end level number)) = false
-isStart (call tick) = false
-isStart (call (look level number)) = false
-isStart (call (view level page)) = false
-isStart (call (count level)) = false
+isStart (call (Start slots delay)) = true
+isStart (call (Begin level number deadline)) = false
+isStart (call (Request level number page mode)) = false
+isStart (call (Retry level number)) = false
+isStart (call (Unpin level number page)) = false
+isStart (call (End level number)) = false
+isStart (call Tick) = false
+isStart (call (Look level number)) = false
+isStart (call (View level page)) = false
+isStart (call (Count level)) = false
 
 -- before an accepted start every record of another kind is bad
 unfoldable pub admitted : Bool → Record → Record

@@ -5,7 +5,8 @@ use Prim.Native.Nat.{ℕ, _+_, _*_}
 use lib.Dec.{eqb}
 use lib.ListN.{length}
 use Rattle.words.specs.Bytes.{part}
-use Rattle.rules.specs.Run.{Call, start, begin, request, retry, unpin, end, tick, look, view, count}
+use Rattle.model.specs.declared.Call.{Call}
+use Rattle.model.specs.declared.Call.the-variants.{Start, Begin, Request, Retry, Unpin, End, Tick, Look, View, Count}
 use Rattle.record.specs.declared.Input.{Input}
 use Rattle.record.specs.declared.Input.the-variants.{Bad, Start, Begin, Request, Unpin, End, Retry, Tick, Look, View, Count}
 
@@ -26,16 +27,16 @@ field r at n = bigEndian 0 (part r at n)
 -- the kinds 0 to 9 and the fields that each uses
 unfoldable pub ofKind : (kind level row mode page value : ℕ) → Record
 ofKind kind level row mode page value =
-    cond (eqb kind 0) (call (start page value))
-    (cond (eqb kind 1) (call (begin level row value))
-    (cond (eqb kind 2) (call (request level row page mode))
-    (cond (eqb kind 3) (call (unpin level row page))
-    (cond (eqb kind 4) (call (end level row))
-    (cond (eqb kind 5) (call (retry level row))
-    (cond (eqb kind 6) (call tick)
-    (cond (eqb kind 7) (call (look level row))
-    (cond (eqb kind 8) (call (view level page))
-    (cond (eqb kind 9) (call (count level)) bad)))))))))
+    cond (eqb kind 0) (call (Start page value))
+    (cond (eqb kind 1) (call (Begin level row value))
+    (cond (eqb kind 2) (call (Request level row page mode))
+    (cond (eqb kind 3) (call (Unpin level row page))
+    (cond (eqb kind 4) (call (End level row))
+    (cond (eqb kind 5) (call (Retry level row))
+    (cond (eqb kind 6) (call Tick)
+    (cond (eqb kind 7) (call (Look level row))
+    (cond (eqb kind 8) (call (View level page))
+    (cond (eqb kind 9) (call (Count level)) bad)))))))))
 
 -- a whole record has 12 bytes, and the mark C3 5A stands first
 unfoldable pub isWhole : List ℕ → Bool
@@ -48,13 +49,13 @@ recordOf r = cond (isWhole r) (ofKind (field r 2 1) (field r 3 1) (field r 4 1) 
 -- the record that a value of the enum stands for
 abbrev pub meant : Input → Record
 meant Bad = bad
-meant (Start slots delay) = call (start slots delay)
-meant (Begin level row deadline) = call (begin level row deadline)
-meant (Request level row page mode) = call (request level row page mode)
-meant (Unpin level row page) = call (unpin level row page)
-meant (End level row) = call (end level row)
-meant (Retry level row) = call (retry level row)
-meant Tick = call tick
-meant (Look level row) = call (look level row)
-meant (View level page) = call (view level page)
-meant (Count level) = call (count level)
+meant (Start slots delay) = call (Start slots delay)
+meant (Begin level row deadline) = call (Begin level row deadline)
+meant (Request level row page mode) = call (Request level row page mode)
+meant (Unpin level row page) = call (Unpin level row page)
+meant (End level row) = call (End level row)
+meant (Retry level row) = call (Retry level row)
+meant Tick = call Tick
+meant (Look level row) = call (Look level row)
+meant (View level page) = call (View level page)
+meant (Count level) = call (Count level)

@@ -1,5 +1,6 @@
 pub mod Sound
 pub mod Calls
+pub mod Content
 pub mod Run
 pub mod Requests
 pub mod Arrivals

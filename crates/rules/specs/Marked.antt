@@ -4,7 +4,9 @@ use Prim.Native.Nat.{ℕ, _+_}
 use Rattle.model.specs.State.{fresh}
 use Rattle.model.specs.declared.Answer.{Answer}
 use Rattle.rules.specs.Answers.{word, value, slotTold, backTold}
-use Rattle.rules.specs.Run.{Call, start, begin, request, unpin, end, tick, look, view, count, answers}
+use Rattle.model.specs.declared.Call.{Call}
+use Rattle.model.specs.declared.Call.the-variants.{Start, Begin, Request, Unpin, End, Tick, Look, View, Count}
+use Rattle.rules.specs.Run.{answers}
 
 -- an output line: word, value, slot plus one or 0, page to write back plus one or 0
 pub record Line : Type 0 where
@@ -86,113 +88,113 @@ lineOf p = p .line
 -- document 01's session S
 abbrev pub session : List Played
 session =
-    start 1 1 gives started!
-    ∷ begin 1 0 100 gives begun!
-    ∷ request 1 0 1024 1 gives fetch! 1 0
-    ∷ tick gives clock! 1
-    ∷ begin 0 0 90 gives begun!
-    ∷ count 0 gives open! 1
-    ∷ request 0 0 7 0 gives fetch-back! 2 0 1024
-    ∷ look 1 0 gives taken!
-    ∷ view 1 7 gives read! 2
-    ∷ count 1 gives open! 0
-    ∷ request 1 0 1024 0 gives refused! 10
+    Start 1 1 gives started!
+    ∷ Begin 1 0 100 gives begun!
+    ∷ Request 1 0 1024 1 gives fetch! 1 0
+    ∷ Tick gives clock! 1
+    ∷ Begin 0 0 90 gives begun!
+    ∷ Count 0 gives open! 1
+    ∷ Request 0 0 7 0 gives fetch-back! 2 0 1024
+    ∷ Look 1 0 gives taken!
+    ∷ View 1 7 gives read! 2
+    ∷ Count 1 gives open! 0
+    ∷ Request 1 0 1024 0 gives refused! 10
     ∷ []
 
 -- M1 slots 64 and 65
 abbrev pub m1 : List Played
-m1 = start 64 1 gives started! ∷ start 65 1 gives refused! 2 ∷ []
+m1 = Start 64 1 gives started! ∷ Start 65 1 gives refused! 2 ∷ []
 
 -- M2 delay 255 and 256
 abbrev pub m2 : List Played
-m2 = start 1 255 gives started! ∷ start 1 256 gives refused! 3 ∷ []
+m2 = Start 1 255 gives started! ∷ Start 1 256 gives refused! 3 ∷ []
 
 -- M3 level 1 reads 1,023; 2,048 gives 13
 abbrev pub m3 : List Played
-m3 = start 1 1 gives started! ∷ begin 1 0 100 gives begun! ∷ request 1 0 2048 0 gives refused! 13 ∷ request 1 0 1023 0 gives fetch! 1 0 ∷ []
+m3 = Start 1 1 gives started! ∷ Begin 1 0 100 gives begun! ∷ Request 1 0 2048 0 gives refused! 13 ∷ Request 1 0 1023 0 gives fetch! 1 0 ∷ []
 
 -- M4 level 1 writes 4,095; 1,023 gives 14
 abbrev pub m4 : List Played
-m4 = start 1 1 gives started! ∷ begin 1 0 100 gives begun! ∷ request 1 0 1023 1 gives refused! 14 ∷ request 1 0 4095 1 gives fetch! 1 0 ∷ []
+m4 = Start 1 1 gives started! ∷ Begin 1 0 100 gives begun! ∷ Request 1 0 1023 1 gives refused! 14 ∷ Request 1 0 4095 1 gives fetch! 1 0 ∷ []
 
 -- M5 deadline 1 begun at clock 0 is late after one tick
 abbrev pub m5 : List Played
-m5 = start 1 1 gives started! ∷ begin 0 0 1 gives begun! ∷ look 0 0 gives idle! ∷ tick gives clock! 1 ∷ look 0 0 gives late! ∷ []
+m5 = Start 1 1 gives started! ∷ Begin 0 0 1 gives begun! ∷ Look 0 0 gives idle! ∷ Tick gives clock! 1 ∷ Look 0 0 gives late! ∷ []
 
 -- M6 one slot, equal deadlines at level 0: row 2 pins 7, row 3 waits for 8; the other way round row 3 is taken
 abbrev pub m6 : List Played
-m6 = start 1 1 gives started! ∷ begin 0 2 100 gives begun! ∷ begin 0 3 100 gives begun! ∷ request 0 2 7 0 gives fetch! 1 0 ∷ request 0 3 8 0 gives wait! ∷ []
+m6 = Start 1 1 gives started! ∷ Begin 0 2 100 gives begun! ∷ Begin 0 3 100 gives begun! ∷ Request 0 2 7 0 gives fetch! 1 0 ∷ Request 0 3 8 0 gives wait! ∷ []
 
 abbrev pub m6-round : List Played
 m6-round =
-    start 1 1 gives started!
-    ∷ begin 0 2 100 gives begun!
-    ∷ begin 0 3 100 gives begun!
-    ∷ request 0 3 7 0 gives fetch! 1 0
-    ∷ request 0 2 8 0 gives fetch! 1 0
-    ∷ look 0 3 gives taken!
+    Start 1 1 gives started!
+    ∷ Begin 0 2 100 gives begun!
+    ∷ Begin 0 3 100 gives begun!
+    ∷ Request 0 3 7 0 gives fetch! 1 0
+    ∷ Request 0 2 8 0 gives fetch! 1 0
+    ∷ Look 0 3 gives taken!
     ∷ []
 
 -- M7 one slot: row 0 (deadline 50) has 7 unpinned, row 1 (40) fetches 8; row 0 stays idle
 abbrev pub m7 : List Played
 m7 =
-    start 1 1 gives started!
-    ∷ begin 0 0 50 gives begun!
-    ∷ begin 0 1 40 gives begun!
-    ∷ request 0 0 7 0 gives fetch! 1 0
-    ∷ tick gives clock! 1
-    ∷ unpin 0 0 7 gives unpinned!
-    ∷ request 0 1 8 0 gives fetch! 2 0
-    ∷ look 0 0 gives idle!
+    Start 1 1 gives started!
+    ∷ Begin 0 0 50 gives begun!
+    ∷ Begin 0 1 40 gives begun!
+    ∷ Request 0 0 7 0 gives fetch! 1 0
+    ∷ Tick gives clock! 1
+    ∷ Unpin 0 0 7 gives unpinned!
+    ∷ Request 0 1 8 0 gives fetch! 2 0
+    ∷ Look 0 0 gives idle!
     ∷ []
 
 -- M8 page 7 dormant and arrived: a level 0 request is a fetch; from that same state a level 3 request instead is ready
 abbrev pub m8-before : List Played → List Played
 m8-before last =
-    start 1 1 gives started!
-    ∷ begin 0 0 100 gives begun!
-    ∷ request 0 0 7 0 gives fetch! 1 0
-    ∷ tick gives clock! 1
-    ∷ end 0 0 gives ended!
-    ∷ begin 0 0 100 gives begun!
-    ∷ begin 3 0 100 gives begun!
+    Start 1 1 gives started!
+    ∷ Begin 0 0 100 gives begun!
+    ∷ Request 0 0 7 0 gives fetch! 1 0
+    ∷ Tick gives clock! 1
+    ∷ End 0 0 gives ended!
+    ∷ Begin 0 0 100 gives begun!
+    ∷ Begin 3 0 100 gives begun!
     ∷ last
 
 abbrev pub m8 : List Played
-m8 = m8-before (request 0 0 7 0 gives fetch! 2 0 ∷ [])
+m8 = m8-before (Request 0 0 7 0 gives fetch! 2 0 ∷ [])
 
 abbrev pub m8-instead : List Played
-m8-instead = m8-before (request 3 0 7 0 gives ready! 0 ∷ [])
+m8-instead = m8-before (Request 3 0 7 0 gives ready! 0 ∷ [])
 
 -- M9 level 3 reads 7; level 0 writes it: same slot, level 3 taken
 abbrev pub m9 : List Played
 m9 =
-    start 2 1 gives started!
-    ∷ begin 3 0 100 gives begun!
-    ∷ begin 0 0 100 gives begun!
-    ∷ request 3 0 7 0 gives fetch! 1 0
-    ∷ request 0 0 7 1 gives fetch! 1 0
-    ∷ look 3 0 gives taken!
+    Start 2 1 gives started!
+    ∷ Begin 3 0 100 gives begun!
+    ∷ Begin 0 0 100 gives begun!
+    ∷ Request 3 0 7 0 gives fetch! 1 0
+    ∷ Request 0 0 7 1 gives fetch! 1 0
+    ∷ Look 3 0 gives taken!
     ∷ []
 
 -- M10 a row pinning the only slot waits for a second page
 abbrev pub m10 : List Played
-m10 = start 1 1 gives started! ∷ begin 0 0 100 gives begun! ∷ request 0 0 7 0 gives fetch! 1 0 ∷ tick gives clock! 1 ∷ request 0 0 8 0 gives wait! ∷ []
+m10 = Start 1 1 gives started! ∷ Begin 0 0 100 gives begun! ∷ Request 0 0 7 0 gives fetch! 1 0 ∷ Tick gives clock! 1 ∷ Request 0 0 8 0 gives wait! ∷ []
 
 -- M11 two slots: level 1 has 1,024 unpinned, level 2 pins 2,048; level 0 fetches 7: level 2 is taken, level 1 still sees 1,024
 abbrev pub m11 : List Played
 m11 =
-    start 2 1 gives started!
-    ∷ begin 1 0 100 gives begun!
-    ∷ begin 2 0 100 gives begun!
-    ∷ request 1 0 1024 0 gives fetch! 1 0
-    ∷ tick gives clock! 1
-    ∷ unpin 1 0 1024 gives unpinned!
-    ∷ request 2 0 2048 0 gives fetch! 2 1
-    ∷ begin 0 0 100 gives begun!
-    ∷ request 0 0 7 0 gives fetch! 2 1
-    ∷ look 2 0 gives taken!
-    ∷ view 1 1024 gives active! 1
+    Start 2 1 gives started!
+    ∷ Begin 1 0 100 gives begun!
+    ∷ Begin 2 0 100 gives begun!
+    ∷ Request 1 0 1024 0 gives fetch! 1 0
+    ∷ Tick gives clock! 1
+    ∷ Unpin 1 0 1024 gives unpinned!
+    ∷ Request 2 0 2048 0 gives fetch! 2 1
+    ∷ Begin 0 0 100 gives begun!
+    ∷ Request 0 0 7 0 gives fetch! 2 1
+    ∷ Look 2 0 gives taken!
+    ∷ View 1 1024 gives active! 1
     ∷ []
 
 abbrev pub table : List (List Played)

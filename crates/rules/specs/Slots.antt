@@ -8,7 +8,7 @@ use Rattle.model.specs.declared.State.{State}
 use Rattle.model.specs.State.{slotAt}
 use Rattle.model.specs.Words.{dirtyIn, hasPage, pins, slotOf}
 use Rattle.rules.specs.Choice.{chosen}
-use Rattle.rules.specs.Run.{Call}
+use Rattle.model.specs.declared.Call.{Call}
 use Rattle.rules.specs.Requests.{Asks}
 
 -- the slot has the page and is dirty

@@ -38,16 +38,18 @@ use Rattle.model.specs.declared.Answer.the-variants.{
   Open,
 }
 use Rattle.model.specs.State.{fresh}
-use Rattle.model.specs.Changes.{changed, outcomeOf}
+use Rattle.model.specs.Inner.Changed.{changed, outcomeOf}
 use Rattle.rules.specs.Sound.{sound}
 use Rattle.rules.specs.Answers.{word, value, slotTold, backTold}
 use Rattle.rules.specs.Refusals.{startRefusal}
 use Rattle.rules.specs.Calls.{unless, started}
-use Rattle.rules.specs.Run.{Call, start, outcome}
-use Rattle.rules.proofs.SoundFacts.{Sound, facts}
-use Rattle.rules.proofs.Granting.{grant-ready, granted-answer}
-use Rattle.rules.proofs.CallCases.{isServed}
-use Rattle.rules.proofs.WaitFetch.{granted-alone}
+use Rattle.model.specs.declared.Call.{Call}
+use Rattle.model.specs.declared.Call.the-variants.{Start}
+use Rattle.rules.specs.Run.{outcome}
+use Rattle.rules.proofs.Facts.SoundFacts.{Sound, facts}
+use Rattle.rules.proofs.Promises.Granting.{grant-ready, granted-answer}
+use Rattle.rules.proofs.Promises.CallCases.{isServed}
+use Rattle.rules.proofs.Promises.WaitFetch.{granted-alone}
 use Rattle.area.specs.Layout.{encoded, decoded, exact, soundArea}
 use Rattle.area.proofs.RoundTrip.{sound-area}
 use Rattle.sabre.specs.Lent.{unfit, isRefused, answerOn, areaAfter, status, answerNumbers}
@@ -175,11 +177,11 @@ module _ (a : List ℕ) (c : Call) (s : State) (e : s ≡ decoded a) where
 
 -- a start that is refused by its numbers, and one that is accepted
 module _ (a : List ℕ) (slots delay r : ℕ) (ns b : List ℕ) (l : 65536 ≤ length a) where
-  pub start-refused : (n : ℕ) → n ≡ startRefusal slots delay → (n ≡ 0 → ⊥) → r ≡ status (Refused n) → ns ≡ answerNumbers (Refused n) → b ≡ a → Promise a (start slots delay) r ns b
+  pub start-refused : (n : ℕ) → n ≡ startRefusal slots delay → (n ≡ 0 → ⊥) → r ≡ status (Refused n) → ns ≡ answerNumbers (Refused n) → b ≡ a → Promise a (Start slots delay) r ns b
   unfolding unfit outcome started status word value
   start-refused zero e k p q t = absurd (k refl)
-  start-refused (suc n) e k p q t = finished a (start slots delay) (record { state = decoded a; answer = Refused (suc n) }) r ns b (le-ltb (length a) 65536 l) (rw (← e)) p q t
+  start-refused (suc n) e k p q t = finished a (Start slots delay) (record { state = decoded a; answer = Refused (suc n) }) r ns b (le-ltb (length a) 65536 l) (rw (← e)) p q t
 
-  pub start-accepted : (n : ℕ) → n ≡ startRefusal slots delay → n ≡ 0 → r ≡ status Started → ns ≡ answerNumbers Started → b ≡ encoded (fresh slots delay) ++ drop 65536 a → Promise a (start slots delay) r ns b
+  pub start-accepted : (n : ℕ) → n ≡ startRefusal slots delay → n ≡ 0 → r ≡ status Started → ns ≡ answerNumbers Started → b ≡ encoded (fresh slots delay) ++ drop 65536 a → Promise a (Start slots delay) r ns b
   unfolding unfit outcome started status word value
-  start-accepted n e k p q t = finished a (start slots delay) (record { state = fresh slots delay; answer = Started }) r ns b (le-ltb (length a) 65536 l) (rw (← e, k)) p q t
+  start-accepted n e k p q t = finished a (Start slots delay) (record { state = fresh slots delay; answer = Started }) r ns b (le-ltb (length a) 65536 l) (rw (← e, k)) p q t

@@ -7,21 +7,23 @@ use lib.ListN.{length, drop}
 use Rattle.model.specs.declared.Answer.{Answer}
 use Rattle.model.specs.declared.Answer.the-variants.{Refused}
 use Rattle.rules.specs.Answers.{word, value, slotTold, backTold}
-use Rattle.rules.specs.Run.{Call, start, begin, request, retry, unpin, end, tick, look, view, count, outcome}
+use Rattle.model.specs.declared.Call.{Call}
+use Rattle.model.specs.declared.Call.the-variants.{Start, Begin, Request, Retry, Unpin, End, Tick, Look, View, Count}
+use Rattle.rules.specs.Run.{outcome}
 use Rattle.area.specs.Layout.{encoded, decoded, soundArea}
 
 -- refusal 1: the area is under 65,536 bytes, or (not for start) unsound
 unfoldable pub unfit : List ℕ → Call → Bool
-unfit a (start slots delay) = ltb (length a) 65536
-unfit a (begin level number deadline) = not (soundArea a)
-unfit a (request level number page mode) = not (soundArea a)
-unfit a (retry level number) = not (soundArea a)
-unfit a (unpin level number page) = not (soundArea a)
-unfit a (end level number) = not (soundArea a)
-unfit a tick = not (soundArea a)
-unfit a (look level number) = not (soundArea a)
-unfit a (view level page) = not (soundArea a)
-unfit a (count level) = not (soundArea a)
+unfit a (Start slots delay) = ltb (length a) 65536
+unfit a (Begin level number deadline) = not (soundArea a)
+unfit a (Request level number page mode) = not (soundArea a)
+unfit a (Retry level number) = not (soundArea a)
+unfit a (Unpin level number page) = not (soundArea a)
+unfit a (End level number) = not (soundArea a)
+unfit a Tick = not (soundArea a)
+unfit a (Look level number) = not (soundArea a)
+unfit a (View level page) = not (soundArea a)
+unfit a (Count level) = not (soundArea a)
 
 -- the answer of a call on an area
 unfoldable pub answerOn : List ℕ → Call → Answer

@@ -9,8 +9,8 @@ ghost use mathlib.Core.List.{[], _∷_, _++_};
 ghost use Prim.Native.Nat.{_≤_};
 ghost use lib.ListN.{length, drop};
 ghost use Rattle.rules.specs.Answers.{causeWord, pageBack, slotTold};
-ghost use Rattle.rules.specs.Run.{start, begin, request, retry, unpin, end, tick, look, view, count};
-ghost use Rattle.model.specs.Changes.{changed};
+ghost use Rattle.model.specs.declared.Call.the-variants.{Start, Begin, Request, Retry, Unpin, End, Tick, Look, View, Count};
+ghost use Rattle.model.specs.Inner.Changed.{changed};
 ghost use Rattle.area.specs.Layout.{encoded, decoded, exact};
 ghost use Rattle.sabre.specs.Lent.{isRefused, answerOn, areaAfter, status, answerNumbers};
 
@@ -169,9 +169,9 @@ fn finish(area: &mut [u8], answer: &mut [u64; 4], r: Reply) -> u32
 // A fresh start on any area of at least 65,536 bytes.
 #[no_mangle]
 pub extern "C" fn sabre_start(area: &mut [u8], slots: u32, delay: u32, answer: &mut [u64; 4]) -> u32
-    ensures returned { λ r. ⌜ r ≡ status (answerOn (now (area .entry)) (start slots delay)) ⌝ }
-    ensures told { λ _. ⌜ now (answer .exit) ≡ answerNumbers (answerOn (now (area .entry)) (start slots delay)) ⌝ }
-    ensures left { λ _. ⌜ now (area .exit) ≡ areaAfter (now (area .entry)) (start slots delay) ⌝ }
+    ensures returned { λ r. ⌜ r ≡ status (answerOn (now (area .entry)) (Start slots delay)) ⌝ }
+    ensures told { λ _. ⌜ now (answer .exit) ≡ answerNumbers (answerOn (now (area .entry)) (Start slots delay)) ⌝ }
+    ensures left { λ _. ⌜ now (area .exit) ≡ areaAfter (now (area .entry)) (Start slots delay) ⌝ }
 {
     if area.len() < 65536 {
         return refuse(answer);
@@ -193,9 +193,9 @@ pub extern "C" fn sabre_begin(
     deadline: u32,
     answer: &mut [u64; 4],
 ) -> u32
-    ensures returned { λ r. ⌜ r ≡ status (answerOn (now (area .entry)) (begin level row deadline)) ⌝ }
-    ensures told { λ _. ⌜ now (answer .exit) ≡ answerNumbers (answerOn (now (area .entry)) (begin level row deadline)) ⌝ }
-    ensures left { λ _. ⌜ now (area .exit) ≡ areaAfter (now (area .entry)) (begin level row deadline) ⌝ }
+    ensures returned { λ r. ⌜ r ≡ status (answerOn (now (area .entry)) (Begin level row deadline)) ⌝ }
+    ensures told { λ _. ⌜ now (answer .exit) ≡ answerNumbers (answerOn (now (area .entry)) (Begin level row deadline)) ⌝ }
+    ensures left { λ _. ⌜ now (area .exit) ≡ areaAfter (now (area .entry)) (Begin level row deadline) ⌝ }
 {
     if area.len() < 65536 {
         return refuse(answer);
@@ -218,9 +218,9 @@ pub extern "C" fn sabre_request(
     mode: u32,
     answer: &mut [u64; 4],
 ) -> u32
-    ensures returned { λ r. ⌜ r ≡ status (answerOn (now (area .entry)) (request level row page mode)) ⌝ }
-    ensures told { λ _. ⌜ now (answer .exit) ≡ answerNumbers (answerOn (now (area .entry)) (request level row page mode)) ⌝ }
-    ensures left { λ _. ⌜ now (area .exit) ≡ areaAfter (now (area .entry)) (request level row page mode) ⌝ }
+    ensures returned { λ r. ⌜ r ≡ status (answerOn (now (area .entry)) (Request level row page mode)) ⌝ }
+    ensures told { λ _. ⌜ now (answer .exit) ≡ answerNumbers (answerOn (now (area .entry)) (Request level row page mode)) ⌝ }
+    ensures left { λ _. ⌜ now (area .exit) ≡ areaAfter (now (area .entry)) (Request level row page mode) ⌝ }
 {
     if area.len() < 65536 {
         return refuse(answer);
@@ -236,9 +236,9 @@ pub extern "C" fn sabre_request(
 
 #[no_mangle]
 pub extern "C" fn sabre_retry(area: &mut [u8], level: u32, row: u32, answer: &mut [u64; 4]) -> u32
-    ensures returned { λ r. ⌜ r ≡ status (answerOn (now (area .entry)) (retry level row)) ⌝ }
-    ensures told { λ _. ⌜ now (answer .exit) ≡ answerNumbers (answerOn (now (area .entry)) (retry level row)) ⌝ }
-    ensures left { λ _. ⌜ now (area .exit) ≡ areaAfter (now (area .entry)) (retry level row) ⌝ }
+    ensures returned { λ r. ⌜ r ≡ status (answerOn (now (area .entry)) (Retry level row)) ⌝ }
+    ensures told { λ _. ⌜ now (answer .exit) ≡ answerNumbers (answerOn (now (area .entry)) (Retry level row)) ⌝ }
+    ensures left { λ _. ⌜ now (area .exit) ≡ areaAfter (now (area .entry)) (Retry level row) ⌝ }
 {
     if area.len() < 65536 {
         return refuse(answer);
@@ -260,9 +260,9 @@ pub extern "C" fn sabre_unpin(
     page: u32,
     answer: &mut [u64; 4],
 ) -> u32
-    ensures returned { λ r. ⌜ r ≡ status (answerOn (now (area .entry)) (unpin level row page)) ⌝ }
-    ensures told { λ _. ⌜ now (answer .exit) ≡ answerNumbers (answerOn (now (area .entry)) (unpin level row page)) ⌝ }
-    ensures left { λ _. ⌜ now (area .exit) ≡ areaAfter (now (area .entry)) (unpin level row page) ⌝ }
+    ensures returned { λ r. ⌜ r ≡ status (answerOn (now (area .entry)) (Unpin level row page)) ⌝ }
+    ensures told { λ _. ⌜ now (answer .exit) ≡ answerNumbers (answerOn (now (area .entry)) (Unpin level row page)) ⌝ }
+    ensures left { λ _. ⌜ now (area .exit) ≡ areaAfter (now (area .entry)) (Unpin level row page) ⌝ }
 {
     if area.len() < 65536 {
         return refuse(answer);
@@ -278,9 +278,9 @@ pub extern "C" fn sabre_unpin(
 
 #[no_mangle]
 pub extern "C" fn sabre_end(area: &mut [u8], level: u32, row: u32, answer: &mut [u64; 4]) -> u32
-    ensures returned { λ r. ⌜ r ≡ status (answerOn (now (area .entry)) (end level row)) ⌝ }
-    ensures told { λ _. ⌜ now (answer .exit) ≡ answerNumbers (answerOn (now (area .entry)) (end level row)) ⌝ }
-    ensures left { λ _. ⌜ now (area .exit) ≡ areaAfter (now (area .entry)) (end level row) ⌝ }
+    ensures returned { λ r. ⌜ r ≡ status (answerOn (now (area .entry)) (End level row)) ⌝ }
+    ensures told { λ _. ⌜ now (answer .exit) ≡ answerNumbers (answerOn (now (area .entry)) (End level row)) ⌝ }
+    ensures left { λ _. ⌜ now (area .exit) ≡ areaAfter (now (area .entry)) (End level row) ⌝ }
 {
     if area.len() < 65536 {
         return refuse(answer);
@@ -296,9 +296,9 @@ pub extern "C" fn sabre_end(area: &mut [u8], level: u32, row: u32, answer: &mut 
 
 #[no_mangle]
 pub extern "C" fn sabre_tick(area: &mut [u8], answer: &mut [u64; 4]) -> u32
-    ensures returned { λ r. ⌜ r ≡ status (answerOn (now (area .entry)) tick) ⌝ }
-    ensures told { λ _. ⌜ now (answer .exit) ≡ answerNumbers (answerOn (now (area .entry)) tick) ⌝ }
-    ensures left { λ _. ⌜ now (area .exit) ≡ areaAfter (now (area .entry)) tick ⌝ }
+    ensures returned { λ r. ⌜ r ≡ status (answerOn (now (area .entry)) Tick) ⌝ }
+    ensures told { λ _. ⌜ now (answer .exit) ≡ answerNumbers (answerOn (now (area .entry)) Tick) ⌝ }
+    ensures left { λ _. ⌜ now (area .exit) ≡ areaAfter (now (area .entry)) Tick ⌝ }
 {
     if area.len() < 65536 {
         return refuse(answer);
@@ -314,8 +314,8 @@ pub extern "C" fn sabre_tick(area: &mut [u8], answer: &mut [u64; 4]) -> u32
 
 #[no_mangle]
 pub extern "C" fn sabre_look(area: &[u8], level: u32, row: u32, answer: &mut [u64; 4]) -> u32
-    ensures returned { λ r. ⌜ r ≡ status (answerOn (now (area .entry)) (look level row)) ⌝ }
-    ensures told { λ _. ⌜ now (answer .exit) ≡ answerNumbers (answerOn (now (area .entry)) (look level row)) ⌝ }
+    ensures returned { λ r. ⌜ r ≡ status (answerOn (now (area .entry)) (Look level row)) ⌝ }
+    ensures told { λ _. ⌜ now (answer .exit) ≡ answerNumbers (answerOn (now (area .entry)) (Look level row)) ⌝ }
 {
     if area.len() < 65536 {
         return refuse(answer);
@@ -331,8 +331,8 @@ pub extern "C" fn sabre_look(area: &[u8], level: u32, row: u32, answer: &mut [u6
 
 #[no_mangle]
 pub extern "C" fn sabre_view(area: &[u8], level: u32, page: u32, answer: &mut [u64; 4]) -> u32
-    ensures returned { λ r. ⌜ r ≡ status (answerOn (now (area .entry)) (view level page)) ⌝ }
-    ensures told { λ _. ⌜ now (answer .exit) ≡ answerNumbers (answerOn (now (area .entry)) (view level page)) ⌝ }
+    ensures returned { λ r. ⌜ r ≡ status (answerOn (now (area .entry)) (View level page)) ⌝ }
+    ensures told { λ _. ⌜ now (answer .exit) ≡ answerNumbers (answerOn (now (area .entry)) (View level page)) ⌝ }
 {
     if area.len() < 65536 {
         return refuse(answer);
@@ -348,8 +348,8 @@ pub extern "C" fn sabre_view(area: &[u8], level: u32, page: u32, answer: &mut [u
 
 #[no_mangle]
 pub extern "C" fn sabre_count(area: &[u8], level: u32, answer: &mut [u64; 4]) -> u32
-    ensures returned { λ r. ⌜ r ≡ status (answerOn (now (area .entry)) (count level)) ⌝ }
-    ensures told { λ _. ⌜ now (answer .exit) ≡ answerNumbers (answerOn (now (area .entry)) (count level)) ⌝ }
+    ensures returned { λ r. ⌜ r ≡ status (answerOn (now (area .entry)) (Count level)) ⌝ }
+    ensures told { λ _. ⌜ now (answer .exit) ≡ answerNumbers (answerOn (now (area .entry)) (Count level)) ⌝ }
 {
     if area.len() < 65536 {
         return refuse(answer);

@@ -19,7 +19,8 @@ use Rattle.model.specs.declared.Mode.{Mode}
 use Rattle.model.specs.declared.Slot.{Slot}
 use Rattle.model.specs.declared.State.{State}
 use Rattle.model.specs.State.{emptyHolding}
-use Rattle.model.specs.Changes.{marked, released, killed, cleared, holdingAfter, changed, outcomeOf}
+use Rattle.model.specs.Changes.{released, killed, cleared}
+use Rattle.model.specs.Inner.Changed.{marked, holdingAfter, changed, outcomeOf}
 use Rattle.model.proofs.StateLaws.{Sized}
 use Rattle.model.proofs.ChangedLaws.{holdings-are, held-at, held-set, changed-none}
 use Rattle.rules.specs.Calls.{waiting, granted, filled}

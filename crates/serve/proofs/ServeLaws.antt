@@ -19,11 +19,12 @@ use Rattle.model.specs.declared.State.{State}
 use Rattle.model.specs.Parties.{levelOf}
 use Rattle.model.specs.State.{emptySlot, slotAt}
 use Rattle.model.specs.Words.{dormant, pageSlot, slotOf}
-use Rattle.model.specs.Changes.{marked, released, killed, outcomeOf}
+use Rattle.model.specs.Changes.{released, killed}
+use Rattle.model.specs.Inner.Changed.{marked, outcomeOf}
 use Rattle.model.proofs.StateLaws.{Sized}
 use Rattle.rules.specs.Choice.{orElse, stepA, stepB, beforeDormant, inC, inD, inE, inF, beforeHeld, stepHeld, chosen}
 use Rattle.rules.specs.Calls.{waiting, granted, filled, writeBack, intoSlot, served}
-use Rattle.rules.proofs.PageLaws.{found-slot}
+use Rattle.rules.proofs.Leaves.PageLaws.{found-slot}
 use Rattle.serve.specs.declared.Plan.{Plan}
 use Rattle.serve.specs.SlotHoldings.{holdingsOn, pinMarks}
 use Rattle.serve.specs.Replies.{waitReply, planned, rowsTaken, slotFilled, granting}

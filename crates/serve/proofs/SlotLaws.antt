@@ -21,7 +21,8 @@ use Rattle.model.specs.declared.State.{State}
 use Rattle.model.specs.Parties.{levelOf}
 use Rattle.model.specs.State.{freeRow, emptyHolding, slotAt, holdingAt}
 use Rattle.model.specs.Words.{isFilled, isHeld, isPin, holds, pins, seenHolder, seen, dormant, seesDormant, outranks, leastArrival}
-use Rattle.model.specs.Changes.{marked, killed}
+use Rattle.model.specs.Changes.{killed}
+use Rattle.model.specs.Inner.Changed.{marked}
 use Rattle.model.proofs.StateLaws.{Sized}
 use Rattle.model.proofs.SameRows.{killed-same}
 use Rattle.rules.specs.Calls.{conflicts, mustWait, pinnersKilled}

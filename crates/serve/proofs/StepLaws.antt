@@ -16,7 +16,8 @@ use Rattle.model.specs.declared.State.{State}
 use Rattle.model.specs.Parties.{levelOf}
 use Rattle.model.specs.State.{slotAt}
 use Rattle.model.specs.Words.{arrivalIn, seen, seesDormant}
-use Rattle.model.specs.Changes.{marked, killed}
+use Rattle.model.specs.Changes.{killed}
+use Rattle.model.specs.Inner.Changed.{marked}
 use Rattle.model.proofs.StateLaws.{Sized}
 use Rattle.rules.specs.Calls.{waiting, granted, step1, step2, step3, servedAt}
 use Rattle.serve.specs.declared.Plan.{Plan}

@@ -11,7 +11,7 @@ use Rattle.model.specs.declared.Holding.{Holding}
 use Rattle.model.specs.declared.Back.{Back}
 use Rattle.model.specs.declared.Answer.{Answer}
 use Rattle.model.specs.declared.Answer.the-variants.{Ready, Fetch}
-use Rattle.model.specs.Parties.{levelOf, better}
+use Rattle.model.specs.Parties.{levelOf, rankOf, better}
 use Rattle.model.specs.Words.{isHeld, pinOf, conflict}
 use Rattle.rules.specs.Calls.{heldWith, withLowest}
 
@@ -30,7 +30,7 @@ conflictTest row mode other h = not (eqb other row) && conflict (pinOf mode) (h 
 -- it is seen, and of better priority
 unfoldable pub barTest : ℕ → ℕ → Mode → ℕ → ℕ → Holding → Bool
 barTest row deadline mode other rival h =
-    leb (levelOf other) (levelOf row) && conflictTest row mode other h && better other rival row deadline
+    leb (levelOf other) (levelOf row) && conflictTest row mode other h && better (rankOf other rival) (rankOf row deadline)
 
 -- step 4
 unfoldable pub heldNow : Holding → Mode → ℕ → ℕ → Holding

@@ -17,7 +17,8 @@ use Rattle.model.specs.declared.Reply.{Reply}
 use Rattle.model.specs.Parties.{levelOf}
 use Rattle.model.specs.State.{freeRow, emptySlot, emptyHolding}
 use Rattle.model.specs.Words.{arrivalIn}
-use Rattle.model.specs.Changes.{marked, killedRow, holdingsDropped}
+use Rattle.model.specs.Changes.{killedRow}
+use Rattle.model.specs.Inner.Changed.{marked, holdingsDropped}
 use Rattle.serve.specs.declared.Plan.{Plan}
 use Rattle.serve.specs.Elements.{heldNow, filledSlot, touchedSlot, grantedRow, grantedAnswer}
 use Rattle.serve.specs.SlotHoldings.{seenIn, leastIn, seesDormantIn, mustWaitIn, conflictMarks}

@@ -19,7 +19,7 @@ ghost use lib.ListN.{getD};
 ghost use Rattle.model.specs.State.{emptySlot};
 ghost use Rattle.model.specs.Words.{isFilled, arrivalIn};
 ghost use Rattle.model.specs.Parties.{levelOf};
-ghost use Rattle.model.specs.Changes.{outcomeOf};
+ghost use Rattle.model.specs.Inner.Changed.{outcomeOf};
 ghost use Rattle.rules.specs.Calls.{writeBack, served};
 ghost use Rattle.serve.specs.Elements.{seenTest, lesser, conflictTest, barTest, heldNow, filledSlot, touchedSlot, grantedRow, grantedAnswer};
 ghost use Rattle.serve.specs.SlotHoldings.{holdingsOn, seenIn, leastIn, seesDormantIn, mustWaitIn, conflictMarks, pinMarks};
@@ -98,7 +98,9 @@ fn is_barred(row: usize, deadline: u32, mode: Mode, other: usize, rival: u32, h:
 {
     if other / 8 <= row / 8 {
         if is_rival(row, mode, other, h) {
-            return model::is_better(other, rival, row, deadline);
+            let x = model::rank_of(other, rival);
+            let y = model::rank_of(row, deadline);
+            return model::is_better(x, y);
         }
         return false;
     }

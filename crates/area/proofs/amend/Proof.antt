@@ -15,47 +15,36 @@ use Rattle.area.proofs.put_rows.Reads as put-rows-reads
 use Rattle.area.proofs.put_slots.Reads as put-slots-reads
 use Rattle.words.proofs.put_words.Reads as put-words-reads
 
--- src/lib.rt:432:15
 cast-t9 : tie.Need-cast-t9
 cast-t9 c = search needs
 
--- src/lib.rt:433:29
 slice-aggregate-put-words : tie.Need-slice-aggregate-put-words
 slice-aggregate-put-words c = search needs
 
--- src/lib.rt:433:5
 put-words-requires : tie.Need-put-words-requires
 put-words-requires c κs = omega (arith, exact-long (c .before .before .before .before .args .a .now) (c .before .before .before .before .pre))
 
--- src/lib.rt:435:5
 put-rows-requires : tie.Need-put-rows-requires
 put-rows-requires c κs = omega (arith, exact-long (c .before .before .before .before .before .before .before .before .before .args .a .now) (c .before .before .before .before .before .before .before .before .before .pre), c .before .before .before .before .put-words .kept .0)
 
--- src/lib.rt:437:5
 put-slots-requires : tie.Need-put-slots-requires
 put-slots-requires c κs = omega (arith, exact-long (c .before .before .before .before .before .before .before .before .before .before .before .before .before .before .args .a .now) (c .before .before .before .before .before .before .before .before .before .before .before .before .before .before .pre), c .before .before .before .before .put-rows .kept .0, c .before .before .before .before .before .before .before .before .before .put-words .kept .0)
 
--- src/lib.rt:439:5
 drop-rows-requires : tie.Need-drop-rows-requires
 drop-rows-requires c κs = omega (arith, exact-long (c .before .before .before .before .before .before .before .before .before .before .before .before .before .before .before .before .before .before .before .args .a .now) (c .before .before .before .before .before .before .before .before .before .before .before .before .before .before .before .before .before .before .before .pre), c .before .before .before .before .put-slots .kept .0, c .before .before .before .before .before .before .before .before .before .put-rows .kept .0, c .before .before .before .before .before .before .before .before .before .before .before .before .before .before .put-words .kept .0)
 
--- src/lib.rt:443:9
 put-held-requires : tie.Need-put-held-requires
 put-held-requires c κs = (omega (arith, exact-long (c .before .before .before .before .before .before .before .before .before .before .before .before .before .before .before .before .before .before .before .before .before .before .before .before .before .args .a .now) (c .before .before .before .before .before .before .before .before .before .before .before .before .before .before .before .before .before .before .before .before .before .before .before .before .before .pre), c .before .before .before .before .before .drop-rows .kept .0, c .before .before .before .before .before .before .before .before .before .before .put-slots .kept .0, c .before .before .before .before .before .before .before .before .before .before .before .before .before .before .before .put-rows .kept .0, c .before .before .before .before .before .before .before .before .before .before .before .before .before .before .before .before .before .before .before .before .put-words .kept .0), c .before .before .if1 .taken)
 
--- src/lib.rt:428:1
 same-length : tie.Need-same-length
 same-length c = search needs
 
--- src/lib.rt:428:1
 returns : tie.Need-returns
 returns c = amended (decoded (c .before .before .before .before .before .before .before .before .before .before .before .before .before .before .before .before .before .before .before .before .before .before .before .before .before .before .before .before .args .a .now)) (decoded-sized (c .before .before .before .before .before .before .before .before .before .before .before .before .before .before .before .before .before .before .before .before .before .before .before .before .before .before .before .before .args .a .now) .holdings) (c .before .before .before .before .before .before .before .before .before .before .before .before .before .before .before .before .before .before .before .before .before .before .before .before .before .before .before .before .args .c) (drop 65536 (c .before .before .before .before .before .before .before .before .before .before .before .before .before .before .before .before .before .before .before .before .before .before .before .before .before .before .before .before .args .a .now)) (c .before .before .before .before .before .before .before .before .before .before .before .before .before .before .before .before .before .before .before .before .before .before .before .before .before .before .before .before .args .a .now) _ _ _ _ (exact-area (c .before .before .before .before .before .before .before .before .before .before .before .before .before .before .before .before .before .before .before .before .before .before .before .before .before .before .before .before .args .a .now) (c .before .before .before .before .before .before .before .before .before .before .before .before .before .before .before .before .before .before .before .before .before .before .before .before .before .before .before .before .pre)) (c .before .before .before .before .before .before .before .before .before .before .before .before .before .before .before .before .before .before .before .before .before .before .before .put-words .ensures) (c .before .before .before .before .before .before .before .before .before .before .before .before .before .before .before .before .before .before .put-rows .ensures) (c .before .before .before .before .before .before .before .before .before .before .before .before .before .put-slots .ensures) (c .before .before .before .before .before .before .before .before .drop-rows .ensures) _ (c .before .before .before .before .before .if1 .taken) (c .before .before .put-held .ensures)
 
--- src/lib.rt:428:1
 same-length-2 : tie.Need-same-length-2
 same-length-2 c = search needs
 
--- src/lib.rt:428:1
 returns-2 : tie.Need-returns-2
 returns-2 c = amended-rows (decoded (c .before .before .before .before .before .before .before .before .before .before .before .before .before .before .before .before .before .before .before .before .before .before .before .args .a .now)) (decoded-sized (c .before .before .before .before .before .before .before .before .before .before .before .before .before .before .before .before .before .before .before .before .before .before .before .args .a .now) .holdings) (c .before .before .before .before .before .before .before .before .before .before .before .before .before .before .before .before .before .before .before .before .before .before .before .args .c) (drop 65536 (c .before .before .before .before .before .before .before .before .before .before .before .before .before .before .before .before .before .before .before .before .before .before .before .args .a .now)) (c .before .before .before .before .before .before .before .before .before .before .before .before .before .before .before .before .before .before .before .before .before .before .before .args .a .now) _ _ _ _ (exact-area (c .before .before .before .before .before .before .before .before .before .before .before .before .before .before .before .before .before .before .before .before .before .before .before .args .a .now) (c .before .before .before .before .before .before .before .before .before .before .before .before .before .before .before .before .before .before .before .before .before .before .before .pre)) (c .before .before .before .before .before .before .before .before .before .before .before .before .before .before .before .before .before .before .put-words .ensures) (c .before .before .before .before .before .before .before .before .before .before .before .before .before .put-rows .ensures) (c .before .before .before .before .before .before .before .before .put-slots .ensures) (c .before .before .before .drop-rows .ensures) (c .if1 .left)
 

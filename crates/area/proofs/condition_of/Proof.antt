@@ -27,42 +27,33 @@ taken : (n w m : ℕ) → (n ≡ 0 → ⊥) → (n ≡ 1 → ⊥) → (n ≡ 2 �
 unfolding conditionOf
 taken n w m a b c d e = rw (ne-eqb n 0 a, ne-eqb n 1 b, ne-eqb n 2 c, ne-eqb n 3 d, ne-eqb n 4 e)
 
--- src/lib.rt:80:9
 returns : tie.Need-returns
 unfolding conditionOf
 returns c = simp (tests, c .if1 .taken)
 
--- src/lib.rt:83:9
 returns-2 : tie.Need-returns-2
 unfolding conditionOf
 returns-2 c = simp (tests, c .if2 .taken, c .before .if1 .left)
 
--- src/lib.rt:86:36
 low-requires : tie.Need-low-requires
 low-requires c κs = search needs
 
--- src/lib.rt:86:9
 returns-3 : tie.Need-returns-3
 unfolding conditionOf
 returns-3 c = simp (tests, c .low .ensures, c .before .if3 .taken, c .before .before .if2 .left, c .before .before .before .if1 .left)
 
--- src/lib.rt:90:19
 low-requires-2 : tie.Need-low-requires-2
 low-requires-2 c κs = search needs
 
--- src/lib.rt:91:19
 mode-of-requires : tie.Need-mode-of-requires
 mode-of-requires c κs = search needs
 
--- src/lib.rt:89:9
 returns-4 : tie.Need-returns-4
 returns-4 c = waiting _ _ _ _ _ (c .before .before .if4 .taken) (c .before .low2 .ensures) (c .mode-of .ensures)
 
--- src/lib.rt:95:9
 returns-5 : tie.Need-returns-5
 returns-5 c = late _ _ _ (c .if5 .taken)
 
--- src/lib.rt:76:1
 returns-6 : tie.Need-returns-6
 returns-6 c = taken _ _ _ (c .before .before .before .before .if1 .left) (c .before .before .before .if2 .left) (c .before .before .if3 .left) (c .before .if4 .left) (c .if5 .left)
 

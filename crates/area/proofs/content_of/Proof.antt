@@ -7,20 +7,16 @@ use Rattle.area.proofs.content_of.Reads as reads
 use Rattle.area.proofs.content_of.Lts as lts
 use Rattle.area.proofs.low.Reads as low-reads
 
--- src/lib.rt:119:9
 returns : tie.Need-returns
 unfolding contentOf
 returns c = simp (tests, c .if1 .taken)
 
--- src/lib.rt:122:15
 low-requires : tie.Need-low-requires
 low-requires c κs = search needs
 
--- src/lib.rt:123:18
 low-requires-2 : tie.Need-low-requires-2
 low-requires-2 c κs = search needs
 
--- src/lib.rt:115:1
 returns-2 : tie.Need-returns-2
 unfolding contentOf
 returns-2 c = simp (tests, c .low2 .ensures, c .before .low .ensures, c .before .before .if1 .left)

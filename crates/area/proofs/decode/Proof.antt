@@ -45,100 +45,76 @@ Inv-loop a sound size delay clock frame exact₀ state₀ k₀ exact state k = (
 abbrev μ-loop : tie.MeasureT-loop
 μ-loop a sound size delay clock frame exact₀ state₀ k₀ exact state k = 2048 - k
 
--- src/lib.rt:318:16
 word-requires : tie.Need-word-requires Inv-loop μ-loop
 word-requires c κs = omega arith
 
--- src/lib.rt:319:21
 word-requires-2 : tie.Need-word-requires-2 Inv-loop μ-loop
 word-requires-2 c κs = omega arith
 
--- src/lib.rt:319:9
 low-requires : tie.Need-low-requires Inv-loop μ-loop
 low-requires c κs = omega arith
 
--- src/lib.rt:320:21
 word-requires-3 : tie.Need-word-requires-3 Inv-loop μ-loop
 word-requires-3 c κs = omega arith
 
--- src/lib.rt:320:9
 low-requires-2 : tie.Need-low-requires-2 Inv-loop μ-loop
 low-requires-2 c κs = omega arith
 
--- src/lib.rt:321:9
 get-rows-requires : tie.Need-get-rows-requires Inv-loop μ-loop
 get-rows-requires c κs = omega arith
 
--- src/lib.rt:322:9
 get-slots-requires : tie.Need-get-slots-requires Inv-loop μ-loop
 get-slots-requires c κs = omega arith
 
--- src/lib.rt:323:9
 is-frame-requires : tie.Need-is-frame-requires Inv-loop μ-loop
 is-frame-requires c κs = omega arith
 
--- src/lib.rt:324:33
 both-requires : tie.Need-both-requires Inv-loop μ-loop
 both-requires c κs = omega arith
 
--- src/lib.rt:324:9
 both-requires-2 : tie.Need-both-requires-2 Inv-loop μ-loop
 both-requires-2 c κs = omega arith
 
--- src/lib.rt:327:9
 empty-holdings-requires : tie.Need-empty-holdings-requires Inv-loop μ-loop
 empty-holdings-requires c κs = omega arith
 
--- src/lib.rt:336:5
 loop-holds : tie.Need-loop-holds Inv-loop μ-loop
 unfolding allBelow
 loop-holds c = (omega arith, holdings-still _ _ (c .empty-holdings .ensures ∙ each-below-none (λ j _. holdingFrom (c .before .before .before .before .before .before .before .before .before .before .before .before .before .before .args .a .now) (6656 + j * 24)) emptyHoldings), sym (and-true _))
 
--- src/lib.rt:337:25
 mul-at : tie.Need-mul-at Inv-loop μ-loop
 mul-at c = omega arith
 
--- src/lib.rt:337:18
 add-at : tie.Need-add-at Inv-loop μ-loop
 add-at c = omega arith
 
--- src/lib.rt:338:13
 get-holding-requires : tie.Need-get-holding-requires Inv-loop μ-loop
 get-holding-requires c κs = omega arith
 
--- src/lib.rt:339:18
 holding-words-requires : tie.Need-holding-words-requires Inv-loop μ-loop
 holding-words-requires c κs = omega arith
 
--- src/lib.rt:340:53
 slice-aggregate-has-words : tie.Need-slice-aggregate-has-words Inv-loop μ-loop
 slice-aggregate-has-words c = omega arith
 
--- src/lib.rt:340:29
 has-words-requires : tie.Need-has-words-requires Inv-loop μ-loop
 has-words-requires c κs = omega arith
 
--- src/lib.rt:340:9
 both-requires-3 : tie.Need-both-requires-3 Inv-loop μ-loop
 both-requires-3 c κs = omega arith
 
--- src/lib.rt:341:9
 mul-x : tie.Need-mul-x Inv-loop μ-loop
 mul-x c = omega arith
 
--- src/lib.rt:341:9
 element-set-from-x : tie.Need-element-set-from-x Inv-loop μ-loop
 element-set-from-x c = omega arith
 
--- src/lib.rt:336:9
 add-k : tie.Need-add-k Inv-loop μ-loop
 add-k c = omega arith
 
--- src/lib.rt:336:5
 loop-less : tie.Need-loop-less Inv-loop μ-loop
 loop-less c = omega arith
 
--- src/lib.rt:336:5
 loop-again : tie.Need-loop-again Inv-loop μ-loop
 loop-again c = (
   omega arith,
@@ -148,11 +124,9 @@ loop-again c = (
       (c .both3 .ensures),
 )
 
--- src/lib.rt:344:18
 is-sound-requires : tie.Need-is-sound-requires Inv-loop μ-loop
 is-sound-requires c κs = omega arith
 
--- src/lib.rt:345:9
 returns : tie.Need-returns Inv-loop μ-loop
 returns c =
     let e : c .before .before .before .loop .k ≡ 2048 = omega arith in
@@ -160,7 +134,6 @@ returns c =
     let t = exact-tests (c .before .before .before .before .before .before .before .before .before .before .before .before .before .before .before .before .before .before .args .a .now) _ _ _ _ _ _ _ (λ i. omega (arith, c .before .before .before .before .before .before .before .before .before .before .before .before .before .before .before .before .before .shared-slice-known .given i)) (omega arith) (c .before .before .before .before .before .before .before .before .before .is-frame .ensures ∙ framed (c .before .before .before .before .before .before .before .before .before .before .before .before .before .before .before .before .before .before .args .a .now) _ _ _ (c .before .before .before .before .before .before .before .before .before .before .before .before .before .before .before .before .word .ensures) (c .before .before .before .before .before .before .before .before .before .before .before .before .before .before .low .ensures ∙ ap low (c .before .before .before .before .before .before .before .before .before .before .before .before .before .before .before .word2 .ensures)) (c .before .before .before .before .before .before .before .before .before .before .before .before .low2 .ensures ∙ ap low (c .before .before .before .before .before .before .before .before .before .before .before .before .before .word3 .ensures))) (c .before .before .before .before .before .before .before .before .before .before .before .get-rows .ensures .1) (c .before .before .before .before .before .before .before .before .before .before .get-slots .ensures .1) (all-exact (c .before .before .before .before .before .before .before .before .before .before .before .before .before .before .before .before .before .before .args .a .now)) (c .before .before .before .before .before .before .before .before .both .ensures) (c .before .before .before .before .before .before .before .both2 .ensures) (c .before .before .before .loop .inv .2 ∙ rw e) in
     (s, decode-sound (c .before .before .before .before .before .before .before .before .before .before .before .before .before .before .before .before .before .before .args .a .now) _ _ (omega arith) (sym t ∙ c .before .if1 .taken) s (c .is-sound .ensures))
 
--- src/lib.rt:314:1
 returns-2 : tie.Need-returns-2 Inv-loop μ-loop
 returns-2 c =
     let e : c .before .before .loop .k ≡ 2048 = omega arith in

@@ -16,48 +16,37 @@ Inv-loop a₀ row i₀ a i = (i ≤ 64) × (length a ≡ length a₀) × (a ≡ 
 abbrev μ-loop : tie.MeasureT-loop
 μ-loop a₀ row i₀ a i = 64 - i
 
--- src/lib.rt:398:5
 loop-holds : tie.Need-loop-holds Inv-loop μ-loop
 unfolding rowDropped
 loop-holds c = (omega arith, refl, refl)
 
--- src/lib.rt:399:37
 mul-put-zeros : tie.Need-mul-put-zeros Inv-loop μ-loop
 mul-put-zeros c = omega arith
 
--- src/lib.rt:399:37
 add-put-zeros : tie.Need-add-put-zeros Inv-loop μ-loop
 add-put-zeros c = omega arith
 
--- src/lib.rt:399:36
 mul-put-zeros-2 : tie.Need-mul-put-zeros-2 Inv-loop μ-loop
 mul-put-zeros-2 c = omega arith
 
--- src/lib.rt:399:29
 add-put-zeros-2 : tie.Need-add-put-zeros-2 Inv-loop μ-loop
 add-put-zeros-2 c = omega arith
 
--- src/lib.rt:399:9
 put-zeros-requires : tie.Need-put-zeros-requires Inv-loop μ-loop
 put-zeros-requires c κs = omega arith
 
--- src/lib.rt:398:9
 add-i : tie.Need-add-i Inv-loop μ-loop
 add-i c = omega arith
 
--- src/lib.rt:398:5
 loop-less : tie.Need-loop-less Inv-loop μ-loop
 loop-less c = omega arith
 
--- src/lib.rt:398:5
 loop-again : tie.Need-loop-again Inv-loop μ-loop
 loop-again c = (omega arith, omega arith, drop-turn (c .before .before .before .before .before .before .before .args .row) (c .before .before .before .before .before .loop .i) (c .before .before .before .before .before .before .before .args .a .now) (c .before .before .before .before .before .loop .a) _ (c .before .before .before .before .before .loop .inv .2) (c .before .before .put-zeros .ensures))
 
--- src/lib.rt:394:1
 same-length : tie.Need-same-length Inv-loop μ-loop
 same-length c = omega arith
 
--- src/lib.rt:394:1
 returns : tie.Need-returns Inv-loop μ-loop
 returns c = let e : c .before .loop .i ≡ 64 = omega arith in c .before .loop .inv .2 ∙ rw e
 

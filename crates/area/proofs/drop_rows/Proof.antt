@@ -3,7 +3,7 @@ use mathlib.Core.Path.{_≡_, refl, _∙_, ap}
 use mathlib.Core.Logic.{⊎-elim}
 use Prim.Native.Nat.{_≤_, _-_}
 use lib.ListN.{length}
-use Rattle.model.specs.Changes.{marked}
+use Rattle.model.specs.Inner.Changed.{marked}
 use Rattle.area.specs.Writes.{rowsDropped}
 use Rattle.area.proofs.LoopLaws.{drops-turn, skips-turn}
 use Rattle.area.proofs.drop_rows.Statement.{statement}
@@ -18,28 +18,22 @@ Inv-loop a₀ gone row₀ a row = (row ≤ 32) × (length a ≡ length a₀) × 
 abbrev μ-loop : tie.MeasureT-loop
 μ-loop a₀ gone row₀ a row = 32 - row
 
--- src/lib.rt:408:5
 loop-holds : tie.Need-loop-holds Inv-loop μ-loop
 unfolding rowsDropped
 loop-holds c = (omega arith, refl, refl)
 
--- src/lib.rt:409:12
 array-read-if1 : tie.Need-array-read-if1 Inv-loop μ-loop
 array-read-if1 c = omega arith
 
--- src/lib.rt:410:13
 drop-row-requires : tie.Need-drop-row-requires Inv-loop μ-loop
 drop-row-requires c κs = omega arith
 
--- src/lib.rt:408:9
 add-row : tie.Need-add-row Inv-loop μ-loop
 add-row c = omega arith
 
--- src/lib.rt:408:5
 loop-less : tie.Need-loop-less Inv-loop μ-loop
 loop-less c = omega arith
 
--- src/lib.rt:408:5
 loop-again : tie.Need-loop-again Inv-loop μ-loop
 loop-again c =
     let b = c .before .before in (
@@ -51,11 +45,9 @@ loop-again c =
           (c .if1 .came),
     )
 
--- src/lib.rt:404:1
 same-length : tie.Need-same-length Inv-loop μ-loop
 same-length c = omega arith
 
--- src/lib.rt:404:1
 returns : tie.Need-returns Inv-loop μ-loop
 returns c = let e : c .before .loop .row ≡ 32 = omega arith in c .before .loop .inv .2 ∙ rw e
 

@@ -5,7 +5,6 @@ use Rattle.area.proofs.empty_slots.Tie as tie
 use Rattle.area.proofs.empty_slots.Reads as reads
 use Rattle.area.proofs.empty_slots.Lts as lts
 
--- src/lib.rt:250:1
 returns : tie.Need-returns
 unfolding emptySlots
 returns c = refl

@@ -27,72 +27,55 @@ Inv-loop a₀ s k₀ a k = (k ≤ 2048) × (length a ≡ length a₀) × (a ≡ 
 abbrev μ-loop : tie.MeasureT-loop
 μ-loop a₀ s k₀ a k = 2048 - k
 
--- src/lib.rt:383:14
 header-words-requires : tie.Need-header-words-requires Inv-loop μ-loop
 header-words-requires c κs = omega arith
 
--- src/lib.rt:384:28
 slice-aggregate-put-words : tie.Need-slice-aggregate-put-words Inv-loop μ-loop
 slice-aggregate-put-words c = omega arith
 
--- src/lib.rt:384:5
 put-words-requires : tie.Need-put-words-requires Inv-loop μ-loop
 put-words-requires c κs = omega arith
 
--- src/lib.rt:385:5
 put-zeros-requires : tie.Need-put-zeros-requires Inv-loop μ-loop
 put-zeros-requires c κs = omega arith
 
--- src/lib.rt:387:5
 put-rows-requires : tie.Need-put-rows-requires Inv-loop μ-loop
 put-rows-requires c κs = omega arith
 
--- src/lib.rt:389:5
 put-slots-requires : tie.Need-put-slots-requires Inv-loop μ-loop
 put-slots-requires c κs = omega arith
 
--- src/lib.rt:390:5
 loop-holds : tie.Need-loop-holds Inv-loop μ-loop
 unfolding joined
 loop-holds c = (omega arith, refl, spliced-none _ 6656)
 
--- src/lib.rt:391:17
 mul-x : tie.Need-mul-x Inv-loop μ-loop
 mul-x c = omega arith
 
--- src/lib.rt:391:17
 element-copy-out-x : tie.Need-element-copy-out-x Inv-loop μ-loop
 element-copy-out-x c = omega arith
 
--- src/lib.rt:392:18
 holding-words-requires : tie.Need-holding-words-requires Inv-loop μ-loop
 holding-words-requires c κs = omega arith
 
--- src/lib.rt:393:36
 mul-put-words : tie.Need-mul-put-words Inv-loop μ-loop
 mul-put-words c = omega arith
 
--- src/lib.rt:393:29
 add-put-words : tie.Need-add-put-words Inv-loop μ-loop
 add-put-words c = omega arith
 
--- src/lib.rt:393:44
 slice-aggregate-put-words-2 : tie.Need-slice-aggregate-put-words-2 Inv-loop μ-loop
 slice-aggregate-put-words-2 c = omega arith
 
--- src/lib.rt:393:9
 put-words-requires-2 : tie.Need-put-words-requires-2 Inv-loop μ-loop
 put-words-requires-2 c κs = omega arith
 
--- src/lib.rt:390:9
 add-k : tie.Need-add-k Inv-loop μ-loop
 add-k c = omega arith
 
--- src/lib.rt:390:5
 loop-less : tie.Need-loop-less Inv-loop μ-loop
 loop-less c = omega arith
 
--- src/lib.rt:390:5
 loop-again : tie.Need-loop-again Inv-loop μ-loop
 loop-again c = (
   omega arith,
@@ -101,15 +84,12 @@ loop-again c = (
       (c .before .before .before .before .before .before .before .before .loop .inv .2) (c .before .before .put-words2 .ensures) (ap wordBytes (c .before .before .before .before .before .holding-words .ensures)),
 )
 
--- src/lib.rt:395:5
 put-zeros-requires-2 : tie.Need-put-zeros-requires-2 Inv-loop μ-loop
 put-zeros-requires-2 c κs = omega arith
 
--- src/lib.rt:379:1
 same-length : tie.Need-same-length Inv-loop μ-loop
 same-length c = omega arith
 
--- src/lib.rt:379:1
 returns : tie.Need-returns Inv-loop μ-loop
 returns c = let e : c .before .before .before .before .before .loop .k ≡ 2048 = omega arith in encode-steps (c .before .before .before .before .before .before .before .before .before .before .before .before .before .before .before .before .before .before .before .before .before .before .before .before .before .before .before .args .t2) (c .before .before .before .before .before .before .before .before .before .before .before .before .before .before .before .before .before .before .before .before .before .before .before .before .before .before .before .args .a .now) _ _ _ _ _ _ (c .before .before .before .before .before .before .before .before .before .before .before .before .before .before .before .before .before .before .before .before .before .before .before .before .before .header-words .result) (omega arith) (c .before .before .before .before .before .before .before .before .before .before .before .before .before .before .before .before .before .before .before .before .before .before .before .before .before .header-words .ensures) (c .before .before .before .before .before .before .before .before .before .before .before .before .before .before .before .before .before .before .before .before .before .before .put-words .ensures) (c .before .before .before .before .before .before .before .before .before .before .before .before .before .before .before .before .before .before .put-zeros .ensures) (c .before .before .before .before .before .before .before .before .before .before .before .before .before .put-rows .ensures) (c .before .before .before .before .before .before .before .before .put-slots .ensures) (c .before .before .before .before .before .loop .inv .2 ∙ rw e) (c .before .before .put-zeros2 .ensures)
 

@@ -5,7 +5,6 @@ use Rattle.area.proofs.free_rows.Tie as tie
 use Rattle.area.proofs.free_rows.Reads as reads
 use Rattle.area.proofs.free_rows.Lts as lts
 
--- src/lib.rt:241:1
 returns : tie.Need-returns
 unfolding freeRows
 returns c = refl

@@ -9,39 +9,30 @@ use Rattle.area.proofs.low.Reads as low-reads
 use Rattle.area.proofs.pin_numbered.Reads as pin-numbered-reads
 use Rattle.words.proofs.word.Reads as word-reads
 
--- src/lib.rt:166:9
 word-requires : tie.Need-word-requires
 word-requires c κs = search needs
 
--- src/lib.rt:167:34
 add-word : tie.Need-add-word
 add-word c = search needs
 
--- src/lib.rt:167:9
 word-requires-2 : tie.Need-word-requires-2
 word-requires-2 c κs = search needs
 
--- src/lib.rt:168:32
 add-word-2 : tie.Need-add-word-2
 add-word-2 c = search needs
 
--- src/lib.rt:168:9
 word-requires-3 : tie.Need-word-requires-3
 word-requires-3 c κs = search needs
 
--- src/lib.rt:169:9
 pin-numbered-requires : tie.Need-pin-numbered-requires
 pin-numbered-requires c κs = search needs
 
--- src/lib.rt:172:18
 low-requires : tie.Need-low-requires
 low-requires c κs = search needs
 
--- src/lib.rt:173:16
 low-requires-2 : tie.Need-low-requires-2
 low-requires-2 c κs = search needs
 
--- src/lib.rt:162:1
 returns : tie.Need-returns
 unfolding holdingFrom
 returns c = simp (tests, c .low2 .ensures, c .before .low .ensures, c .before .before .pin-numbered .ensures, c .before .before .before .word3 .ensures, c .before .before .before .before .word2 .ensures, c .before .before .before .before .before .word .ensures)

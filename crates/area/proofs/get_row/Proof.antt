@@ -9,43 +9,33 @@ use Rattle.area.proofs.condition_of.Reads as condition-of-reads
 use Rattle.area.proofs.low.Reads as low-reads
 use Rattle.words.proofs.word.Reads as word-reads
 
--- src/lib.rt:134:9
 word-requires : tie.Need-word-requires
 word-requires c κs = search needs
 
--- src/lib.rt:135:31
 add-word : tie.Need-add-word
 add-word c = search needs
 
--- src/lib.rt:135:9
 word-requires-2 : tie.Need-word-requires-2
 word-requires-2 c κs = search needs
 
--- src/lib.rt:136:31
 add-word-2 : tie.Need-add-word-2
 add-word-2 c = search needs
 
--- src/lib.rt:136:9
 word-requires-3 : tie.Need-word-requires-3
 word-requires-3 c κs = search needs
 
--- src/lib.rt:137:35
 add-word-3 : tie.Need-add-word-3
 add-word-3 c = search needs
 
--- src/lib.rt:137:9
 word-requires-4 : tie.Need-word-requires-4
 word-requires-4 c κs = search needs
 
--- src/lib.rt:138:9
 condition-of-requires : tie.Need-condition-of-requires
 condition-of-requires c κs = search needs
 
--- src/lib.rt:141:19
 low-requires : tie.Need-low-requires
 low-requires c κs = search needs
 
--- src/lib.rt:130:1
 returns : tie.Need-returns
 unfolding rowFrom
 returns c = simp (tests, c .low .ensures, c .before .condition-of .ensures, c .before .before .word4 .ensures, c .before .before .before .word3 .ensures, c .before .before .before .before .word2 .ensures, c .before .before .before .before .before .word .ensures)

@@ -27,60 +27,46 @@ Inv-loop a rows₀ exact₀ i₀ rows exact i = (i ≤ 32) × (rows ≡ eachBelo
 abbrev μ-loop : tie.MeasureT-loop
 μ-loop a rows₀ exact₀ i₀ rows exact i = 32 - i
 
--- src/lib.rt:263:20
 free-rows-requires : tie.Need-free-rows-requires Inv-loop μ-loop
 free-rows-requires c κs = omega arith
 
--- src/lib.rt:265:5
 loop-holds : tie.Need-loop-holds Inv-loop μ-loop
 unfolding allBelow
 loop-holds c = (omega arith, c .free-rows .ensures ∙ each-below-none (λ j _. rowFrom (c .before .before .args .a .now) (512 + j * 64)) freeRows, refl)
 
--- src/lib.rt:266:24
 mul-at : tie.Need-mul-at Inv-loop μ-loop
 mul-at c = omega arith
 
--- src/lib.rt:266:18
 add-at : tie.Need-add-at Inv-loop μ-loop
 add-at c = omega arith
 
--- src/lib.rt:267:13
 get-row-requires : tie.Need-get-row-requires Inv-loop μ-loop
 get-row-requires c κs = omega arith
 
--- src/lib.rt:268:18
 row-words-requires : tie.Need-row-words-requires Inv-loop μ-loop
 row-words-requires c κs = omega arith
 
--- src/lib.rt:269:53
 slice-aggregate-has-words : tie.Need-slice-aggregate-has-words Inv-loop μ-loop
 slice-aggregate-has-words c = omega arith
 
--- src/lib.rt:269:29
 has-words-requires : tie.Need-has-words-requires Inv-loop μ-loop
 has-words-requires c κs = omega arith
 
--- src/lib.rt:269:9
 both-requires : tie.Need-both-requires Inv-loop μ-loop
 both-requires c κs = omega arith
 
--- src/lib.rt:270:9
 mul-rows : tie.Need-mul-rows Inv-loop μ-loop
 mul-rows c = omega arith
 
--- src/lib.rt:270:9
 array-set-from-rows : tie.Need-array-set-from-rows Inv-loop μ-loop
 array-set-from-rows c = omega arith
 
--- src/lib.rt:265:9
 add-i : tie.Need-add-i Inv-loop μ-loop
 add-i c = omega arith
 
--- src/lib.rt:265:5
 loop-less : tie.Need-loop-less Inv-loop μ-loop
 loop-less c = omega arith
 
--- src/lib.rt:265:5
 loop-again : tie.Need-loop-again Inv-loop μ-loop
 loop-again c = (
   omega arith,
@@ -90,7 +76,6 @@ loop-again c = (
       (c .both .ensures),
 )
 
--- src/lib.rt:259:1
 returns : tie.Need-returns Inv-loop μ-loop
 unfolding decoded exactRows
 returns c =

@@ -9,59 +9,45 @@ use Rattle.area.proofs.content_of.Reads as content-of-reads
 use Rattle.area.proofs.low.Reads as low-reads
 use Rattle.words.proofs.word.Reads as word-reads
 
--- src/lib.rt:149:9
 word-requires : tie.Need-word-requires
 word-requires c κs = search needs
 
--- src/lib.rt:150:31
 add-word : tie.Need-add-word
 add-word c = search needs
 
--- src/lib.rt:150:9
 word-requires-2 : tie.Need-word-requires-2
 word-requires-2 c κs = search needs
 
--- src/lib.rt:151:34
 add-word-2 : tie.Need-add-word-2
 add-word-2 c = search needs
 
--- src/lib.rt:151:9
 word-requires-3 : tie.Need-word-requires-3
 word-requires-3 c κs = search needs
 
--- src/lib.rt:152:32
 add-word-3 : tie.Need-add-word-3
 add-word-3 c = search needs
 
--- src/lib.rt:152:9
 word-requires-4 : tie.Need-word-requires-4
 word-requires-4 c κs = search needs
 
--- src/lib.rt:153:33
 add-word-4 : tie.Need-add-word-4
 add-word-4 c = search needs
 
--- src/lib.rt:153:9
 word-requires-5 : tie.Need-word-requires-5
 word-requires-5 c κs = search needs
 
--- src/lib.rt:154:32
 add-word-5 : tie.Need-add-word-5
 add-word-5 c = search needs
 
--- src/lib.rt:154:9
 word-requires-6 : tie.Need-word-requires-6
 word-requires-6 c κs = search needs
 
--- src/lib.rt:155:9
 content-of-requires : tie.Need-content-of-requires
 content-of-requires c κs = search needs
 
--- src/lib.rt:158:16
 low-requires : tie.Need-low-requires
 low-requires c κs = search needs
 
--- src/lib.rt:145:1
 returns : tie.Need-returns
 unfolding slotFrom
 returns c = simp (tests, c .low .ensures, c .before .content-of .ensures, c .before .before .word6 .ensures, c .before .before .before .word5 .ensures, c .before .before .before .before .word4 .ensures, c .before .before .before .before .before .word3 .ensures, c .before .before .before .before .before .before .word2 .ensures, c .before .before .before .before .before .before .before .word .ensures)

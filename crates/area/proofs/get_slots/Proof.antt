@@ -27,60 +27,46 @@ Inv-loop a slots₀ exact₀ i₀ slots exact i = (i ≤ 64) × (slots ≡ eachB
 abbrev μ-loop : tie.MeasureT-loop
 μ-loop a slots₀ exact₀ i₀ slots exact i = 64 - i
 
--- src/lib.rt:279:21
 empty-slots-requires : tie.Need-empty-slots-requires Inv-loop μ-loop
 empty-slots-requires c κs = omega arith
 
--- src/lib.rt:281:5
 loop-holds : tie.Need-loop-holds Inv-loop μ-loop
 unfolding allBelow
 loop-holds c = (omega arith, c .empty-slots .ensures ∙ each-below-none (λ j _. slotFrom (c .before .before .args .a .now) (2560 + j * 64)) emptySlots, refl)
 
--- src/lib.rt:282:25
 mul-at : tie.Need-mul-at Inv-loop μ-loop
 mul-at c = omega arith
 
--- src/lib.rt:282:18
 add-at : tie.Need-add-at Inv-loop μ-loop
 add-at c = omega arith
 
--- src/lib.rt:283:13
 get-slot-requires : tie.Need-get-slot-requires Inv-loop μ-loop
 get-slot-requires c κs = omega arith
 
--- src/lib.rt:284:18
 slot-words-requires : tie.Need-slot-words-requires Inv-loop μ-loop
 slot-words-requires c κs = omega arith
 
--- src/lib.rt:285:53
 slice-aggregate-has-words : tie.Need-slice-aggregate-has-words Inv-loop μ-loop
 slice-aggregate-has-words c = omega arith
 
--- src/lib.rt:285:29
 has-words-requires : tie.Need-has-words-requires Inv-loop μ-loop
 has-words-requires c κs = omega arith
 
--- src/lib.rt:285:9
 both-requires : tie.Need-both-requires Inv-loop μ-loop
 both-requires c κs = omega arith
 
--- src/lib.rt:286:9
 mul-slots : tie.Need-mul-slots Inv-loop μ-loop
 mul-slots c = omega arith
 
--- src/lib.rt:286:9
 array-set-from-slots : tie.Need-array-set-from-slots Inv-loop μ-loop
 array-set-from-slots c = omega arith
 
--- src/lib.rt:281:9
 add-i : tie.Need-add-i Inv-loop μ-loop
 add-i c = omega arith
 
--- src/lib.rt:281:5
 loop-less : tie.Need-loop-less Inv-loop μ-loop
 loop-less c = omega arith
 
--- src/lib.rt:281:5
 loop-again : tie.Need-loop-again Inv-loop μ-loop
 loop-again c = (
   omega arith,
@@ -90,7 +76,6 @@ loop-again c = (
       (c .both .ensures),
 )
 
--- src/lib.rt:275:1
 returns : tie.Need-returns Inv-loop μ-loop
 unfolding decoded exactSlots
 returns c =

@@ -13,35 +13,27 @@ use Rattle.words.proofs.has_zeros.Reads as has-zeros-reads
 all : {r w x y z f g : Bool} → w ≡ x → f ≡ w → f ≡ true → g ≡ y → g ≡ true → r ≡ z → r ≡ x && (y && z)
 all e f p g q h = rw (sym e ∙ sym f ∙ p, sym g ∙ q) h
 
--- src/lib.rt:300:14
 header-words-requires : tie.Need-header-words-requires
 header-words-requires c κs = search needs
 
--- src/lib.rt:301:31
 slice-aggregate-has-words : tie.Need-slice-aggregate-has-words
 slice-aggregate-has-words c = search needs
 
--- src/lib.rt:301:8
 has-words-requires : tie.Need-has-words-requires
 has-words-requires c κs = search needs
 
--- src/lib.rt:302:12
 has-zeros-requires : tie.Need-has-zeros-requires
 has-zeros-requires c κs = search needs
 
--- src/lib.rt:303:13
 has-zeros-requires-2 : tie.Need-has-zeros-requires-2
 has-zeros-requires-2 c κs = search needs
 
--- src/lib.rt:303:13
 returns : tie.Need-returns
 returns c = all (ap (hasWords (c .before .before .before .before .before .before .before .before .args .a .now) 0) (c .before .before .before .before .before .before .header-words .ensures)) (c .before .before .before .before .has-words .ensures) (c .before .before .before .if1 .taken) (c .before .before .has-zeros .ensures) (c .before .if2 .taken) (c .has-zeros2 .ensures)
 
--- src/lib.rt:305:9
 returns-2 : tie.Need-returns-2
 returns-2 c = rw (sym (c .before .before .before .has-words .ensures ∙ ap (hasWords (c .before .before .before .before .before .before .before .args .a .now) 0) (c .before .before .before .before .before .header-words .ensures)) ∙ c .before .before .if1 .taken, sym (c .before .has-zeros .ensures) ∙ c .if2 .left)
 
--- src/lib.rt:296:1
 returns-3 : tie.Need-returns-3
 returns-3 c = rw (sym (c .before .has-words .ensures ∙ ap (hasWords (c .before .before .before .before .before .args .a .now) 0) (c .before .before .before .header-words .ensures)) ∙ c .if1 .left)
 

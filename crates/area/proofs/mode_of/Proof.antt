@@ -4,11 +4,9 @@ use Rattle.area.proofs.mode_of.Tie as tie
 use Rattle.area.proofs.mode_of.Reads as reads
 use Rattle.area.proofs.mode_of.Lts as lts
 
--- src/lib.rt:71:9
 returns : tie.Need-returns
 returns c = simp (tests, c .if1 .taken)
 
--- src/lib.rt:67:1
 returns-2 : tie.Need-returns-2
 returns-2 c = simp (tests, c .if1 .left)
 

@@ -5,22 +5,18 @@ use Rattle.area.proofs.pin_numbered.Tie as tie
 use Rattle.area.proofs.pin_numbered.Reads as reads
 use Rattle.area.proofs.pin_numbered.Lts as lts
 
--- src/lib.rt:104:9
 returns : tie.Need-returns
 unfolding pinNumbered
 returns c = simp (tests, c .if1 .taken)
 
--- src/lib.rt:107:9
 returns-2 : tie.Need-returns-2
 unfolding pinNumbered
 returns-2 c = simp (tests, c .if2 .taken, c .before .if1 .left)
 
--- src/lib.rt:110:9
 returns-3 : tie.Need-returns-3
 unfolding pinNumbered
 returns-3 c = simp (tests, c .if3 .taken, c .before .if2 .left, c .before .before .if1 .left)
 
--- src/lib.rt:100:1
 returns-4 : tie.Need-returns-4
 unfolding pinNumbered
 returns-4 c = simp (tests, c .if3 .left, c .before .if2 .left, c .before .before .if1 .left)

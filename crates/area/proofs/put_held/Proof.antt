@@ -21,56 +21,43 @@ Inv-loop a₀ slot held r₀ a r = (r ≤ 32) × (length a ≡ length a₀) × (
 abbrev μ-loop : tie.MeasureT-loop
 μ-loop a₀ slot held r₀ a r = 32 - r
 
--- src/lib.rt:420:5
 loop-holds : tie.Need-loop-holds Inv-loop μ-loop
 unfolding joined
 loop-holds c = (omega arith, refl, spliced-none (c .before .args .a .now) (6656 + c .before .args .slot * 768))
 
--- src/lib.rt:421:17
 mul-x : tie.Need-mul-x Inv-loop μ-loop
 mul-x c = omega arith
 
--- src/lib.rt:421:17
 array-copy-out-x : tie.Need-array-copy-out-x Inv-loop μ-loop
 array-copy-out-x c = omega arith
 
--- src/lib.rt:422:18
 holding-words-requires : tie.Need-holding-words-requires Inv-loop μ-loop
 holding-words-requires c κs = omega arith
 
--- src/lib.rt:423:36
 mul-put-words : tie.Need-mul-put-words Inv-loop μ-loop
 mul-put-words c = omega arith
 
--- src/lib.rt:423:29
 add-put-words : tie.Need-add-put-words Inv-loop μ-loop
 add-put-words c = omega arith
 
--- src/lib.rt:423:49
 mul-put-words-2 : tie.Need-mul-put-words-2 Inv-loop μ-loop
 mul-put-words-2 c = omega arith
 
--- src/lib.rt:423:29
 add-put-words-2 : tie.Need-add-put-words-2 Inv-loop μ-loop
 add-put-words-2 c = omega arith
 
--- src/lib.rt:423:57
 slice-aggregate-put-words : tie.Need-slice-aggregate-put-words Inv-loop μ-loop
 slice-aggregate-put-words c = omega arith
 
--- src/lib.rt:423:9
 put-words-requires : tie.Need-put-words-requires Inv-loop μ-loop
 put-words-requires c κs = omega arith
 
--- src/lib.rt:420:9
 add-r : tie.Need-add-r Inv-loop μ-loop
 add-r c = omega arith
 
--- src/lib.rt:420:5
 loop-less : tie.Need-loop-less Inv-loop μ-loop
 loop-less c = omega arith
 
--- src/lib.rt:420:5
 loop-again : tie.Need-loop-again Inv-loop μ-loop
 loop-again c = (
   omega arith,
@@ -79,11 +66,9 @@ loop-again c = (
       (c .before .before .before .before .before .before .before .before .loop .inv .2) (c .before .before .put-words .ensures) (ap wordBytes (c .before .before .before .before .before .holding-words .ensures)),
 )
 
--- src/lib.rt:416:1
 same-length : tie.Need-same-length Inv-loop μ-loop
 same-length c = omega arith
 
--- src/lib.rt:416:1
 returns : tie.Need-returns Inv-loop μ-loop
 returns c = let e : c .before .loop .r ≡ 32 = omega arith in c .before .loop .inv .2 ∙ rw e
 

@@ -8,67 +8,52 @@ use Rattle.area.proofs.row_words.Lts as lts
 use Rattle.area.proofs.cause_number.Reads as cause-number-reads
 use Rattle.model.proofs.mode_number.Reads as mode-number-reads
 
--- src/lib.rt:181:20
 cast-deadline : tie.Need-cast-deadline
 cast-deadline c = search needs
 
--- src/lib.rt:184:28
 enum-told : tie.Need-enum-told
 enum-told c = search needs
 
--- src/lib.rt:185:28
 enum-told-2 : tie.Need-enum-told-2
 enum-told-2 c = search needs
 
--- src/lib.rt:186:29
 enum-known-c : tie.Need-enum-known-c
 enum-known-c c = search needs
 
--- src/lib.rt:186:41
 cast-t11 : tie.Need-cast-t11
 cast-t11 c = search needs
 
--- src/lib.rt:187:30
 enum-known-c-2 : tie.Need-enum-known-c-2
 enum-known-c-2 c = search needs
 
--- src/lib.rt:188:17
 mode-number-requires : tie.Need-mode-number-requires
 mode-number-requires c κs = search needs
 
--- src/lib.rt:189:17
 cast-t12 : tie.Need-cast-t12
 cast-t12 c = search needs
 
--- src/lib.rt:191:27
 enum-known-c-3 : tie.Need-enum-known-c-3
 enum-known-c-3 c = search needs
 
--- src/lib.rt:192:17
 cause-number-requires : tie.Need-cause-number-requires
 cause-number-requires c κs = search needs
 
--- src/lib.rt:178:1
 returns : tie.Need-returns
 unfolding rowWords
 returns c = simp (tests, c .enum-told .given .1)
 
--- src/lib.rt:178:1
 returns-2 : tie.Need-returns-2
 unfolding rowWords
 returns-2 c = simp (tests, c .enum-told2 .given .1)
 
--- src/lib.rt:178:1
 returns-3 : tie.Need-returns-3
 unfolding rowWords
 returns-3 c = simp (tests, c .before .c .given .1)
 
--- src/lib.rt:178:1
 returns-4 : tie.Need-returns-4
 unfolding rowWords
 returns-4 c = simp (tests, c .mode-number .ensures, c .before .before .c2 .given .1)
 
--- src/lib.rt:178:1
 returns-5 : tie.Need-returns-5
 unfolding rowWords
 returns-5 c = simp (tests, c .cause-number .ensures, c .before .before .c3 .given .1)

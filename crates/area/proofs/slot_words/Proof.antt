@@ -7,36 +7,28 @@ use Rattle.area.proofs.slot_words.Reads as reads
 use Rattle.area.proofs.slot_words.Lts as lts
 use Rattle.area.proofs.bit.Reads as bit-reads
 
--- src/lib.rt:210:17
 cast-touch : tie.Need-cast-touch
 cast-touch c = search needs
 
--- src/lib.rt:213:27
 enum-told : tie.Need-enum-told
 enum-told c = search needs
 
--- src/lib.rt:215:13
 enum-known-c : tie.Need-enum-known-c
 enum-known-c c = search needs
 
--- src/lib.rt:220:17
 bit-requires : tie.Need-bit-requires
 bit-requires c κs = search needs
 
--- src/lib.rt:221:17
 cast-t10 : tie.Need-cast-t10
 cast-t10 c = search needs
 
--- src/lib.rt:221:30
 cast-t11 : tie.Need-cast-t11
 cast-t11 c = search needs
 
--- src/lib.rt:207:1
 returns : tie.Need-returns
 unfolding slotWords
 returns c = simp (tests, c .enum-told .given .1)
 
--- src/lib.rt:207:1
 returns-2 : tie.Need-returns-2
 unfolding slotWords
 returns-2 c = simp (tests, c .bit .ensures, c .before .before .c .given .1)

@@ -8,51 +8,40 @@ use Rattle.calls.proofs.begin_refusal.Reads as reads
 use Rattle.calls.proofs.begin_refusal.Lts as lts
 use Rattle.calls.proofs.is_free.Reads as is-free-reads
 
--- src/lib.rt:102:9
 returns : tie.Need-returns
 unfolding beginRefusal
 returns c = simp (tests, c .if1 .taken)
 
--- src/lib.rt:105:9
 returns-2 : tie.Need-returns-2
 unfolding beginRefusal
 returns-2 c = simp (tests, c .if2 .taken, c .before .if1 .left)
 
--- src/lib.rt:108:19
 mul-x : tie.Need-mul-x
 mul-x c = search needs
 
--- src/lib.rt:108:19
 add-x : tie.Need-add-x
 add-x c = search needs
 
--- src/lib.rt:108:18
 cast-x : tie.Need-cast-x
 cast-x c = search needs
 
--- src/lib.rt:108:13
 mul-x-2 : tie.Need-mul-x-2
 mul-x-2 c = search needs
 
--- src/lib.rt:108:13
 array-copy-out-x : tie.Need-array-copy-out-x
 array-copy-out-x c = search needs
 
--- src/lib.rt:110:8
 is-free-requires : tie.Need-is-free-requires
 is-free-requires c κs = search needs
 
--- src/lib.rt:112:13
 returns-3 : tie.Need-returns-3
 unfolding beginRefusal
 returns-3 c = simp (tests, c .if4 .taken, c .before .before .if3 .taken, ← c .before .before .before .is-free .ensures, c .before .before .before .before .before .before .if2 .left, c .before .before .before .before .before .before .before .if1 .left)
 
--- src/lib.rt:114:9
 returns-4 : tie.Need-returns-4
 unfolding beginRefusal
 returns-4 c = simp (tests, c .if4 .left, c .before .before .if3 .taken, ← c .before .before .before .is-free .ensures, c .before .before .before .before .before .before .if2 .left, c .before .before .before .before .before .before .before .if1 .left)
 
--- src/lib.rt:98:1
 returns-5 : tie.Need-returns-5
 unfolding beginRefusal
 returns-5 c = simp (tests, c .if3 .left, ← c .before .is-free .ensures, c .before .before .before .before .if2 .left, c .before .before .before .before .before .if1 .left)

@@ -12,20 +12,16 @@ use Rattle.calls.proofs.count.Lts as lts
 use Rattle.calls.proofs.count_refusal.Reads as count-refusal-reads
 use Rattle.calls.proofs.open_slots.Reads as open-slots-reads
 
--- src/lib.rt:655:9
 count-refusal-requires : tie.Need-count-refusal-requires
 count-refusal-requires c κs = search needs
 
--- src/lib.rt:657:9
 returns : tie.Need-returns
 unfolding counted
 returns c = ap (λ (o : Outcome). o .answer) (refused _ _ _ _ (c .before .count-refusal .ensures) (c .if1 .taken))
 
--- src/lib.rt:659:9
 open-slots-requires : tie.Need-open-slots-requires
 open-slots-requires c κs = search needs
 
--- src/lib.rt:651:1
 returns-2 : tie.Need-returns-2
 unfolding counted
 returns-2 c = rw (c .open-slots .ensures) (ap (λ (o : Outcome). o .answer) (taken _ _ _ _ (c .before .before .count-refusal .ensures) (c .before .if1 .left)))

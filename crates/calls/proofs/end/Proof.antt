@@ -3,9 +3,10 @@ use Rattle.model.proofs.Ranges.{state-ok}
 use Rattle.calls.proofs.CallLaws.{refused, taken, none-applies}
 use mathlib.Core.Path.{refl, _∙_}
 use Rattle.model.specs.Parties.{rowOf}
-use Rattle.model.specs.Changes.{marked, released}
+use Rattle.model.specs.Changes.{released}
+use Rattle.model.specs.Inner.Changed.{marked}
 use Rattle.rules.specs.Calls.{ended}
-use Rattle.rules.proofs.RefusalFacts.{end-taken}
+use Rattle.rules.proofs.Leaves.RefusalFacts.{end-taken}
 use Rattle.model.specs.declared.Answer.the-variants.{Ended}
 use Rattle.calls.proofs.MarkLaws.{ended-row}
 use Rattle.calls.proofs.ReplyLaws.{refused-after, drop-after}
@@ -20,52 +21,40 @@ use Rattle.calls.proofs.refused.Reads as refused-reads
 use Rattle.model.proofs.drop_holdings.Reads as drop-holdings-reads
 use Rattle.model.proofs.released_slots.Reads as released-slots-reads
 
--- src/lib.rt:412:9
 end-refusal-requires : tie.Need-end-refusal-requires
 end-refusal-requires c κs = search needs
 
--- src/lib.rt:415:9
 refused-requires : tie.Need-refused-requires
 refused-requires c κs = search needs
 
--- src/lib.rt:415:9
 returns : tie.Need-returns
 unfolding ended
 returns c = refused-after (c .before .before .before .before .before .args .s) (state-ok (c .before .before .before .before .before .args .s) _ (c .before .before .before .before .before .good .0) .sized) (c .refused .result) _ _ _ (c .refused .ensures) (c .before .before .before .end-refusal .ensures) (c .before .before .if1 .taken)
 
--- src/lib.rt:417:16
 mul-row : tie.Need-mul-row
 mul-row c = let h = end-taken _ _ _ (none-applies _ _ (c .before .end-refusal .ensures) (c .if1 .left)) .row-is in omega arith
 
--- src/lib.rt:417:16
 add-row : tie.Need-add-row
 add-row c = let h = end-taken _ _ _ (none-applies _ _ (c .before .end-refusal .ensures) (c .if1 .left)) .row-is in omega arith
 
--- src/lib.rt:417:15
 cast-row : tie.Need-cast-row
 cast-row c = search needs
 
--- src/lib.rt:418:9
 one-mark-requires : tie.Need-one-mark-requires
 one-mark-requires c κs = let h = end-taken _ _ _ (none-applies _ _ (c .before .end-refusal .ensures) (c .if1 .left)) .row-is in omega arith
 
--- src/lib.rt:419:9
 released-slots-requires : tie.Need-released-slots-requires
 released-slots-requires c κs = search needs
 
--- src/lib.rt:420:5
 mul-rows : tie.Need-mul-rows
 mul-rows c = search needs
 
--- src/lib.rt:420:5
 array-set-from-rows : tie.Need-array-set-from-rows
 array-set-from-rows c = let h = end-taken _ _ _ (none-applies _ _ (c .before .before .before .end-refusal .ensures) (c .before .before .if1 .left)) .row-is in omega arith
 
--- src/lib.rt:424:9
 drop-holdings-requires : tie.Need-drop-holdings-requires
 drop-holdings-requires c κs = search needs
 
--- src/lib.rt:407:1
 returns-2 : tie.Need-returns-2
 unfolding ended released
 returns-2 c =

@@ -10,44 +10,34 @@ use Rattle.calls.proofs.is_page_pinned.Lts as lts
 use Rattle.choice.proofs.find_page.Reads as find-page-reads
 use Rattle.model.proofs.is_pin.Reads as is-pin-reads
 
--- src/lib.rt:223:27
 find-page-requires : tie.Need-find-page-requires
 find-page-requires c κs = search needs
 
--- src/lib.rt:223:19
 enum-known-slot : tie.Need-enum-known-slot
 enum-known-slot c = search needs
 
--- src/lib.rt:224:9
 enum-told : tie.Need-enum-told
 enum-told c = search needs
 
--- src/lib.rt:224:9
 returns : tie.Need-returns
 unfolding pinsPage slotOf
 returns c = simp (c .enum-told .given .1, ← c .before .before .find-page .ensures)
 
--- src/lib.rt:226:24
 mul-h : tie.Need-mul-h
 mul-h c = let h = found-below (c .before .before .before .before .before .args .t1) _ _ _ (c .before .before .before .before .before .pre .0) (c .before .before .before .find-page .ensures) (c .before .slot .given .1) in omega arith
 
--- src/lib.rt:226:24
 add-h : tie.Need-add-h
 add-h c = let h = found-below (c .before .before .before .before .before .args .t1) _ _ _ (c .before .before .before .before .before .pre .0) (c .before .before .before .find-page .ensures) (c .before .slot .given .1) in omega arith
 
--- src/lib.rt:226:13
 mul-h-2 : tie.Need-mul-h-2
 mul-h-2 c = let h = found-below (c .before .before .before .before .before .args .t1) _ _ _ (c .before .before .before .before .before .pre .0) (c .before .before .before .find-page .ensures) (c .before .slot .given .1) in omega arith
 
--- src/lib.rt:226:13
 element-copy-out-h : tie.Need-element-copy-out-h
 element-copy-out-h c = let h = found-below (c .before .before .before .before .before .args .t1) _ _ _ (c .before .before .before .before .before .pre .0) (c .before .before .before .find-page .ensures) (c .before .slot .given .1) in omega arith
 
--- src/lib.rt:228:5
 is-pin-requires : tie.Need-is-pin-requires
 is-pin-requires c κs = search needs
 
--- src/lib.rt:217:1
 returns-2 : tie.Need-returns-2
 unfolding pinsPage slotOf
 returns-2 c = simp (← c .is-pin .ensures, c .before .before .before .slot .given .1, ← c .before .before .before .before .before .find-page .ensures)

@@ -8,11 +8,9 @@ use Rattle.calls.proofs.refused.Reads as reads
 use Rattle.calls.proofs.refused.Lts as lts
 use Rattle.model.proofs.drop_holdings.Reads as drop-holdings-reads
 
--- src/lib.rt:309:9
 drop-holdings-requires : tie.Need-drop-holdings-requires
 drop-holdings-requires c κs = search needs
 
--- src/lib.rt:306:1
 returns : tie.Need-returns
 unfolding refusedReply
 returns c = λ j. record { change = c .drop-holdings .ensures j; answer = Refused (c .before .args .number) }

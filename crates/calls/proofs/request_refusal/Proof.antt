@@ -9,51 +9,40 @@ use Rattle.calls.proofs.request_refusal.Reads as reads
 use Rattle.calls.proofs.request_refusal.Lts as lts
 use Rattle.calls.proofs.access_refusal.Reads as access-refusal-reads
 
--- src/lib.rt:175:9
 returns : tie.Need-returns
 unfolding requestRefusal accessRefusal
 returns c = simp (tests, c .if1 .taken)
 
--- src/lib.rt:178:9
 returns-2 : tie.Need-returns-2
 unfolding requestRefusal accessRefusal
 returns-2 c = simp (tests, c .if2 .taken, c .before .if1 .left)
 
--- src/lib.rt:181:9
 returns-3 : tie.Need-returns-3
 unfolding requestRefusal accessRefusal
 returns-3 c = simp (tests, c .if3 .taken, c .before .if2 .left, c .before .before .if1 .left)
 
--- src/lib.rt:184:9
 returns-4 : tie.Need-returns-4
 unfolding requestRefusal accessRefusal
 returns-4 c = simp (tests, c .if4 .taken, c .before .if3 .left, c .before .before .if2 .left, c .before .before .before .if1 .left)
 
--- src/lib.rt:187:19
 mul-x : tie.Need-mul-x
 mul-x c = search needs
 
--- src/lib.rt:187:19
 add-x : tie.Need-add-x
 add-x c = search needs
 
--- src/lib.rt:187:18
 cast-x : tie.Need-cast-x
 cast-x c = search needs
 
--- src/lib.rt:187:13
 mul-x-2 : tie.Need-mul-x-2
 mul-x-2 c = search needs
 
--- src/lib.rt:187:13
 array-copy-out-x : tie.Need-array-copy-out-x
 array-copy-out-x c = search needs
 
--- src/lib.rt:189:5
 access-refusal-requires : tie.Need-access-refusal-requires
 access-refusal-requires c κs = search needs
 
--- src/lib.rt:171:1
 returns-5 : tie.Need-returns-5
 unfolding requestRefusal accessRefusal
 returns-5 c = simp (tests, c .before .before .before .if4 .left, c .before .before .before .before .if3 .left, c .before .before .before .before .before .if2 .left, c .before .before .before .before .before .before .if1 .left) (c .access-refusal .ensures)

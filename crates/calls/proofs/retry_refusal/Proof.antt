@@ -10,64 +10,50 @@ use Rattle.calls.proofs.is_free.Reads as is-free-reads
 use Rattle.calls.proofs.is_killed.Reads as is-killed-reads
 use Rattle.calls.proofs.is_waiting.Reads as is-waiting-reads
 
--- src/lib.rt:196:9
 returns : tie.Need-returns
 unfolding retryRefusal
 returns c = simp (tests, c .if1 .taken)
 
--- src/lib.rt:199:9
 returns-2 : tie.Need-returns-2
 unfolding retryRefusal
 returns-2 c = simp (tests, c .if2 .taken, c .before .if1 .left)
 
--- src/lib.rt:202:19
 mul-x : tie.Need-mul-x
 mul-x c = search needs
 
--- src/lib.rt:202:19
 add-x : tie.Need-add-x
 add-x c = search needs
 
--- src/lib.rt:202:18
 cast-x : tie.Need-cast-x
 cast-x c = search needs
 
--- src/lib.rt:202:13
 mul-x-2 : tie.Need-mul-x-2
 mul-x-2 c = search needs
 
--- src/lib.rt:202:13
 array-copy-out-x : tie.Need-array-copy-out-x
 array-copy-out-x c = search needs
 
--- src/lib.rt:204:8
 is-free-requires : tie.Need-is-free-requires
 is-free-requires c κs = search needs
 
--- src/lib.rt:205:9
 returns-3 : tie.Need-returns-3
 unfolding retryRefusal
 returns-3 c = simp (tests, c .if3 .taken, ← c .before .is-free .ensures, c .before .before .before .before .if2 .left, c .before .before .before .before .before .if1 .left)
 
--- src/lib.rt:207:8
 is-killed-requires : tie.Need-is-killed-requires
 is-killed-requires c κs = search needs
 
--- src/lib.rt:208:9
 returns-4 : tie.Need-returns-4
 unfolding retryRefusal
 returns-4 c = simp (tests, c .if4 .taken, ← c .before .is-killed .ensures, c .before .before .if3 .left, ← c .before .before .before .is-free .ensures, c .before .before .before .before .before .before .if2 .left, c .before .before .before .before .before .before .before .if1 .left)
 
--- src/lib.rt:210:8
 is-waiting-requires : tie.Need-is-waiting-requires
 is-waiting-requires c κs = search needs
 
--- src/lib.rt:211:9
 returns-5 : tie.Need-returns-5
 unfolding retryRefusal
 returns-5 c = simp (tests, c .if5 .taken, ← c .before .is-waiting .ensures, c .before .before .if4 .left, ← c .before .before .before .is-killed .ensures, c .before .before .before .before .if3 .left, ← c .before .before .before .before .before .is-free .ensures, c .before .before .before .before .before .before .before .before .if2 .left, c .before .before .before .before .before .before .before .before .before .if1 .left)
 
--- src/lib.rt:192:1
 returns-6 : tie.Need-returns-6
 unfolding retryRefusal
 returns-6 c = simp (tests, c .if5 .left, ← c .before .is-waiting .ensures, c .before .before .if4 .left, ← c .before .before .before .is-killed .ensures, c .before .before .before .before .if3 .left, ← c .before .before .before .before .before .is-free .ensures, c .before .before .before .before .before .before .before .before .if2 .left, c .before .before .before .before .before .before .before .before .before .if1 .left)

@@ -8,63 +8,48 @@ use Rattle.calls.proofs.serve_again.Lts as lts
 use Rattle.calls.proofs.refused.Reads as refused-reads
 use Rattle.serve.proofs.serve.Reads as serve-reads
 
--- src/lib.rt:688:28
 enum-told : tie.Need-enum-told
 enum-told c = search needs
 
--- src/lib.rt:688:28
 refused-requires : tie.Need-refused-requires
 refused-requires c κs = search needs
 
--- src/lib.rt:689:28
 enum-told-2 : tie.Need-enum-told-2
 enum-told-2 c = search needs
 
--- src/lib.rt:689:28
 refused-requires-2 : tie.Need-refused-requires-2
 refused-requires-2 c κs = search needs
 
--- src/lib.rt:690:35
 enum-told-3 : tie.Need-enum-told-3
 enum-told-3 c = search needs
 
--- src/lib.rt:690:35
 refused-requires-3 : tie.Need-refused-requires-3
 refused-requires-3 c κs = search needs
 
--- src/lib.rt:691:30
 enum-known-c : tie.Need-enum-known-c
 enum-known-c c = search needs
 
--- src/lib.rt:691:46
 serve-requires : tie.Need-serve-requires
 serve-requires c κs = search needs
 
--- src/lib.rt:692:33
 enum-told-4 : tie.Need-enum-told-4
 enum-told-4 c = search needs
 
--- src/lib.rt:692:33
 refused-requires-4 : tie.Need-refused-requires-4
 refused-requires-4 c κs = search needs
 
--- src/lib.rt:680:1
 returns : tie.Need-returns
 returns c = rw (c .before .enum-told .given .1) (refused-reply (c .before .before .before .before .before .args .s) (state-ok (c .before .before .before .before .before .args .s) _ (c .before .before .before .before .before .good .1 .0) .sized) (c .refused .result) 9 (c .refused .ensures))
 
--- src/lib.rt:680:1
 returns-2 : tie.Need-returns-2
 returns-2 c = rw (c .before .enum-told2 .given .1) (refused-reply (c .before .before .before .before .before .args .s) (state-ok (c .before .before .before .before .before .args .s) _ (c .before .before .before .before .before .good .1 .0) .sized) (c .refused2 .result) 16 (c .refused2 .ensures))
 
--- src/lib.rt:680:1
 returns-3 : tie.Need-returns-3
 returns-3 c = rw (c .before .enum-told3 .given .1) (refused-reply (c .before .before .before .before .before .args .s) (state-ok (c .before .before .before .before .before .args .s) _ (c .before .before .before .before .before .good .1 .0) .sized) (c .refused3 .result) 16 (c .refused3 .ensures))
 
--- src/lib.rt:680:1
 returns-4 : tie.Need-returns-4
 returns-4 c = rw (c .before .before .c .given .1) (c .serve .ensures)
 
--- src/lib.rt:680:1
 returns-5 : tie.Need-returns-5
 returns-5 c = rw (c .before .enum-told4 .given .1) (refused-reply (c .before .before .before .before .before .args .s) (state-ok (c .before .before .before .before .before .args .s) _ (c .before .before .before .before .before .good .1 .0) .sized) (c .refused4 .result) 10 (c .refused4 .ensures))
 

@@ -26,40 +26,31 @@ Inv-loop level held found₀ best₀ r₀ found best r = (r ≤ 32) × (found �
 abbrev μ-loop : tie.MeasureT-loop
 μ-loop level held found₀ best₀ r₀ found best r = 32 - r
 
--- src/lib.rt:553:5
 loop-holds : tie.Need-loop-holds Inv-loop μ-loop
 unfolding anyBelow pickBelow
 loop-holds c = (omega arith, refl, refl)
 
--- src/lib.rt:554:17
 mul-h : tie.Need-mul-h Inv-loop μ-loop
 mul-h c = omega arith
 
--- src/lib.rt:554:17
 array-copy-out-h : tie.Need-array-copy-out-h Inv-loop μ-loop
 array-copy-out-h c = omega arith
 
--- src/lib.rt:556:13
 is-seen-requires : tie.Need-is-seen-requires Inv-loop μ-loop
 is-seen-requires c κs = search needs
 
--- src/lib.rt:557:9
 strongest-with-requires : tie.Need-strongest-with-requires Inv-loop μ-loop
 strongest-with-requires c κs = search needs
 
--- src/lib.rt:558:9
 either-requires : tie.Need-either-requires Inv-loop μ-loop
 either-requires c κs = search needs
 
--- src/lib.rt:553:9
 add-r : tie.Need-add-r Inv-loop μ-loop
 add-r c = omega arith
 
--- src/lib.rt:553:5
 loop-less : tie.Need-loop-less Inv-loop μ-loop
 loop-less c = omega arith
 
--- src/lib.rt:553:5
 loop-again : tie.Need-loop-again Inv-loop μ-loop
 unfolding strongestOf stronger
 loop-again c = let held = c .before .before .before .before .before .before .args .t1 in
@@ -70,7 +61,6 @@ loop-again c = let held = c .before .before .before .before .before .before .arg
       value-turn p (λ row. heldBy held row .pin) (λ x v. ltb (strength v) (strength x)) Absent (w .r) (c .before .before .is-seen .result) (heldBy held (w .r) .pin) (w .found) (w .best) (c .before .strongest-with .result) (c .before .before .is-seen .ensures) refl (w .inv .1) (w .inv .2) (c .before .strongest-with .ensures),
     )
 
--- src/lib.rt:548:1
 returns : tie.Need-returns Inv-loop μ-loop
 unfolding strongestIn
 returns c = let e : c .before .loop .r ≡ 32 = omega arith in c .before .loop .inv .2 ∙ rw e

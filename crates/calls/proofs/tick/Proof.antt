@@ -6,7 +6,7 @@ use Prim.Native.Nat.{_+_}
 use Rattle.model.specs.declared.Cause.the-variants.{Late}
 use Rattle.model.specs.declared.Answer.the-variants.{Clock}
 use Rattle.rules.specs.Calls.{ticked}
-use Rattle.rules.proofs.RefusalFacts.{tick-taken}
+use Rattle.rules.proofs.Leaves.RefusalFacts.{tick-taken}
 use Rattle.calls.proofs.MarkLaws.{ticked-rows}
 use Rattle.calls.proofs.ReplyLaws.{refused-after, drop-after, rows-killed}
 use borrow.Author.Needs.{needs}
@@ -22,44 +22,34 @@ use Rattle.model.proofs.drop_holdings.Reads as drop-holdings-reads
 use Rattle.model.proofs.kill_rows.Reads as kill-rows-reads
 use Rattle.model.proofs.released_slots.Reads as released-slots-reads
 
--- src/lib.rt:500:9
 tick-refusal-requires : tie.Need-tick-refusal-requires
 tick-refusal-requires c κs = search needs
 
--- src/lib.rt:503:9
 refused-requires : tie.Need-refused-requires
 refused-requires c κs = search needs
 
--- src/lib.rt:503:9
 returns : tie.Need-returns
 unfolding ticked
 returns c = refused-after (c .before .before .before .before .before .args .s) (state-ok (c .before .before .before .before .before .args .s) _ (c .before .before .before .before .before .good .0) .sized) (c .refused .result) _ _ _ (c .refused .ensures) (c .before .before .before .tick-refusal .ensures) (c .before .before .if1 .taken)
 
--- src/lib.rt:505:17
 add-clock : tie.Need-add-clock
 add-clock c = let h = tick-taken _ (none-applies _ _ (c .before .before .tick-refusal .ensures) (c .before .if1 .left)) in omega arith
 
--- src/lib.rt:506:9
 deliver-rows-requires : tie.Need-deliver-rows-requires
 deliver-rows-requires c κs = search needs
 
--- src/lib.rt:507:9
 late-rows-requires : tie.Need-late-rows-requires
 late-rows-requires c κs = search needs
 
--- src/lib.rt:508:9
 kill-rows-requires : tie.Need-kill-rows-requires
 kill-rows-requires c κs = search needs
 
--- src/lib.rt:509:9
 released-slots-requires : tie.Need-released-slots-requires
 released-slots-requires c κs = search needs
 
--- src/lib.rt:510:9
 drop-holdings-requires : tie.Need-drop-holdings-requires
 drop-holdings-requires c κs = search needs
 
--- src/lib.rt:496:1
 returns-2 : tie.Need-returns-2
 unfolding ticked
 returns-2 c =

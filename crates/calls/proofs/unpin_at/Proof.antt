@@ -10,51 +10,39 @@ use Rattle.model.proofs.is_written.Reads as is-written-reads
 use Rattle.model.proofs.marked_slot.Reads as marked-slot-reads
 use Rattle.serve.proofs.holdings_on.Reads as holdings-on-reads
 
--- src/lib.rt:346:20
 holdings-on-requires : tie.Need-holdings-on-requires
 holdings-on-requires c κs = search needs
 
--- src/lib.rt:347:13
 mul-h : tie.Need-mul-h
 mul-h c = search needs
 
--- src/lib.rt:347:13
 array-copy-out-h : tie.Need-array-copy-out-h
 array-copy-out-h c = search needs
 
--- src/lib.rt:349:13
 mul-x : tie.Need-mul-x
 mul-x c = search needs
 
--- src/lib.rt:349:13
 array-copy-out-x : tie.Need-array-copy-out-x
 array-copy-out-x c = search needs
 
--- src/lib.rt:350:9
 is-written-requires : tie.Need-is-written-requires
 is-written-requires c κs = search needs
 
--- src/lib.rt:351:9
 marked-slot-requires : tie.Need-marked-slot-requires
 marked-slot-requires c κs = search needs
 
--- src/lib.rt:352:5
 mul-slots : tie.Need-mul-slots
 mul-slots c = search needs
 
--- src/lib.rt:352:5
 array-set-from-slots : tie.Need-array-set-from-slots
 array-set-from-slots c = search needs
 
--- src/lib.rt:353:5
 mul-held : tie.Need-mul-held
 mul-held c = search needs
 
--- src/lib.rt:353:5
 array-set-from-held : tie.Need-array-set-from-held
 array-set-from-held c = search needs
 
--- src/lib.rt:340:1
 returns : tie.Need-returns
 returns c = unpin-changed (c .before .before .before .before .before .before .before .args .s) (state-ok (c .before .before .before .before .before .before .before .args .s) _ (c .before .before .before .before .before .before .before .good .0) .sized) (c .before .before .before .before .before .before .before .args .row) (c .before .before .before .before .before .before .before .args .slot) (c .before .before .before .before .before .before .before .pre .0) (c .before .before .before .before .before .before .before .pre .1) (c .before .before .before .before .before .holdings-on .result) (c .before .is-written .result) (c .marked-slot .result) (c .before .before .before .before .before .holdings-on .ensures) (c .before .is-written .ensures) (c .marked-slot .ensures)
 

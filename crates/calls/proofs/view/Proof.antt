@@ -15,37 +15,29 @@ use Rattle.calls.proofs.view_refusal.Reads as view-refusal-reads
 use Rattle.calls.proofs.view_slot.Reads as view-slot-reads
 use Rattle.choice.proofs.find_page.Reads as find-page-reads
 
--- src/lib.rt:609:9
 view-refusal-requires : tie.Need-view-refusal-requires
 view-refusal-requires c κs = search needs
 
--- src/lib.rt:611:9
 returns : tie.Need-returns
 unfolding viewed
 returns c = ap (λ (o : Outcome). o .answer) (refused _ _ _ _ (c .before .view-refusal .ensures) (c .if1 .taken))
 
--- src/lib.rt:615:27
 find-page-requires : tie.Need-find-page-requires
 find-page-requires c κs = search needs
 
--- src/lib.rt:615:19
 enum-known-slot : tie.Need-enum-known-slot
 enum-known-slot c = search needs
 
--- src/lib.rt:616:9
 enum-told : tie.Need-enum-told
 enum-told c = search needs
 
--- src/lib.rt:616:9
 returns-2 : tie.Need-returns-2
 unfolding viewed slotOf
 returns-2 c = rw (← c .before .before .find-page .ensures, c .enum-told .given .1) (ap (λ (o : Outcome). o .answer) (taken _ _ _ _ (c .before .before .before .before .before .view-refusal .ensures) (c .before .before .before .before .if1 .left)))
 
--- src/lib.rt:618:5
 view-slot-requires : tie.Need-view-slot-requires
 view-slot-requires c κs = found-below (c .before .before .before .before .before .before .before .args .s) _ _ _ (c .before .before .before .before .before .before .before .pre) (c .before .before .before .find-page .ensures) (c .before .slot .given .1)
 
--- src/lib.rt:605:1
 returns-3 : tie.Need-returns-3
 unfolding viewed slotOf
 returns-3 c = rw (c .view-slot .ensures, ← c .before .before .before .before .find-page .ensures, c .before .before .slot .given .1) (ap (λ (o : Outcome). o .answer) (taken _ _ _ _ (c .before .before .before .before .before .before .before .view-refusal .ensures) (c .before .before .before .before .before .before .if1 .left)))

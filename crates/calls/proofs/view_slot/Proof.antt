@@ -12,51 +12,39 @@ use Rattle.serve.proofs.least_arrival.Reads as least-arrival-reads
 use Rattle.serve.proofs.see.Reads as see-reads
 use Rattle.serve.proofs.see_dormant.Reads as see-dormant-reads
 
--- src/lib.rt:579:9
 holdings-on-requires : tie.Need-holdings-on-requires
 holdings-on-requires c κs = search needs
 
--- src/lib.rt:580:8
 see-requires : tie.Need-see-requires
 see-requires c κs = search needs
 
--- src/lib.rt:581:13
 strongest-pin-requires : tie.Need-strongest-pin-requires
 strongest-pin-requires c κs = search needs
 
--- src/lib.rt:582:13
 least-arrival-requires : tie.Need-least-arrival-requires
 least-arrival-requires c κs = search needs
 
--- src/lib.rt:583:9
 pin-answer-requires : tie.Need-pin-answer-requires
 pin-answer-requires c κs = search needs
 
--- src/lib.rt:583:9
 returns : tie.Need-returns
 returns c = view-pin (c .before .before .before .before .before .before .args .s) (c .before .before .before .before .before .before .args .level) (c .before .before .before .before .before .before .args .slot) (c .before .before .before .before .before .holdings-on .result) (c .before .before .before .before .before .holdings-on .ensures) (c .before .before .before .before .see .result) (c .before .before .before .before .see .ensures) (c .before .before .strongest-pin .result) (c .before .least-arrival .result) (c .pin-answer .result) (c .before .before .before .if1 .taken) (c .before .before .strongest-pin .ensures) (c .before .least-arrival .ensures) (c .pin-answer .ensures)
 
--- src/lib.rt:586:13
 mul-x : tie.Need-mul-x
 mul-x c = search needs
 
--- src/lib.rt:586:13
 array-copy-out-x : tie.Need-array-copy-out-x
 array-copy-out-x c = search needs
 
--- src/lib.rt:588:8
 see-dormant-requires : tie.Need-see-dormant-requires
 see-dormant-requires c κs = search needs
 
--- src/lib.rt:589:13
 arrival-in-requires : tie.Need-arrival-in-requires
 arrival-in-requires c κs = search needs
 
--- src/lib.rt:590:9
 returns-2 : tie.Need-returns-2
 returns-2 c = view-dormant (c .before .before .before .before .before .before .before .before .args .s) (c .before .before .before .before .before .before .before .before .args .level) (c .before .before .before .before .before .before .before .before .args .slot) (c .before .before .before .before .before .before .before .holdings-on .result) (c .before .before .before .before .before .before .before .holdings-on .ensures) (c .before .before .before .before .before .before .see .result) (c .before .before .before .before .before .before .see .ensures) (c .before .before .see-dormant .result) (c .arrival-in .result) (c .before .before .before .before .before .if1 .left) (c .before .before .see-dormant .ensures) (c .before .if2 .taken) (c .arrival-in .ensures)
 
--- src/lib.rt:575:1
 returns-3 : tie.Need-returns-3
 returns-3 c = view-none (c .before .before .before .before .before .before .before .args .s) (c .before .before .before .before .before .before .before .args .level) (c .before .before .before .before .before .before .before .args .slot) (c .before .before .before .before .before .before .holdings-on .result) (c .before .before .before .before .before .before .holdings-on .ensures) (c .before .before .before .before .before .see .result) (c .before .before .before .before .before .see .ensures) (c .before .see-dormant .result) (c .before .before .before .before .if1 .left) (c .before .see-dormant .ensures) (c .if2 .left)
 

@@ -11,15 +11,12 @@ use Rattle.choice.proofs.choose.Lts as lts
 use Rattle.choice.proofs.choose_from.Reads as choose-from-reads
 use Rattle.choice.proofs.summaries.Reads as summaries-reads
 
--- src/lib.rt:634:9
 summaries-requires : tie.Need-summaries-requires
 summaries-requires c κs = search needs
 
--- src/lib.rt:635:5
 choose-from-requires : tie.Need-choose-from-requires
 choose-from-requires c κs = search needs
 
--- src/lib.rt:629:1
 returns : tie.Need-returns
 returns c = c .choose-from .ensures ∙ ap (λ (m : List Summary). chosenFrom m (c .before .before .args .s .size)) (c .before .summaries .ensures) ∙ choice-made (c .before .before .args .s) (c .before .before .args .row) (c .before .before .pre .0)
 

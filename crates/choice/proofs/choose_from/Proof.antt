@@ -9,15 +9,12 @@ use Rattle.choice.proofs.first_empty.Reads as first-empty-reads
 use Rattle.choice.proofs.first_held.Reads as first-held-reads
 use Rattle.choice.proofs.top_level.Reads as top-level-reads
 
--- src/lib.rt:604:9
 first-empty-requires : tie.Need-first-empty-requires
 first-empty-requires c κs = search needs
 
--- src/lib.rt:605:22
 enum-known-a : tie.Need-enum-known-a
 enum-known-a c = search needs
 
--- src/lib.rt:606:9
 returns : tie.Need-returns
 unfolding chosenFrom
 returns c = simp (← c .before .before .before .first-empty .ensures, c .before .a .given .1)
@@ -25,15 +22,12 @@ returns c = simp (← c .before .before .before .first-empty .ensures, c .before
 enum-told : tie.Need-enum-told
 enum-told c = search needs
 
--- src/lib.rt:608:9
 first-dormant-requires : tie.Need-first-dormant-requires
 first-dormant-requires c κs = search needs
 
--- src/lib.rt:609:22
 enum-known-b : tie.Need-enum-known-b
 enum-known-b c = search needs
 
--- src/lib.rt:610:9
 returns-2 : tie.Need-returns-2
 unfolding chosenFrom
 returns-2 c = simp (← c .before .before .before .before .before .before .first-empty .ensures, c .before .before .before .before .enum-told .given .1, ← c .before .before .before .first-dormant .ensures, c .before .b .given .1)
@@ -41,19 +35,15 @@ returns-2 c = simp (← c .before .before .before .before .before .before .first
 enum-told-2 : tie.Need-enum-told-2
 enum-told-2 c = search needs
 
--- src/lib.rt:612:9
 top-level-requires : tie.Need-top-level-requires
 top-level-requires c κs = search needs
 
--- src/lib.rt:613:9
 first-held-requires : tie.Need-first-held-requires
 first-held-requires c κs = search needs
 
--- src/lib.rt:614:22
 enum-known-c : tie.Need-enum-known-c
 enum-known-c c = search needs
 
--- src/lib.rt:615:9
 returns-3 : tie.Need-returns-3
 unfolding chosenFrom
 returns-3 c = simp (← c .before .before .before .before .before .before .before .before .before .before .first-empty .ensures, c .before .before .before .before .before .before .before .before .enum-told .given .1, ← c .before .before .before .before .before .before .before .first-dormant .ensures, c .before .before .before .before .before .enum-told2 .given .1, ← c .before .before .before .before .top-level .ensures, ← c .before .before .before .first-held .ensures, c .before .c .given .1)
@@ -61,15 +51,12 @@ returns-3 c = simp (← c .before .before .before .before .before .before .befor
 enum-told-3 : tie.Need-enum-told-3
 enum-told-3 c = search needs
 
--- src/lib.rt:617:9
 first-held-requires-2 : tie.Need-first-held-requires-2
 first-held-requires-2 c κs = search needs
 
--- src/lib.rt:618:22
 enum-known-d : tie.Need-enum-known-d
 enum-known-d c = search needs
 
--- src/lib.rt:619:9
 returns-4 : tie.Need-returns-4
 unfolding chosenFrom
 returns-4 c = simp (← c .before .before .before .before .before .before .before .before .before .before .before .before .before .first-empty .ensures, c .before .before .before .before .before .before .before .before .before .before .before .enum-told .given .1, ← c .before .before .before .before .before .before .before .before .before .before .first-dormant .ensures, c .before .before .before .before .before .before .before .before .enum-told2 .given .1, ← c .before .before .before .before .before .before .before .top-level .ensures, ← c .before .before .before .before .before .before .first-held .ensures, c .before .before .before .before .enum-told3 .given .1, ← c .before .before .before .first-held2 .ensures, c .before .d .given .1)
@@ -77,15 +64,12 @@ returns-4 c = simp (← c .before .before .before .before .before .before .befor
 enum-told-4 : tie.Need-enum-told-4
 enum-told-4 c = search needs
 
--- src/lib.rt:621:9
 first-held-requires-3 : tie.Need-first-held-requires-3
 first-held-requires-3 c κs = search needs
 
--- src/lib.rt:622:22
 enum-known-e : tie.Need-enum-known-e
 enum-known-e c = search needs
 
--- src/lib.rt:623:9
 returns-5 : tie.Need-returns-5
 unfolding chosenFrom
 returns-5 c = simp (← c .before .before .before .before .before .before .before .before .before .before .before .before .before .before .before .before .first-empty .ensures, c .before .before .before .before .before .before .before .before .before .before .before .before .before .before .enum-told .given .1, ← c .before .before .before .before .before .before .before .before .before .before .before .before .before .first-dormant .ensures, c .before .before .before .before .before .before .before .before .before .before .before .enum-told2 .given .1, ← c .before .before .before .before .before .before .before .before .before .before .top-level .ensures, ← c .before .before .before .before .before .before .before .before .before .first-held .ensures, c .before .before .before .before .before .before .before .enum-told3 .given .1, ← c .before .before .before .before .before .before .first-held2 .ensures, c .before .before .before .before .enum-told4 .given .1, ← c .before .before .before .first-held3 .ensures, c .before .e .given .1)
@@ -93,11 +77,9 @@ returns-5 c = simp (← c .before .before .before .before .before .before .befor
 enum-told-5 : tie.Need-enum-told-5
 enum-told-5 c = search needs
 
--- src/lib.rt:625:5
 first-held-requires-4 : tie.Need-first-held-requires-4
 first-held-requires-4 c κs = search needs
 
--- src/lib.rt:600:1
 returns-6 : tie.Need-returns-6
 unfolding chosenFrom
 returns-6 c = simp (← c .before .before .before .before .before .before .before .before .before .before .before .before .before .before .before .before .first-empty .ensures, c .before .before .before .before .before .before .before .before .before .before .before .before .before .before .enum-told .given .1, ← c .before .before .before .before .before .before .before .before .before .before .before .before .before .first-dormant .ensures, c .before .before .before .before .before .before .before .before .before .before .before .enum-told2 .given .1, ← c .before .before .before .before .before .before .before .before .before .before .top-level .ensures, ← c .before .before .before .before .before .before .before .before .before .first-held .ensures, c .before .before .before .before .before .before .before .enum-told3 .given .1, ← c .before .before .before .before .before .before .first-held2 .ensures, c .before .before .before .before .enum-told4 .given .1, ← c .before .before .before .first-held3 .ensures, c .before .enum-told5 .given .1, c .first-held4 .ensures)

@@ -22,40 +22,31 @@ Inv-loop size page slots f₀ i₀ f i = (i ≤ size) × (f ≡ pickBelow i (λ 
 abbrev μ-loop : tie.MeasureT-loop
 μ-loop size page slots f₀ i₀ f i = size - i
 
--- src/lib.rt:50:5
 loop-holds : tie.Need-loop-holds Inv-loop μ-loop
 unfolding pickBelow
 loop-holds c = (omega arith, refl)
 
--- src/lib.rt:51:17
 mul-x : tie.Need-mul-x Inv-loop μ-loop
 mul-x c = omega arith
 
--- src/lib.rt:51:17
 array-copy-out-x : tie.Need-array-copy-out-x Inv-loop μ-loop
 array-copy-out-x c = omega arith
 
--- src/lib.rt:53:25
 has-page-requires : tie.Need-has-page-requires Inv-loop μ-loop
 has-page-requires c κs = search needs
 
--- src/lib.rt:53:9
 first-found-requires : tie.Need-first-found-requires Inv-loop μ-loop
 first-found-requires c κs = search needs
 
--- src/lib.rt:50:9
 add-i : tie.Need-add-i Inv-loop μ-loop
 add-i c = omega arith
 
--- src/lib.rt:50:5
 loop-less : tie.Need-loop-less Inv-loop μ-loop
 loop-less c = omega arith
 
--- src/lib.rt:50:5
 loop-again : tie.Need-loop-again Inv-loop μ-loop
 loop-again c = (omega arith, pick-turn (λ slot. hasPage (c .before .before .before .before .before .args .page) (getD (c .before .before .before .before .before .args .t1) slot emptySlot .content)) never (c .before .before .before .before .loop .i) (c .before .before .before .before .loop .f) (c .first-found .result) (c .before .before .before .before .loop .inv .1) (c .first-found .ensures ∙ ap (λ (b : Bool). considered b (c .before .before .before .before .loop .f) (c .before .before .before .before .loop .i) never) (c .before .has-page .ensures)))
 
--- src/lib.rt:45:1
 returns : tie.Need-returns Inv-loop μ-loop
 returns c = let e : c .before .loop .i ≡ c .before .before .args .size = omega arith in c .before .loop .inv .1 ∙ ap (λ (n : ℕ). pickBelow n (λ slot. hasPage (c .before .before .args .page) (getD (c .before .before .args .t1) slot emptySlot .content)) never) e
 

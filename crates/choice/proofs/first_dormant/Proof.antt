@@ -20,51 +20,39 @@ Inv-loop n m some₀ at₀ i₀ some at i = (i ≤ n) × (at < 64) × (foundAt s
 abbrev μ-loop : tie.MeasureT-loop
 μ-loop n m some₀ at₀ i₀ some at i = n - i
 
--- src/lib.rt:458:5
 loop-holds : tie.Need-loop-holds Inv-loop μ-loop
 loop-holds c = (omega arith, omega arith, scan-none (c .args .t1) dormantIn dormantBefore)
 
--- src/lib.rt:459:17
 mul-x : tie.Need-mul-x Inv-loop μ-loop
 mul-x c = omega arith
 
--- src/lib.rt:459:17
 array-copy-out-x : tie.Need-array-copy-out-x Inv-loop μ-loop
 array-copy-out-x c = omega arith
 
--- src/lib.rt:460:17
 mul-y : tie.Need-mul-y Inv-loop μ-loop
 mul-y c = omega arith
 
--- src/lib.rt:460:17
 array-copy-out-y : tie.Need-array-copy-out-y Inv-loop μ-loop
 array-copy-out-y c = omega arith
 
--- src/lib.rt:461:13
 is-dormant-requires : tie.Need-is-dormant-requires Inv-loop μ-loop
 is-dormant-requires c κs = search needs
 
--- src/lib.rt:462:13
 is-dormant-before-requires : tie.Need-is-dormant-before-requires Inv-loop μ-loop
 is-dormant-before-requires c κs = search needs
 
--- src/lib.rt:463:9
 place-with-requires : tie.Need-place-with-requires Inv-loop μ-loop
 place-with-requires c κs = search needs
 
--- src/lib.rt:464:9
 either-requires : tie.Need-either-requires Inv-loop μ-loop
 either-requires c κs = search needs
 
--- src/lib.rt:458:9
 add-i : tie.Need-add-i Inv-loop μ-loop
 add-i c = omega arith
 
--- src/lib.rt:458:5
 loop-less : tie.Need-loop-less Inv-loop μ-loop
 loop-less c = omega arith
 
--- src/lib.rt:458:5
 loop-again : tie.Need-loop-again Inv-loop μ-loop
 loop-again c = (
   omega arith,
@@ -73,11 +61,9 @@ loop-again c = (
       (c .before .before .before .before .before .before .before .loop .inv .2) (c .before .before .before .is-dormant .ensures) (c .before .before .is-dormant-before .ensures) (c .before .place-with .ensures) (c .either .ensures),
 )
 
--- src/lib.rt:466:5
 found-at-requires : tie.Need-found-at-requires Inv-loop μ-loop
 found-at-requires c κs = search needs
 
--- src/lib.rt:452:1
 returns : tie.Need-returns Inv-loop μ-loop
 returns c = let e : c .before .before .loop .i ≡ c .before .before .before .args .n = omega arith in
     c .found-at .ensures ∙ c .before .before .loop .inv .2 ∙ ap (λ (k : ℕ). pickFrom (c .before .before .before .args .t1) k dormantIn dormantBefore) e

@@ -21,39 +21,30 @@ Inv-loop n m some₀ at₀ i₀ some at i = (i ≤ n) × (at < 64) × (foundAt s
 abbrev μ-loop : tie.MeasureT-loop
 μ-loop n m some₀ at₀ i₀ some at i = n - i
 
--- src/lib.rt:442:5
 loop-holds : tie.Need-loop-holds Inv-loop μ-loop
 loop-holds c = (omega arith, omega arith, scan-none (c .args .t1) emptyIn never)
 
--- src/lib.rt:443:17
 mul-x : tie.Need-mul-x Inv-loop μ-loop
 mul-x c = omega arith
 
--- src/lib.rt:443:17
 array-copy-out-x : tie.Need-array-copy-out-x Inv-loop μ-loop
 array-copy-out-x c = omega arith
 
--- src/lib.rt:444:13
 negated-requires : tie.Need-negated-requires Inv-loop μ-loop
 negated-requires c κs = search needs
 
--- src/lib.rt:445:9
 place-with-requires : tie.Need-place-with-requires Inv-loop μ-loop
 place-with-requires c κs = search needs
 
--- src/lib.rt:446:9
 either-requires : tie.Need-either-requires Inv-loop μ-loop
 either-requires c κs = search needs
 
--- src/lib.rt:442:9
 add-i : tie.Need-add-i Inv-loop μ-loop
 add-i c = omega arith
 
--- src/lib.rt:442:5
 loop-less : tie.Need-loop-less Inv-loop μ-loop
 loop-less c = omega arith
 
--- src/lib.rt:442:5
 loop-again : tie.Need-loop-again Inv-loop μ-loop
 unfolding emptyIn
 loop-again c = (
@@ -63,11 +54,9 @@ loop-again c = (
       (c .before .before .before .before .before .loop .inv .2) (c .before .before .negated .ensures) refl (c .before .place-with .ensures) (c .either .ensures),
 )
 
--- src/lib.rt:448:5
 found-at-requires : tie.Need-found-at-requires Inv-loop μ-loop
 found-at-requires c κs = search needs
 
--- src/lib.rt:436:1
 returns : tie.Need-returns Inv-loop μ-loop
 returns c = let e : c .before .before .loop .i ≡ c .before .before .before .args .n = omega arith in
     c .found-at .ensures ∙ c .before .before .loop .inv .2 ∙ ap (λ (k : ℕ). pickFrom (c .before .before .before .args .t1) k emptyIn never) e

@@ -4,23 +4,18 @@ use Rattle.choice.proofs.first_found.Tie as tie
 use Rattle.choice.proofs.first_found.Reads as reads
 use Rattle.choice.proofs.first_found.Lts as lts
 
--- src/lib.rt:30:23
 enum-known-f : tie.Need-enum-known-f
 enum-known-f c = search needs
 
--- src/lib.rt:31:13
 enum-told : tie.Need-enum-told
 enum-told c = search needs
 
--- src/lib.rt:31:13
 returns : tie.Need-returns
 returns c = simp (c .before .before .if1 .taken, c .enum-told .given .1)
 
--- src/lib.rt:33:9
 returns-2 : tie.Need-returns-2
 returns-2 c = simp (c .before .before .before .if1 .taken, c .before .f .given .1)
 
--- src/lib.rt:26:1
 returns-3 : tie.Need-returns-3
 returns-3 c = search needs
 

@@ -20,51 +20,39 @@ Inv-loop n step top m some₀ at₀ i₀ some at i = (i ≤ n) × (at < 64) × (
 abbrev μ-loop : tie.MeasureT-loop
 μ-loop n step top m some₀ at₀ i₀ some at i = n - i
 
--- src/lib.rt:499:5
 loop-holds : tie.Need-loop-holds Inv-loop μ-loop
 loop-holds c = (omega arith, omega arith, scan-none (c .args .t1) (inStep (c .args .step) (c .args .top)) heldBefore)
 
--- src/lib.rt:500:17
 mul-x : tie.Need-mul-x Inv-loop μ-loop
 mul-x c = omega arith
 
--- src/lib.rt:500:17
 array-copy-out-x : tie.Need-array-copy-out-x Inv-loop μ-loop
 array-copy-out-x c = omega arith
 
--- src/lib.rt:501:17
 mul-y : tie.Need-mul-y Inv-loop μ-loop
 mul-y c = omega arith
 
--- src/lib.rt:501:17
 array-copy-out-y : tie.Need-array-copy-out-y Inv-loop μ-loop
 array-copy-out-y c = omega arith
 
--- src/lib.rt:502:13
 is-in-requires : tie.Need-is-in-requires Inv-loop μ-loop
 is-in-requires c κs = search needs
 
--- src/lib.rt:503:13
 is-held-before-requires : tie.Need-is-held-before-requires Inv-loop μ-loop
 is-held-before-requires c κs = search needs
 
--- src/lib.rt:504:9
 place-with-requires : tie.Need-place-with-requires Inv-loop μ-loop
 place-with-requires c κs = search needs
 
--- src/lib.rt:505:9
 either-requires : tie.Need-either-requires Inv-loop μ-loop
 either-requires c κs = search needs
 
--- src/lib.rt:499:9
 add-i : tie.Need-add-i Inv-loop μ-loop
 add-i c = omega arith
 
--- src/lib.rt:499:5
 loop-less : tie.Need-loop-less Inv-loop μ-loop
 loop-less c = omega arith
 
--- src/lib.rt:499:5
 loop-again : tie.Need-loop-again Inv-loop μ-loop
 loop-again c = (
   omega arith,
@@ -73,11 +61,9 @@ loop-again c = (
       (c .before .before .before .before .before .before .before .loop .inv .2) (c .before .before .before .is-in .ensures) (c .before .before .is-held-before .ensures) (c .before .place-with .ensures) (c .either .ensures),
 )
 
--- src/lib.rt:507:5
 found-at-requires : tie.Need-found-at-requires Inv-loop μ-loop
 found-at-requires c κs = search needs
 
--- src/lib.rt:493:1
 returns : tie.Need-returns Inv-loop μ-loop
 unfolding heldFrom
 returns c = let e : c .before .before .loop .i ≡ c .before .before .before .args .n = omega arith in

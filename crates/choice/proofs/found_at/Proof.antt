@@ -4,11 +4,9 @@ use Rattle.choice.proofs.found_at.Tie as tie
 use Rattle.choice.proofs.found_at.Reads as reads
 use Rattle.choice.proofs.found_at.Lts as lts
 
--- src/lib.rt:430:9
 returns : tie.Need-returns
 returns c = simp (c .if1 .taken)
 
--- src/lib.rt:426:1
 returns-2 : tie.Need-returns-2
 returns-2 c = search needs
 

@@ -4,19 +4,15 @@ use Rattle.choice.proofs.has_page.Tie as tie
 use Rattle.choice.proofs.has_page.Reads as reads
 use Rattle.choice.proofs.has_page.Lts as lts
 
--- src/lib.rt:15:27
 enum-told : tie.Need-enum-told
 enum-told c = search needs
 
--- src/lib.rt:17:19
 enum-known-c : tie.Need-enum-known-c
 enum-known-c c = search needs
 
--- src/lib.rt:11:1
 returns : tie.Need-returns
 returns c = search needs
 
--- src/lib.rt:11:1
 returns-2 : tie.Need-returns-2
 returns-2 c = simp (c .before .c .given .1)
 

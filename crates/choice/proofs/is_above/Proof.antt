@@ -4,12 +4,10 @@ use Rattle.choice.proofs.is_above.Tie as tie
 use Rattle.choice.proofs.is_above.Reads as reads
 use Rattle.choice.proofs.is_above.Lts as lts
 
--- src/lib.rt:238:9
 returns : tie.Need-returns
 unfolding aboveBy
 returns c = simp (c .before .if1 .taken)
 
--- src/lib.rt:234:1
 returns-2 : tie.Need-returns-2
 unfolding aboveBy
 returns-2 c = simp (c .if1 .left)

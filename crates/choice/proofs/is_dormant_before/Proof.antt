@@ -7,23 +7,18 @@ use Rattle.choice.proofs.is_dormant_before.Lts as lts
 use Rattle.choice.proofs.dirty_number.Reads as dirty-number-reads
 use Rattle.choice.proofs.ordered.Reads as ordered-reads
 
--- src/lib.rt:372:9
 dirty-number-requires : tie.Need-dirty-number-requires
 dirty-number-requires c κs = search needs
 
--- src/lib.rt:373:9
 dirty-number-requires-2 : tie.Need-dirty-number-requires-2
 dirty-number-requires-2 c κs = search needs
 
--- src/lib.rt:374:9
 ordered-requires : tie.Need-ordered-requires
 ordered-requires c κs = search needs
 
--- src/lib.rt:375:5
 ordered-requires-2 : tie.Need-ordered-requires-2
 ordered-requires-2 c κs = search needs
 
--- src/lib.rt:369:1
 returns : tie.Need-returns
 unfolding dormantBefore
 returns c = simp (c .ordered2 .ensures, c .before .before .before .before .before .ordered .ensures, c .before .before .before .before .before .before .before .before .dirty-number2 .ensures, c .before .before .before .before .before .before .before .before .before .dirty-number .ensures)

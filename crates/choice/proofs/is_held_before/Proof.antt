@@ -7,15 +7,12 @@ use Rattle.choice.proofs.is_held_before.Lts as lts
 use Rattle.choice.proofs.is_worse.Reads as is-worse-reads
 use Rattle.choice.proofs.ordered.Reads as ordered-reads
 
--- src/lib.rt:406:9
 ordered-requires : tie.Need-ordered-requires
 ordered-requires c κs = search needs
 
--- src/lib.rt:407:5
 is-worse-requires : tie.Need-is-worse-requires
 is-worse-requires c κs = search needs
 
--- src/lib.rt:401:1
 returns : tie.Need-returns
 unfolding heldBefore
 returns c = simp (c .is-worse .ensures, c .before .ordered .ensures)

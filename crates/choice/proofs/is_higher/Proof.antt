@@ -5,7 +5,6 @@ use Rattle.choice.proofs.is_higher.Tie as tie
 use Rattle.choice.proofs.is_higher.Reads as reads
 use Rattle.choice.proofs.is_higher.Lts as lts
 
--- src/lib.rt:379:1
 returns : tie.Need-returns
 unfolding higher
 returns c = refl

@@ -7,20 +7,16 @@ use Rattle.choice.proofs.join_level.Lts as lts
 use Rattle.seq.proofs.either.Reads as either-reads
 use Rattle.choice.proofs.larger.Reads as larger-reads
 
--- src/lib.rt:132:9
 larger-requires : tie.Need-larger-requires
 larger-requires c κs = search needs
 
--- src/lib.rt:133:9
 either-requires : tie.Need-either-requires
 either-requires c κs = search needs
 
--- src/lib.rt:135:9
 returns : tie.Need-returns
 unfolding joinedLevel
 returns c = simp (c .if1 .taken, c .before .either .ensures, c .before .before .larger .ensures)
 
--- src/lib.rt:129:1
 returns-2 : tie.Need-returns-2
 unfolding joinedLevel
 returns-2 c = simp (c .if1 .left, c .before .either .ensures, c .before .before .larger .ensures)

@@ -5,12 +5,10 @@ use Rattle.choice.proofs.larger.Tie as tie
 use Rattle.choice.proofs.larger.Reads as reads
 use Rattle.choice.proofs.larger.Lts as lts
 
--- src/lib.rt:128:9
 returns : tie.Need-returns
 unfolding largerOf
 returns c = simp (tests, c .if1 .taken)
 
--- src/lib.rt:124:1
 returns-2 : tie.Need-returns-2
 unfolding largerOf
 returns-2 c = simp (tests, c .if1 .left)

@@ -5,11 +5,9 @@ use Rattle.choice.proofs.no_summary.Reads as reads
 use Rattle.choice.proofs.no_summary.Lts as lts
 use Rattle.choice.proofs.no_holders.Reads as no-holders-reads
 
--- src/lib.rt:294:18
 no-holders-requires : tie.Need-no-holders-requires
 no-holders-requires c κs = search needs
 
--- src/lib.rt:285:1
 returns : tie.Need-returns
 returns c = simp (c .no-holders .ensures)
 

@@ -4,22 +4,18 @@ use Rattle.choice.proofs.place_with.Tie as tie
 use Rattle.choice.proofs.place_with.Reads as reads
 use Rattle.choice.proofs.place_with.Lts as lts
 
--- src/lib.rt:417:17
 returns : tie.Need-returns
 unfolding placeWith
 returns c = simp (c .if3 .taken, c .before .if2 .taken, c .before .before .if1 .taken)
 
--- src/lib.rt:419:13
 returns-2 : tie.Need-returns-2
 unfolding placeWith
 returns-2 c = simp (c .if3 .left, c .before .if2 .taken, c .before .before .if1 .taken)
 
--- src/lib.rt:421:9
 returns-3 : tie.Need-returns-3
 unfolding placeWith
 returns-3 c = simp (c .if2 .left, c .before .if1 .taken)
 
--- src/lib.rt:411:1
 returns-4 : tie.Need-returns-4
 unfolding placeWith
 returns-4 c = simp (c .if1 .left)

@@ -30,119 +30,90 @@ Inv-loop me s mine out₀ i₀ out i = (i ≤ 64) × (out ≡ eachBelow i (λ sl
 abbrev μ-loop : tie.MeasureT-loop
 μ-loop me s mine out₀ i₀ out i = 64 - i
 
--- src/lib.rt:306:18
 mul-asking : tie.Need-mul-asking Inv-loop2 μ-loop2 Inv-loop μ-loop
 mul-asking c = omega arith
 
--- src/lib.rt:306:18
 element-copy-out-asking : tie.Need-element-copy-out-asking Inv-loop2 μ-loop2 Inv-loop μ-loop
 element-copy-out-asking c = omega arith
 
--- src/lib.rt:308:9
 no-summary-requires : tie.Need-no-summary-requires Inv-loop2 μ-loop2 Inv-loop μ-loop
 no-summary-requires c κs = search needs
 
--- src/lib.rt:310:5
 loop-holds : tie.Need-loop-holds Inv-loop2 μ-loop2 Inv-loop μ-loop
 loop-holds c = (omega arith, ap (replicate 64) (c .no-summary .ensures) ∙ each-below-none (λ slot _. summaryOf (c .before .before .args .t1) (c .before .before .args .me) slot) (replicate 64 noSummary))
 
--- src/lib.rt:311:13
 no-holders-requires : tie.Need-no-holders-requires Inv-loop2 μ-loop2 Inv-loop μ-loop
 no-holders-requires c κs = search needs
 
--- src/lib.rt:312:9
 loop2-holds : tie.Need-loop2-holds Inv-loop2 μ-loop2 Inv-loop μ-loop
 loop2-holds c = (omega arith, c .no-holders .ensures ∙ holders-none (c .before .before .before .before .before .args .t1) (c .before .before .loop .i))
 
--- src/lib.rt:313:32
 mul-h : tie.Need-mul-h Inv-loop2 μ-loop2 Inv-loop μ-loop
 mul-h c = omega arith
 
--- src/lib.rt:313:32
 add-h : tie.Need-add-h Inv-loop2 μ-loop2 Inv-loop μ-loop
 add-h c = omega arith
 
--- src/lib.rt:313:21
 mul-h-2 : tie.Need-mul-h-2 Inv-loop2 μ-loop2 Inv-loop μ-loop
 mul-h-2 c = omega arith
 
--- src/lib.rt:313:21
 element-copy-out-h : tie.Need-element-copy-out-h Inv-loop2 μ-loop2 Inv-loop μ-loop
 element-copy-out-h c = omega arith
 
--- src/lib.rt:314:21
 mul-x : tie.Need-mul-x Inv-loop2 μ-loop2 Inv-loop μ-loop
 mul-x c = omega arith
 
--- src/lib.rt:314:21
 element-copy-out-x : tie.Need-element-copy-out-x Inv-loop2 μ-loop2 Inv-loop μ-loop
 element-copy-out-x c = omega arith
 
--- src/lib.rt:316:13
 holders-with-requires : tie.Need-holders-with-requires Inv-loop2 μ-loop2 Inv-loop μ-loop
 holders-with-requires c κs = search needs
 
--- src/lib.rt:312:13
 add-r : tie.Need-add-r Inv-loop2 μ-loop2 Inv-loop μ-loop
 add-r c = omega arith
 
--- src/lib.rt:312:9
 loop2-less : tie.Need-loop2-less Inv-loop2 μ-loop2 Inv-loop μ-loop
 loop2-less c = omega arith
 
--- src/lib.rt:312:9
 loop2-again : tie.Need-loop2-again Inv-loop2 μ-loop2 Inv-loop μ-loop
 loop2-again c = (omega arith, holders-turn (c .before .before .before .before .before .before .before .before .before .before .args .t1) (c .before .before .before .before .before .before .before .loop .i) (c .before .before .before .before .loop2 .r) (c .before .before .before .before .loop2 .w) (c .holders-with .result) (c .before .before .before .before .loop2 .inv .1) (c .holders-with .ensures))
 
--- src/lib.rt:318:28
 mul-g : tie.Need-mul-g Inv-loop2 μ-loop2 Inv-loop μ-loop
 mul-g c = omega arith
 
--- src/lib.rt:318:28
 add-g : tie.Need-add-g Inv-loop2 μ-loop2 Inv-loop μ-loop
 add-g c = omega arith
 
--- src/lib.rt:318:17
 mul-g-2 : tie.Need-mul-g-2 Inv-loop2 μ-loop2 Inv-loop μ-loop
 mul-g-2 c = omega arith
 
--- src/lib.rt:318:17
 element-copy-out-g : tie.Need-element-copy-out-g Inv-loop2 μ-loop2 Inv-loop μ-loop
 element-copy-out-g c = omega arith
 
--- src/lib.rt:320:13
 is-pin-requires : tie.Need-is-pin-requires Inv-loop2 μ-loop2 Inv-loop μ-loop
 is-pin-requires c κs = search needs
 
--- src/lib.rt:321:20
 mul-slot : tie.Need-mul-slot Inv-loop2 μ-loop2 Inv-loop μ-loop
 mul-slot c = omega arith
 
--- src/lib.rt:321:20
 element-copy-out-slot : tie.Need-element-copy-out-slot Inv-loop2 μ-loop2 Inv-loop μ-loop
 element-copy-out-slot c = omega arith
 
--- src/lib.rt:322:18
 summary-with-requires : tie.Need-summary-with-requires Inv-loop2 μ-loop2 Inv-loop μ-loop
 summary-with-requires c κs = search needs
 
--- src/lib.rt:322:9
 mul-out : tie.Need-mul-out Inv-loop2 μ-loop2 Inv-loop μ-loop
 mul-out c = omega arith
 
--- src/lib.rt:322:9
 array-set-from-out : tie.Need-array-set-from-out Inv-loop2 μ-loop2 Inv-loop μ-loop
 array-set-from-out c = omega arith
 
--- src/lib.rt:310:9
 add-i : tie.Need-add-i Inv-loop2 μ-loop2 Inv-loop μ-loop
 add-i c = omega arith
 
--- src/lib.rt:310:5
 loop-less : tie.Need-loop-less Inv-loop2 μ-loop2 Inv-loop μ-loop
 loop-less c = omega arith
 
--- src/lib.rt:310:5
 loop-again : tie.Need-loop-again Inv-loop2 μ-loop2 Inv-loop μ-loop
 loop-again c = let e : c .before .before .before .before .before .loop2 .r ≡ 32 = omega arith in (
   omega arith,
@@ -151,7 +122,6 @@ loop-again c = let e : c .before .before .before .before .before .loop2 .r ≡ 3
       (c .before .before .before .before .before .loop2 .inv .1) (c .before .before .is-pin .ensures) (c .summary-with .ensures)),
 )
 
--- src/lib.rt:302:1
 returns : tie.Need-returns Inv-loop2 μ-loop2 Inv-loop μ-loop
 unfolding summariesOf
 returns c = build-all (λ slot. summaryOf (c .before .before .before .before .args .t1) (c .before .before .before .before .args .me) slot) 64 noSummary (c .before .loop .i) (c .before .loop .out) (omega arith) (c .before .loop .inv .1)

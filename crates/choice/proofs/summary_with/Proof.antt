@@ -11,31 +11,24 @@ use Rattle.choice.proofs.is_filled.Reads as is-filled-reads
 use Rattle.choice.proofs.lowest_in.Reads as lowest-in-reads
 use Rattle.choice.proofs.page_in.Reads as page-in-reads
 
--- src/lib.rt:261:17
 is-filled-requires : tie.Need-is-filled-requires
 is-filled-requires c κs = search needs
 
--- src/lib.rt:262:15
 page-in-requires : tie.Need-page-in-requires
 page-in-requires c κs = search needs
 
--- src/lib.rt:263:16
 dirty-in-requires : tie.Need-dirty-in-requires
 dirty-in-requires c κs = search needs
 
--- src/lib.rt:264:17
 lowest-in-requires : tie.Need-lowest-in-requires
 lowest-in-requires c κs = search needs
 
--- src/lib.rt:267:16
 is-above-requires : tie.Need-is-above-requires
 is-above-requires c κs = search needs
 
--- src/lib.rt:268:17
 is-beside-requires : tie.Need-is-beside-requires
 is-beside-requires c κs = search needs
 
--- src/lib.rt:256:1
 returns : tie.Need-returns
 unfolding summaryWith
 returns c = simp (c .is-beside .ensures, c .before .is-above .ensures, c .before .before .lowest-in .ensures, c .before .before .before .dirty-in .ensures, c .before .before .before .before .page-in .ensures, c .before .before .before .before .before .is-filled .ensures)

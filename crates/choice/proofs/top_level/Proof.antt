@@ -19,47 +19,36 @@ Inv-loop n m some₀ at₀ i₀ some at i = (i ≤ n) × (at < 64) × (foundAt s
 abbrev μ-loop : tie.MeasureT-loop
 μ-loop n m some₀ at₀ i₀ some at i = n - i
 
--- src/lib.rt:476:5
 loop-holds : tie.Need-loop-holds Inv-loop μ-loop
 loop-holds c = (omega arith, omega arith, scan-none (c .args .t1) aboveIn higher)
 
--- src/lib.rt:477:17
 mul-x : tie.Need-mul-x Inv-loop μ-loop
 mul-x c = omega arith
 
--- src/lib.rt:477:17
 array-copy-out-x : tie.Need-array-copy-out-x Inv-loop μ-loop
 array-copy-out-x c = omega arith
 
--- src/lib.rt:478:17
 mul-y : tie.Need-mul-y Inv-loop μ-loop
 mul-y c = omega arith
 
--- src/lib.rt:478:17
 array-copy-out-y : tie.Need-array-copy-out-y Inv-loop μ-loop
 array-copy-out-y c = omega arith
 
--- src/lib.rt:480:13
 is-higher-requires : tie.Need-is-higher-requires Inv-loop μ-loop
 is-higher-requires c κs = search needs
 
--- src/lib.rt:481:9
 place-with-requires : tie.Need-place-with-requires Inv-loop μ-loop
 place-with-requires c κs = search needs
 
--- src/lib.rt:482:9
 either-requires : tie.Need-either-requires Inv-loop μ-loop
 either-requires c κs = search needs
 
--- src/lib.rt:476:9
 add-i : tie.Need-add-i Inv-loop μ-loop
 add-i c = omega arith
 
--- src/lib.rt:476:5
 loop-less : tie.Need-loop-less Inv-loop μ-loop
 loop-less c = omega arith
 
--- src/lib.rt:476:5
 loop-again : tie.Need-loop-again Inv-loop μ-loop
 loop-again c = (
   omega arith,
@@ -68,19 +57,15 @@ loop-again c = (
       (c .before .before .before .before .before .before .loop .inv .2) refl (c .before .before .is-higher .ensures) (c .before .place-with .ensures) (c .either .ensures),
 )
 
--- src/lib.rt:484:15
 mul-top : tie.Need-mul-top Inv-loop μ-loop
 mul-top c = omega arith
 
--- src/lib.rt:484:15
 array-copy-out-top : tie.Need-array-copy-out-top Inv-loop μ-loop
 array-copy-out-top c = omega arith
 
--- src/lib.rt:487:9
 returns : tie.Need-returns Inv-loop μ-loop
 returns c = top-some (c .before .before .before .before .before .before .args .t1) (c .before .before .before .before .before .before .args .n) (c .before .before .before .before .before .loop .i) (c .before .before .before .before .before .loop .at) (c .before .before .before .before .before .loop .some) (omega arith) (c .before .before .before .before .before .loop .inv .2) (c .before .if1 .taken)
 
--- src/lib.rt:470:1
 returns-2 : tie.Need-returns-2 Inv-loop μ-loop
 returns-2 c = top-none (c .before .before .before .before .before .args .t1) (c .before .before .before .before .before .args .n) (c .before .before .before .before .loop .i) (c .before .before .before .before .loop .at) (c .before .before .before .before .loop .some) (omega arith) (c .before .before .before .before .loop .inv .2) (c .if1 .left)
 

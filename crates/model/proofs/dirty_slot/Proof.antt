@@ -5,20 +5,16 @@ use Rattle.model.proofs.dirty_slot.Tie as tie
 use Rattle.model.proofs.dirty_slot.Reads as reads
 use Rattle.model.proofs.dirty_slot.Lts as lts
 
--- src/lib.rt:355:27
 enum-told : tie.Need-enum-told
 enum-told c = search needs
 
--- src/lib.rt:357:13
 enum-known-c : tie.Need-enum-known-c
 enum-known-c c = search needs
 
--- src/lib.rt:350:1
 returns : tie.Need-returns
 unfolding dirtied
 returns c = simp (c .enum-told .given .1)
 
--- src/lib.rt:350:1
 returns-2 : tie.Need-returns-2
 unfolding dirtied
 returns-2 c = simp (c .before .c .given .1)

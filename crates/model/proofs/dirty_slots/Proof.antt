@@ -8,7 +8,8 @@ use Rattle.seq.specs.Each.{eachBelow}
 use Rattle.seq.proofs.BelowLaws.{any-turn}
 use Rattle.seq.proofs.EachLaws.{each-below-none, each-below-turn, each-below-all}
 use Rattle.model.specs.State.{emptySlot, emptyHolding}
-use Rattle.model.specs.Changes.{marked, written, dirtied, released}
+use Rattle.model.specs.Changes.{written, dirtied, released}
+use Rattle.model.specs.Inner.Changed.{marked}
 use Rattle.model.proofs.Releasing.{dirtying}
 use native.Mathlib.Omega.{arith}
 use borrow.Author.Needs.{needs}
@@ -31,80 +32,61 @@ Inv-loop clock marks holdings slots₀ i₀ slots i = (i ≤ 64) × (slots ≡ e
 abbrev μ-loop : tie.MeasureT-loop
 μ-loop clock marks holdings slots₀ i₀ slots i = 64 - i
 
--- src/lib.rt:429:5
 loop-holds : tie.Need-loop-holds Inv-loop2 μ-loop2 Inv-loop μ-loop
 loop-holds c = (omega arith, each-below-none (dirtying (c .before .before .args .t3) (c .before .before .args .clock) (c .before .before .args .s .holdings)) (c .before .before .args .s .slots))
 
--- src/lib.rt:431:9
 loop2-holds : tie.Need-loop2-holds Inv-loop2 μ-loop2 Inv-loop μ-loop
 unfolding anyBelow
 loop2-holds c = (omega arith, refl)
 
--- src/lib.rt:432:30
 mul-h : tie.Need-mul-h Inv-loop2 μ-loop2 Inv-loop μ-loop
 mul-h c = omega arith
 
--- src/lib.rt:432:30
 add-h : tie.Need-add-h Inv-loop2 μ-loop2 Inv-loop μ-loop
 add-h c = omega arith
 
--- src/lib.rt:432:21
 mul-h-2 : tie.Need-mul-h-2 Inv-loop2 μ-loop2 Inv-loop μ-loop
 mul-h-2 c = omega arith
 
--- src/lib.rt:432:21
 array-copy-out-h : tie.Need-array-copy-out-h Inv-loop2 μ-loop2 Inv-loop μ-loop
 array-copy-out-h c = omega arith
 
--- src/lib.rt:433:24
 array-read-gone : tie.Need-array-read-gone Inv-loop2 μ-loop2 Inv-loop μ-loop
 array-read-gone c = omega arith
 
--- src/lib.rt:434:13
 wrote-also-requires : tie.Need-wrote-also-requires Inv-loop2 μ-loop2 Inv-loop μ-loop
 wrote-also-requires c κs = search needs
 
--- src/lib.rt:431:13
 add-r : tie.Need-add-r Inv-loop2 μ-loop2 Inv-loop μ-loop
 add-r c = omega arith
 
--- src/lib.rt:431:9
 loop2-less : tie.Need-loop2-less Inv-loop2 μ-loop2 Inv-loop μ-loop
 loop2-less c = omega arith
 
--- src/lib.rt:431:9
 loop2-again : tie.Need-loop2-again Inv-loop2 μ-loop2 Inv-loop μ-loop
 loop2-again c = (omega arith, any-turn (λ q. marked (c .before .before .before .before .before .before .before .before .args .t3) q && written (c .before .before .before .before .before .before .before .before .args .clock) (getD (c .before .before .before .before .before .before .before .before .args .s .holdings) (c .before .before .before .before .before .loop .i * 32 + q) emptyHolding)) (c .before .before .before .loop2 .r) (c .before .before .before .loop2 .wrote) (c .wrote-also .result) (c .before .before .before .loop2 .inv .1) (c .wrote-also .ensures))
 
--- src/lib.rt:436:17
 mul-x : tie.Need-mul-x Inv-loop2 μ-loop2 Inv-loop μ-loop
 mul-x c = omega arith
 
--- src/lib.rt:436:17
 array-copy-out-x : tie.Need-array-copy-out-x Inv-loop2 μ-loop2 Inv-loop μ-loop
 array-copy-out-x c = omega arith
 
--- src/lib.rt:437:13
 marked-slot-requires : tie.Need-marked-slot-requires Inv-loop2 μ-loop2 Inv-loop μ-loop
 marked-slot-requires c κs = search needs
 
--- src/lib.rt:438:9
 mul-slots : tie.Need-mul-slots Inv-loop2 μ-loop2 Inv-loop μ-loop
 mul-slots c = omega arith
 
--- src/lib.rt:438:9
 array-set-from-slots : tie.Need-array-set-from-slots Inv-loop2 μ-loop2 Inv-loop μ-loop
 array-set-from-slots c = omega arith
 
--- src/lib.rt:429:9
 add-i : tie.Need-add-i Inv-loop2 μ-loop2 Inv-loop μ-loop
 add-i c = omega arith
 
--- src/lib.rt:429:5
 loop-less : tie.Need-loop-less Inv-loop2 μ-loop2 Inv-loop μ-loop
 loop-less c = omega arith
 
--- src/lib.rt:429:5
 loop-again : tie.Need-loop-again Inv-loop2 μ-loop2 Inv-loop μ-loop
 loop-again c =
     let z = state-ok (c .before .before .before .before .before .before .before .before .args .s) _ (c .before .before .before .before .before .before .before .before .good .0) .sized in
@@ -116,7 +98,6 @@ loop-again c =
           (c .marked-slot .ensures ∙ ap (λ (b : Bool). cond b (dirtied x) x) w),
     )
 
--- src/lib.rt:424:1
 returns : tie.Need-returns Inv-loop2 μ-loop2 Inv-loop μ-loop
 unfolding released
 returns c = let z = state-ok (c .before .before .before .before .args .s) _ (c .before .before .before .before .good .0) .sized in c .before .loop .inv .1 ∙ each-below-all (dirtying (c .before .before .before .before .args .t3) (c .before .before .before .before .args .clock) (c .before .before .before .before .args .s .holdings)) (c .before .before .before .before .args .s .slots) (c .before .loop .i) emptySlot (rw (z .slots) (omega arith))

@@ -5,7 +5,6 @@ use Rattle.model.proofs.empty_holdings.Tie as tie
 use Rattle.model.proofs.empty_holdings.Reads as reads
 use Rattle.model.proofs.empty_holdings.Lts as lts
 
--- src/lib.rt:116:1
 returns : tie.Need-returns
 unfolding emptyHoldings
 returns c = refl

@@ -6,11 +6,9 @@ use Rattle.model.proofs.fresh_state.Reads as reads
 use Rattle.model.proofs.fresh_state.Lts as lts
 use Rattle.model.proofs.empty_holdings.Reads as empty-holdings-reads
 
--- src/lib.rt:130:9
 empty-holdings-requires : tie.Need-empty-holdings-requires
 empty-holdings-requires c κs = search needs
 
--- src/lib.rt:127:1
 returns : tie.Need-returns
 unfolding fresh
 returns c = rw (c .empty-holdings .ensures)

@@ -4,7 +4,7 @@ use native.Mathlib.Omega.{arith}
 use borrow.Author.Needs.{needs}
 use Rattle.seq.specs.Below.{anyBelow}
 use Rattle.seq.proofs.BelowLaws.{any-turn}
-use Rattle.model.specs.Changes.{marked}
+use Rattle.model.specs.Inner.Changed.{marked}
 use Rattle.model.proofs.has_mark.Statement.{statement}
 use Rattle.model.proofs.has_mark.Tie as tie
 use Rattle.model.proofs.has_mark.Reads as reads
@@ -17,32 +17,25 @@ Inv-loop marks found₀ r₀ found r = (r ≤ 32) × (found ≡ anyBelow r (mark
 abbrev μ-loop : tie.MeasureT-loop
 μ-loop marks found₀ r₀ found r = 32 - r
 
--- src/lib.rt:417:5
 loop-holds : tie.Need-loop-holds Inv-loop μ-loop
 unfolding anyBelow
 loop-holds c = (omega arith, refl)
 
--- src/lib.rt:418:36
 array-read-either : tie.Need-array-read-either Inv-loop μ-loop
 array-read-either c = omega arith
 
--- src/lib.rt:418:9
 either-requires : tie.Need-either-requires Inv-loop μ-loop
 either-requires c κs = search needs
 
--- src/lib.rt:417:9
 add-r : tie.Need-add-r Inv-loop μ-loop
 add-r c = omega arith
 
--- src/lib.rt:417:5
 loop-less : tie.Need-loop-less Inv-loop μ-loop
 loop-less c = omega arith
 
--- src/lib.rt:417:5
 loop-again : tie.Need-loop-again Inv-loop μ-loop
 loop-again c = (omega arith, any-turn (marked (c .before .before .before .args .t1)) (c .before .before .loop .r) (c .before .before .loop .found) (c .either .result) (c .before .before .loop .inv .1) (c .either .ensures))
 
--- src/lib.rt:413:1
 returns : tie.Need-returns Inv-loop μ-loop
 returns c = let e : c .before .loop .r ≡ 32 = omega arith in c .before .loop .inv .1 ∙ ap (λ (n : ℕ). anyBelow n (marked (c .before .before .args .t1))) e
 

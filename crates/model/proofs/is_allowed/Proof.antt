@@ -53,35 +53,27 @@ entry level class mode l k =
     beq-true (getD table (level * 8 + class * 2 + modeNumber mode) false) (allowed level class mode)
     (rw (e1, e2, e3, number-back mode) at (all-each right 32 (level * 8 + class * 2 + modeNumber mode) rule (omega arith)))
 
--- src/lib.rt:197:17
 cast-class : tie.Need-cast-class
 cast-class c = search needs
 
--- src/lib.rt:198:14
 mul-at : tie.Need-mul-at
 mul-at c = search needs
 
--- src/lib.rt:198:26
 mul-at-2 : tie.Need-mul-at-2
 mul-at-2 c = search needs
 
--- src/lib.rt:198:14
 add-at : tie.Need-add-at
 add-at c = search needs
 
--- src/lib.rt:198:38
 mode-number-requires : tie.Need-mode-number-requires
 mode-number-requires c κs = search needs
 
--- src/lib.rt:198:14
 add-at-2 : tie.Need-add-at-2
 add-at-2 c = omega (arith, number-small (c .before .args .mode), c .mode-number .ensures)
 
--- src/lib.rt:199:5
 array-read-result : tie.Need-array-read-result
 array-read-result c = omega (arith, number-small (c .before .args .mode), c .mode-number .ensures)
 
--- src/lib.rt:193:1
 returns : tie.Need-returns
 unfolding table
 returns c =

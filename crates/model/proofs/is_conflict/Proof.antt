@@ -7,38 +7,30 @@ use Rattle.model.proofs.is_conflict.Lts as lts
 use Rattle.model.proofs.is_pin.Reads as is-pin-reads
 use Rattle.model.proofs.is_write.Reads as is-write-reads
 
--- src/lib.rt:278:8
 is-pin-requires : tie.Need-is-pin-requires
 is-pin-requires c κs = search needs
 
--- src/lib.rt:279:12
 is-pin-requires-2 : tie.Need-is-pin-requires-2
 is-pin-requires-2 c κs = search needs
 
--- src/lib.rt:280:16
 is-write-requires : tie.Need-is-write-requires
 is-write-requires c κs = search needs
 
--- src/lib.rt:281:17
 returns : tie.Need-returns
 unfolding conflict
 returns c = simp (← c .before .before .before .before .before .is-pin .ensures, c .before .before .before .before .if1 .taken, ← c .before .before .before .is-pin2 .ensures, c .before .before .if2 .taken, ← c .before .is-write .ensures, c .if3 .taken)
 
--- src/lib.rt:283:13
 is-write-requires-2 : tie.Need-is-write-requires-2
 is-write-requires-2 c κs = search needs
 
--- src/lib.rt:283:13
 returns-2 : tie.Need-returns-2
 unfolding conflict
 returns-2 c = simp (← c .before .before .before .before .before .before .is-pin .ensures, c .before .before .before .before .before .if1 .taken, ← c .before .before .before .before .is-pin2 .ensures, c .before .before .before .if2 .taken, ← c .before .before .is-write .ensures, c .before .if3 .left, ← c .is-write2 .ensures)
 
--- src/lib.rt:285:9
 returns-3 : tie.Need-returns-3
 unfolding conflict
 returns-3 c = simp (← c .before .before .before .is-pin .ensures, c .before .before .if1 .taken, ← c .before .is-pin2 .ensures, c .if2 .left)
 
--- src/lib.rt:275:1
 returns-4 : tie.Need-returns-4
 unfolding conflict
 returns-4 c = simp (← c .before .is-pin .ensures, c .if1 .left)

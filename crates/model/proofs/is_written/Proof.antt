@@ -6,16 +6,13 @@ use Rattle.model.proofs.is_written.Reads as reads
 use Rattle.model.proofs.is_written.Lts as lts
 use Rattle.model.proofs.is_write.Reads as is-write-reads
 
--- src/lib.rt:316:8
 is-write-requires : tie.Need-is-write-requires
 is-write-requires c κs = search needs
 
--- src/lib.rt:317:9
 returns : tie.Need-returns
 unfolding written
 returns c = simp (← c .before .before .is-write .ensures, c .before .if1 .taken)
 
--- src/lib.rt:312:1
 returns-2 : tie.Need-returns-2
 unfolding written
 returns-2 c = simp (← c .before .is-write .ensures, c .if1 .left)

@@ -4,11 +4,9 @@ use Rattle.model.proofs.kept_holding.Tie as tie
 use Rattle.model.proofs.kept_holding.Reads as reads
 use Rattle.model.proofs.kept_holding.Lts as lts
 
--- src/lib.rt:327:9
 returns : tie.Need-returns
 returns c = simp (c .if1 .taken)
 
--- src/lib.rt:323:1
 returns-2 : tie.Need-returns-2
 returns-2 c = search needs
 

@@ -7,7 +7,7 @@ use Rattle.seq.specs.Each.{eachBelow}
 use Rattle.seq.proofs.EachLaws.{each-below-none, each-below-more, each-below-all}
 use Rattle.model.specs.declared.Holding.{Holding}
 use Rattle.model.specs.State.{emptyHolding}
-use Rattle.model.specs.Changes.{marked}
+use Rattle.model.specs.Inner.Changed.{marked}
 use native.Mathlib.Omega.{arith}
 use borrow.Author.Needs.{needs}
 use Rattle.model.proofs.kept_holdings.Statement.{statement}
@@ -25,43 +25,33 @@ Inv-loop held marks n₀ r₀ n r = (r ≤ 32) × (n ≡ eachBelow r (keeping ma
 abbrev μ-loop : tie.MeasureT-loop
 μ-loop held marks n₀ r₀ n r = 32 - r
 
--- src/lib.rt:359:5
 loop-holds : tie.Need-loop-holds Inv-loop μ-loop
 loop-holds c = (omega arith, each-below-none (keeping (c .args .t2)) (c .args .t1))
 
--- src/lib.rt:360:17
 mul-h : tie.Need-mul-h Inv-loop μ-loop
 mul-h c = omega arith
 
--- src/lib.rt:360:17
 array-copy-out-h : tie.Need-array-copy-out-h Inv-loop μ-loop
 array-copy-out-h c = omega arith
 
--- src/lib.rt:361:30
 array-read-kept-holding : tie.Need-array-read-kept-holding Inv-loop μ-loop
 array-read-kept-holding c = omega arith
 
--- src/lib.rt:361:13
 kept-holding-requires : tie.Need-kept-holding-requires Inv-loop μ-loop
 kept-holding-requires c κs = search needs
 
--- src/lib.rt:362:9
 mul-n : tie.Need-mul-n Inv-loop μ-loop
 mul-n c = omega arith
 
--- src/lib.rt:362:9
 array-set-from-n : tie.Need-array-set-from-n Inv-loop μ-loop
 array-set-from-n c = omega arith
 
--- src/lib.rt:359:9
 add-r : tie.Need-add-r Inv-loop μ-loop
 add-r c = omega arith
 
--- src/lib.rt:359:5
 loop-less : tie.Need-loop-less Inv-loop μ-loop
 loop-less c = omega arith
 
--- src/lib.rt:359:5
 loop-again : tie.Need-loop-again Inv-loop μ-loop
 loop-again c =
     let l : length (c .before .before .before .before .args .t1) ≡ 32 = c .before .before .before .before .good .0 .1 .0 .1 in (
@@ -69,7 +59,6 @@ loop-again c =
       rw (c .before .before .before .loop .inv .1, c .kept-holding .ensures) (each-below-more (keeping (c .before .before .before .before .args .t2)) (c .before .before .before .before .args .t1) (c .before .before .before .loop .r) emptyHolding (omega arith)),
     )
 
--- src/lib.rt:355:1
 returns : tie.Need-returns Inv-loop μ-loop
 returns c = let l : length (c .before .before .args .t1) ≡ 32 = c .before .before .good .0 .1 .0 .1 in c .before .loop .inv .1 ∙ each-below-all (keeping (c .before .before .args .t2)) (c .before .before .args .t1) (c .before .loop .r) emptyHolding (omega arith)
 

@@ -9,7 +9,8 @@ use lib.ListN.{length, getD, set}
 use Rattle.seq.specs.Each.{eachBelow}
 use Rattle.seq.proofs.EachLaws.{each-below-none, each-below-more, each-below-all}
 use Rattle.model.specs.State.{freeRow}
-use Rattle.model.specs.Changes.{marked, killedRow}
+use Rattle.model.specs.Changes.{killedRow}
+use Rattle.model.specs.Inner.Changed.{marked}
 use native.Mathlib.Omega.{arith}
 use borrow.Author.Needs.{needs}
 use Rattle.model.proofs.kill_rows.Statement.{statement}
@@ -27,43 +28,33 @@ Inv-loop cause rows marks n₀ r₀ n r = (r ≤ 32) × (n ≡ eachBelow r (mark
 abbrev μ-loop : tie.MeasureT-loop
 μ-loop cause rows marks n₀ r₀ n r = 32 - r
 
--- src/lib.rt:426:5
 loop-holds : tie.Need-loop-holds Inv-loop μ-loop
 loop-holds c = (omega arith, each-below-none (marking (c .args .t2) (c .args .cause)) (c .args .t1))
 
--- src/lib.rt:427:17
 mul-x : tie.Need-mul-x Inv-loop μ-loop
 mul-x c = omega arith
 
--- src/lib.rt:427:17
 array-copy-out-x : tie.Need-array-copy-out-x Inv-loop μ-loop
 array-copy-out-x c = omega arith
 
--- src/lib.rt:428:28
 array-read-killed-if : tie.Need-array-read-killed-if Inv-loop μ-loop
 array-read-killed-if c = omega arith
 
--- src/lib.rt:428:13
 killed-if-requires : tie.Need-killed-if-requires Inv-loop μ-loop
 killed-if-requires c κs = search needs
 
--- src/lib.rt:429:9
 mul-n : tie.Need-mul-n Inv-loop μ-loop
 mul-n c = omega arith
 
--- src/lib.rt:429:9
 array-set-from-n : tie.Need-array-set-from-n Inv-loop μ-loop
 array-set-from-n c = omega arith
 
--- src/lib.rt:426:9
 add-r : tie.Need-add-r Inv-loop μ-loop
 add-r c = omega arith
 
--- src/lib.rt:426:5
 loop-less : tie.Need-loop-less Inv-loop μ-loop
 loop-less c = omega arith
 
--- src/lib.rt:426:5
 loop-again : tie.Need-loop-again Inv-loop μ-loop
 loop-again c =
     let l : length (c .before .before .before .before .args .t1) ≡ 32 = c .before .before .before .before .good .0 .1 .0 .1 in (
@@ -71,7 +62,6 @@ loop-again c =
       rw (c .before .before .before .loop .inv .1, c .killed-if .ensures) (each-below-more (marking (c .before .before .before .before .args .t2) (c .before .before .before .before .args .cause)) (c .before .before .before .before .args .t1) (c .before .before .before .loop .r) freeRow (omega arith)),
     )
 
--- src/lib.rt:422:1
 returns : tie.Need-returns Inv-loop μ-loop
 returns c = let l : length (c .before .before .args .t1) ≡ 32 = c .before .before .good .0 .1 .0 .1 in c .before .loop .inv .1 ∙ each-below-all (marking (c .before .before .args .t2) (c .before .before .args .cause)) (c .before .before .args .t1) (c .before .loop .r) freeRow (omega arith)
 

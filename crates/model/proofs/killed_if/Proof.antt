@@ -4,11 +4,9 @@ use Rattle.model.proofs.killed_if.Tie as tie
 use Rattle.model.proofs.killed_if.Reads as reads
 use Rattle.model.proofs.killed_if.Lts as lts
 
--- src/lib.rt:407:9
 returns : tie.Need-returns
 returns c = simp (c .if1 .taken)
 
--- src/lib.rt:403:1
 returns-2 : tie.Need-returns-2
 returns-2 c = search needs
 

@@ -6,15 +6,12 @@ use Rattle.model.proofs.marked_slot.Reads as reads
 use Rattle.model.proofs.marked_slot.Lts as lts
 use Rattle.model.proofs.dirty_slot.Reads as dirty-slot-reads
 
--- src/lib.rt:378:9
 dirty-slot-requires : tie.Need-dirty-slot-requires
 dirty-slot-requires c κs = search needs
 
--- src/lib.rt:378:9
 returns : tie.Need-returns
 returns c = simp (c .before .if1 .taken, c .dirty-slot .ensures)
 
--- src/lib.rt:374:1
 returns-2 : tie.Need-returns-2
 returns-2 c = search needs
 

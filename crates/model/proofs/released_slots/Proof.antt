@@ -7,19 +7,15 @@ use Rattle.model.proofs.released_slots.Lts as lts
 use Rattle.model.proofs.dirty_slots.Reads as dirty-slots-reads
 use Rattle.model.proofs.has_mark.Reads as has-mark-reads
 
--- src/lib.rt:447:8
 has-mark-requires : tie.Need-has-mark-requires
 has-mark-requires c κs = search needs
 
--- src/lib.rt:448:9
 dirty-slots-requires : tie.Need-dirty-slots-requires
 dirty-slots-requires c κs = search needs
 
--- src/lib.rt:448:9
 returns : tie.Need-returns
 returns c = search needs
 
--- src/lib.rt:444:1
 returns-2 : tie.Need-returns-2
 returns-2 c = unmarked-slots (c .before .before .before .args .s) (c .before .before .before .args .clock) (c .before .before .before .args .marks) (c .before .before .has-mark .result) (c .before .before .has-mark .ensures) (c .before .if1 .left)
 

@@ -7,20 +7,16 @@ use Rattle.model.proofs.stronger_pin.Reads as reads
 use Rattle.model.proofs.stronger_pin.Lts as lts
 use Rattle.model.proofs.pin_strength.Reads as pin-strength-reads
 
--- src/lib.rt:305:8
 pin-strength-requires : tie.Need-pin-strength-requires
 pin-strength-requires c κs = search needs
 
--- src/lib.rt:305:26
 pin-strength-requires-2 : tie.Need-pin-strength-requires-2
 pin-strength-requires-2 c κs = search needs
 
--- src/lib.rt:306:9
 returns : tie.Need-returns
 unfolding stronger
 returns c = simp (tests, ← c .before .before .pin-strength .ensures, ← c .before .pin-strength2 .ensures, c .if1 .taken)
 
--- src/lib.rt:302:1
 returns-2 : tie.Need-returns-2
 unfolding stronger
 returns-2 c = simp (tests, ← c .before .before .pin-strength .ensures, ← c .before .pin-strength2 .ensures, c .if1 .left)

@@ -9,19 +9,15 @@ use Rattle.model.proofs.is_written.Reads as is-written-reads
 use Rattle.seq.proofs.both.Reads as both-reads
 use Rattle.seq.proofs.either.Reads as either-reads
 
--- src/lib.rt:371:32
 is-written-requires : tie.Need-is-written-requires
 is-written-requires c κs = search needs
 
--- src/lib.rt:371:9
 both-requires : tie.Need-both-requires
 both-requires c κs = search needs
 
--- src/lib.rt:372:5
 either-requires : tie.Need-either-requires
 either-requires c κs = search needs
 
--- src/lib.rt:368:1
 returns : tie.Need-returns
 returns c = c .either .ensures ∙ ap (λ (b : Bool). c .before .before .before .args .wrote || b) (simp (c .before .both .ensures, c .before .before .is-written .ensures))
 

@@ -24,7 +24,6 @@ abbrev put-digits-below : ℕ → In 1 put-digits-kinds.ps
 put-digits-below t =
     and 1 put-digits-kinds.ps (falls 1 put-digits-kinds.ps _<_ μ-put-digits t) put-digits.Pre
 
--- src/lib.rt:161:9
 put-digits-returns : (t : ℕ) → put-digits-lts.Need-returns (
   put-byte-reads.Asked,
   put-byte-reads.Learnt,
@@ -33,7 +32,6 @@ put-digits-returns : (t : ℕ) → put-digits-lts.Need-returns (
 ) (put-digits-at t) put-digits.Post
 put-digits-returns t c = no-digits (c .before .before .args .out .now) (c .before .before .args .at) (c .before .before .args .most) (c .before .before .args .n) (c .if1 .taken)
 
--- src/lib.rt:164:35
 put-digits-add-put-byte : (t : ℕ) → put-digits-lts.Need-add-put-byte (
   put-byte-reads.Asked,
   put-byte-reads.Learnt,
@@ -42,7 +40,6 @@ put-digits-add-put-byte : (t : ℕ) → put-digits-lts.Need-add-put-byte (
 ) (put-digits-at t) put-digits.Post
 put-digits-add-put-byte t c = omega arith
 
--- src/lib.rt:164:34
 put-digits-cast-put-byte : (t : ℕ) → put-digits-lts.Need-cast-put-byte (
   put-byte-reads.Asked,
   put-byte-reads.Learnt,
@@ -51,7 +48,6 @@ put-digits-cast-put-byte : (t : ℕ) → put-digits-lts.Need-cast-put-byte (
 ) (put-digits-at t) put-digits.Post
 put-digits-cast-put-byte t c = omega arith
 
--- src/lib.rt:164:9
 put-digits-put-byte-requires : (t : ℕ) → put-digits-lts.Need-put-byte-requires (
   put-byte-reads.Asked,
   put-byte-reads.Learnt,
@@ -60,7 +56,6 @@ put-digits-put-byte-requires : (t : ℕ) → put-digits-lts.Need-put-byte-requir
 ) (put-digits-at t) put-digits.Post
 put-digits-put-byte-requires t c κs = let h = c .before .before .if1 .left in omega (arith, c .before .before .before .before .pre .1)
 
--- src/lib.rt:164:9
 put-digits-same-length : (t : ℕ) → put-digits-lts.Need-same-length (
   put-byte-reads.Asked,
   put-byte-reads.Learnt,
@@ -69,7 +64,6 @@ put-digits-same-length : (t : ℕ) → put-digits-lts.Need-same-length (
 ) (put-digits-at t) put-digits.Post
 put-digits-same-length t c = c .before .before .put-byte .kept .0
 
--- src/lib.rt:164:9
 put-digits-returns-2 : (t : ℕ) → put-digits-lts.Need-returns-2 (
   put-byte-reads.Asked,
   put-byte-reads.Learnt,
@@ -78,7 +72,6 @@ put-digits-returns-2 : (t : ℕ) → put-digits-lts.Need-returns-2 (
 ) (put-digits-at t) put-digits.Post
 put-digits-returns-2 t c = rw (one-digit (c .before .before .before .before .before .before .before .args .most) (c .before .before .before .before .before .before .before .args .n) (c .before .before .before .before .before .if1 .left) (c .before .before .before .before .if2 .taken)) (c .before .before .put-byte .ensures)
 
--- src/lib.rt:166:43
 put-digits-sub-put-digits : (t : ℕ) → put-digits-lts.Need-sub-put-digits (
   put-byte-reads.Asked,
   put-byte-reads.Learnt,
@@ -87,7 +80,6 @@ put-digits-sub-put-digits : (t : ℕ) → put-digits-lts.Need-sub-put-digits (
 ) (put-digits-at t) put-digits.Post
 put-digits-sub-put-digits t c = let h = c .before .before .if1 .left in omega arith
 
--- src/lib.rt:166:9
 put-digits-put-digits-requires : (t : ℕ) → put-digits-lts.Need-put-digits-requires (
   put-byte-reads.Asked,
   put-byte-reads.Learnt,
@@ -96,7 +88,6 @@ put-digits-put-digits-requires : (t : ℕ) → put-digits-lts.Need-put-digits-re
 ) (put-digits-at t) put-digits.Post
 put-digits-put-digits-requires t c κs = let h = c .before .before .if1 .left in (omega (arith, c .before .before .before .before .pre .0), omega (arith, c .before .before .before .before .pre .1))
 
--- src/lib.rt:167:25
 put-digits-add-put-byte-2 : (t : ℕ) → put-digits-lts.Need-add-put-byte-2 (
   put-byte-reads.Asked,
   put-byte-reads.Learnt,
@@ -105,7 +96,6 @@ put-digits-add-put-byte-2 : (t : ℕ) → put-digits-lts.Need-add-put-byte-2 (
 ) (put-digits-at t) put-digits.Post
 put-digits-add-put-byte-2 t c = omega arith
 
--- src/lib.rt:167:24
 put-digits-cast-put-byte-2 : (t : ℕ) → put-digits-lts.Need-cast-put-byte-2 (
   put-byte-reads.Asked,
   put-byte-reads.Learnt,
@@ -114,7 +104,6 @@ put-digits-cast-put-byte-2 : (t : ℕ) → put-digits-lts.Need-cast-put-byte-2 (
 ) (put-digits-at t) put-digits.Post
 put-digits-cast-put-byte-2 t c = omega arith
 
--- src/lib.rt:167:5
 put-digits-put-byte-requires-2 : (t : ℕ) → put-digits-lts.Need-put-byte-requires-2 (
   put-byte-reads.Asked,
   put-byte-reads.Learnt,
@@ -123,7 +112,6 @@ put-digits-put-byte-requires-2 : (t : ℕ) → put-digits-lts.Need-put-byte-requ
 ) (put-digits-at t) put-digits.Post
 put-digits-put-byte-requires-2 t c κs = let h = c .before .before .before .before .before .before .if1 .left in omega (arith, c .before .before .before .put-digits .ensures .ends, c .before .before .before .put-digits .kept .0, digits-most (c .before .before .before .before .before .before .before .before .args .most - 1) (c .before .before .before .before .before .before .before .before .args .n / 10), c .before .before .before .before .before .before .before .before .pre .1)
 
--- src/lib.rt:156:1
 put-digits-same-length-2 : (t : ℕ) → put-digits-lts.Need-same-length-2 (
   put-byte-reads.Asked,
   put-byte-reads.Learnt,
@@ -132,7 +120,6 @@ put-digits-same-length-2 : (t : ℕ) → put-digits-lts.Need-same-length-2 (
 ) (put-digits-at t) put-digits.Post
 put-digits-same-length-2 t c = c .before .before .put-byte2 .kept .0 ∙ c .before .before .before .before .before .before .put-digits .kept .0
 
--- src/lib.rt:156:1
 put-digits-returns-3 : (t : ℕ) → put-digits-lts.Need-returns-3 (
   put-byte-reads.Asked,
   put-byte-reads.Learnt,

@@ -6,16 +6,13 @@ use Rattle.record.proofs.admit.Reads as reads
 use Rattle.record.proofs.admit.Lts as lts
 use Rattle.record.proofs.unstarted.Reads as unstarted-reads
 
--- src/lib.rt:335:9
 returns : tie.Need-returns
 unfolding admitted
 returns c = rw (c .if1 .taken)
 
--- src/lib.rt:337:5
 unstarted-requires : tie.Need-unstarted-requires
 unstarted-requires c κs = search needs
 
--- src/lib.rt:331:1
 returns-2 : tie.Need-returns-2
 returns-2 c = rw (c .before .if1 .left) (c .unstarted .ensures)
 

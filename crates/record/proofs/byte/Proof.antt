@@ -7,15 +7,12 @@ use Rattle.record.proofs.byte.Reads as reads
 use Rattle.record.proofs.byte.Lts as lts
 use Rattle.record.proofs.wide.Reads as wide-reads
 
--- src/lib.rt:63:10
 shared-slice-read-wide : tie.Need-shared-slice-read-wide
 shared-slice-read-wide c = search needs
 
--- src/lib.rt:63:5
 wide-requires : tie.Need-wide-requires
 wide-requires c κs = search needs
 
--- src/lib.rt:59:1
 returns : tie.Need-returns
 returns c = (c .wide .ensures .0 ∙ sym (field-one (c .before .before .before .args .bytes .now) (c .before .before .before .args .at) (c .before .before .before .pre)), c .wide .ensures .1)
 

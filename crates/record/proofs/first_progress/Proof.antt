@@ -5,7 +5,6 @@ use Rattle.record.proofs.first_progress.Tie as tie
 use Rattle.record.proofs.first_progress.Reads as reads
 use Rattle.record.proofs.first_progress.Lts as lts
 
--- src/lib.rt:405:1
 returns : tie.Need-returns
 unfolding firstProgress
 returns c = refl

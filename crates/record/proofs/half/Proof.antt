@@ -7,27 +7,21 @@ use Rattle.record.proofs.half.Reads as reads
 use Rattle.record.proofs.half.Lts as lts
 use Rattle.record.proofs.byte.Reads as byte-reads
 
--- src/lib.rt:70:9
 byte-requires : tie.Need-byte-requires
 byte-requires c κs = search needs
 
--- src/lib.rt:71:27
 add-byte : tie.Need-add-byte
 add-byte c = search needs
 
--- src/lib.rt:71:9
 byte-requires-2 : tie.Need-byte-requires-2
 byte-requires-2 c κs = search needs
 
--- src/lib.rt:72:5
 mul-result : tie.Need-mul-result
 mul-result c = search needs
 
--- src/lib.rt:72:5
 add-result : tie.Need-add-result
 add-result c = search needs
 
--- src/lib.rt:66:1
 returns : tie.Need-returns
 returns c = (rw (c .before .byte .ensures .0, c .byte2 .ensures .0) (field-two (c .before .before .before .args .bytes .now) (c .before .before .before .args .at) (c .before .before .before .pre)), omega arith)
 

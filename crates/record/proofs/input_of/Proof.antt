@@ -5,57 +5,46 @@ use Rattle.record.proofs.input_of.Tie as tie
 use Rattle.record.proofs.input_of.Reads as reads
 use Rattle.record.proofs.input_of.Lts as lts
 
--- src/lib.rt:85:1
 returns : tie.Need-returns
 unfolding ofKind
 returns c = rw (c .match .keys1)
 
--- src/lib.rt:85:1
 returns-2 : tie.Need-returns-2
 unfolding ofKind
 returns-2 c = rw (c .match .keys2)
 
--- src/lib.rt:85:1
 returns-3 : tie.Need-returns-3
 unfolding ofKind
 returns-3 c = rw (c .match .keys3)
 
--- src/lib.rt:85:1
 returns-4 : tie.Need-returns-4
 unfolding ofKind
 returns-4 c = rw (c .match .keys4)
 
--- src/lib.rt:85:1
 returns-5 : tie.Need-returns-5
 unfolding ofKind
 returns-5 c = rw (c .match .keys5)
 
--- src/lib.rt:85:1
 returns-6 : tie.Need-returns-6
 unfolding ofKind
 returns-6 c = rw (c .match .keys6)
 
--- src/lib.rt:85:1
 returns-7 : tie.Need-returns-7
 unfolding ofKind
 returns-7 c = rw (c .match .keys7)
 
--- src/lib.rt:85:1
 returns-8 : tie.Need-returns-8
 unfolding ofKind
 returns-8 c = rw (c .match .keys8)
 
--- src/lib.rt:85:1
 returns-9 : tie.Need-returns-9
 unfolding ofKind
 returns-9 c = rw (c .match .keys9)
 
--- src/lib.rt:85:1
 returns-10 : tie.Need-returns-10
 unfolding ofKind
 returns-10 c = rw (c .match .keys10)
 
--- src/lib.rt:85:1
 returns-11 : tie.Need-returns-11
 returns-11 c = other-kind (c .before .args .kind) (c .before .args .level) (c .before .args .row) (c .before .args .mode) (c .before .args .page) (c .before .args .value) (c .match .rest .0 .0 .0 .0 .0 .0 .0 .0 .0 .1) (c .match .rest .0 .0 .0 .0 .0 .0 .0 .0 .1) (c .match .rest .0 .0 .0 .0 .0 .0 .0 .1) (c .match .rest .0 .0 .0 .0 .0 .0 .1) (c .match .rest .0 .0 .0 .0 .0 .1) (c .match .rest .0 .0 .0 .0 .1) (c .match .rest .0 .0 .0 .1) (c .match .rest .0 .0 .1) (c .match .rest .0 .1) (c .match .rest .1)
 

@@ -18,175 +18,132 @@ use Rattle.sabre.proofs.sabre_tick.Reads as sabre-tick-reads
 use Rattle.sabre.proofs.sabre_unpin.Reads as sabre-unpin-reads
 use Rattle.sabre.proofs.sabre_view.Reads as sabre-view-reads
 
--- src/lib.rt:362:30
 enum-told : tie.Need-enum-told
 enum-told c = search needs
 
--- src/lib.rt:362:23
 refuse-requires : tie.Need-refuse-requires
 refuse-requires c κs = search needs
 
--- src/lib.rt:363:24
 enum-known-input : tie.Need-enum-known-input
 enum-known-input c = search needs
 
--- src/lib.rt:363:42
 sabre-start-requires : tie.Need-sabre-start-requires
 sabre-start-requires c κs = search needs
 
--- src/lib.rt:365:13
 enum-known-input-2 : tie.Need-enum-known-input-2
 enum-known-input-2 c = search needs
 
--- src/lib.rt:368:14
 sabre-begin-requires : tie.Need-sabre-begin-requires
 sabre-begin-requires c κs = search needs
 
--- src/lib.rt:370:13
 enum-known-input-3 : tie.Need-enum-known-input-3
 enum-known-input-3 c = search needs
 
--- src/lib.rt:374:14
 sabre-request-requires : tie.Need-sabre-request-requires
 sabre-request-requires c κs = search needs
 
--- src/lib.rt:375:24
 enum-known-input-4 : tie.Need-enum-known-input-4
 enum-known-input-4 c = search needs
 
--- src/lib.rt:375:46
 sabre-unpin-requires : tie.Need-sabre-unpin-requires
 sabre-unpin-requires c κs = search needs
 
--- src/lib.rt:376:22
 enum-known-input-5 : tie.Need-enum-known-input-5
 enum-known-input-5 c = search needs
 
--- src/lib.rt:376:38
 sabre-end-requires : tie.Need-sabre-end-requires
 sabre-end-requires c κs = search needs
 
--- src/lib.rt:377:24
 enum-known-input-6 : tie.Need-enum-known-input-6
 enum-known-input-6 c = search needs
 
--- src/lib.rt:377:40
 sabre-retry-requires : tie.Need-sabre-retry-requires
 sabre-retry-requires c κs = search needs
 
--- src/lib.rt:378:42
 enum-told-2 : tie.Need-enum-told-2
 enum-told-2 c = search needs
 
--- src/lib.rt:378:24
 sabre-tick-requires : tie.Need-sabre-tick-requires
 sabre-tick-requires c κs = search needs
 
--- src/lib.rt:379:23
 enum-known-input-7 : tie.Need-enum-known-input-7
 enum-known-input-7 c = search needs
 
--- src/lib.rt:379:39
 sabre-look-requires : tie.Need-sabre-look-requires
 sabre-look-requires c κs = search needs
 
--- src/lib.rt:380:23
 enum-known-input-8 : tie.Need-enum-known-input-8
 enum-known-input-8 c = search needs
 
--- src/lib.rt:380:40
 sabre-view-requires : tie.Need-sabre-view-requires
 sabre-view-requires c κs = search needs
 
--- src/lib.rt:381:24
 enum-known-input-9 : tie.Need-enum-known-input-9
 enum-known-input-9 c = search needs
 
--- src/lib.rt:381:35
 sabre-count-requires : tie.Need-sabre-count-requires
 sabre-count-requires c κs = search needs
 
--- src/lib.rt:356:1
 returns : tie.Need-returns
 returns c = made-none (c .before .before .before .before .before .args .area .now) (c .before .before .before .before .before .args .input) (c .refuse .result) (c .refuse .last .0) (c .before .before .before .before .before .args .area .now) (ap meant (c .before .before .enum-told .given .1)) (c .refuse .ensures .0) (c .refuse .ensures .1) refl
 
--- src/lib.rt:356:1
 same-length : tie.Need-same-length
 same-length c = search needs
 
--- src/lib.rt:356:1
 returns-2 : tie.Need-returns-2
 returns-2 c = made (c .before .before .before .before .before .before .before .before .before .args .area .now) (c .before .before .before .before .before .before .before .before .before .args .input) (c .before .before .sabre-start .result) (c .before .before .sabre-start .last .1 .1 .1 .0) (c .before .before .sabre-start .last .0) _ (ap meant (c .before .before .before .before .before .before .input .given .1)) (c .before .before .sabre-start .ensures .0) (c .before .before .sabre-start .ensures .1 .0) (c .before .before .sabre-start .ensures .1 .1)
 
--- src/lib.rt:356:1
 same-length-2 : tie.Need-same-length-2
 same-length-2 c = search needs
 
--- src/lib.rt:356:1
 returns-3 : tie.Need-returns-3
 returns-3 c = made (c .before .before .before .before .before .before .before .before .before .args .area .now) (c .before .before .before .before .before .before .before .before .before .args .input) (c .before .before .sabre-begin .result) (c .before .before .sabre-begin .last .1 .1 .1 .1 .0) (c .before .before .sabre-begin .last .0) _ (ap meant (c .before .before .before .before .before .before .input2 .given .1)) (c .before .before .sabre-begin .ensures .0) (c .before .before .sabre-begin .ensures .1 .0) (c .before .before .sabre-begin .ensures .1 .1)
 
--- src/lib.rt:356:1
 same-length-3 : tie.Need-same-length-3
 same-length-3 c = search needs
 
--- src/lib.rt:356:1
 returns-4 : tie.Need-returns-4
 returns-4 c = made (c .before .before .before .before .before .before .before .before .before .args .area .now) (c .before .before .before .before .before .before .before .before .before .args .input) (c .before .before .sabre-request .result) (c .before .before .sabre-request .last .1 .1 .1 .1 .1 .0) (c .before .before .sabre-request .last .0) _ (ap meant (c .before .before .before .before .before .before .input3 .given .1)) (c .before .before .sabre-request .ensures .0) (c .before .before .sabre-request .ensures .1 .0) (c .before .before .sabre-request .ensures .1 .1)
 
--- src/lib.rt:356:1
 same-length-4 : tie.Need-same-length-4
 same-length-4 c = search needs
 
--- src/lib.rt:356:1
 returns-5 : tie.Need-returns-5
 returns-5 c = made (c .before .before .before .before .before .before .before .before .before .args .area .now) (c .before .before .before .before .before .before .before .before .before .args .input) (c .before .before .sabre-unpin .result) (c .before .before .sabre-unpin .last .1 .1 .1 .1 .0) (c .before .before .sabre-unpin .last .0) _ (ap meant (c .before .before .before .before .before .before .input4 .given .1)) (c .before .before .sabre-unpin .ensures .0) (c .before .before .sabre-unpin .ensures .1 .0) (c .before .before .sabre-unpin .ensures .1 .1)
 
--- src/lib.rt:356:1
 same-length-5 : tie.Need-same-length-5
 same-length-5 c = search needs
 
--- src/lib.rt:356:1
 returns-6 : tie.Need-returns-6
 returns-6 c = made (c .before .before .before .before .before .before .before .before .before .args .area .now) (c .before .before .before .before .before .before .before .before .before .args .input) (c .before .before .sabre-end .result) (c .before .before .sabre-end .last .1 .1 .1 .0) (c .before .before .sabre-end .last .0) _ (ap meant (c .before .before .before .before .before .before .input5 .given .1)) (c .before .before .sabre-end .ensures .0) (c .before .before .sabre-end .ensures .1 .0) (c .before .before .sabre-end .ensures .1 .1)
 
--- src/lib.rt:356:1
 same-length-6 : tie.Need-same-length-6
 same-length-6 c = search needs
 
--- src/lib.rt:356:1
 returns-7 : tie.Need-returns-7
 returns-7 c = made (c .before .before .before .before .before .before .before .before .before .args .area .now) (c .before .before .before .before .before .before .before .before .before .args .input) (c .before .before .sabre-retry .result) (c .before .before .sabre-retry .last .1 .1 .1 .0) (c .before .before .sabre-retry .last .0) _ (ap meant (c .before .before .before .before .before .before .input6 .given .1)) (c .before .before .sabre-retry .ensures .0) (c .before .before .sabre-retry .ensures .1 .0) (c .before .before .sabre-retry .ensures .1 .1)
 
--- src/lib.rt:356:1
 same-length-7 : tie.Need-same-length-7
 same-length-7 c = search needs
 
--- src/lib.rt:356:1
 returns-8 : tie.Need-returns-8
 returns-8 c = made (c .before .before .before .before .before .before .before .before .args .area .now) (c .before .before .before .before .before .before .before .before .args .input) (c .before .before .sabre-tick .result) (c .before .before .sabre-tick .last .1 .0) (c .before .before .sabre-tick .last .0) _ (ap meant (c .before .before .before .before .before .enum-told2 .given .1)) (c .before .before .sabre-tick .ensures .0) (c .before .before .sabre-tick .ensures .1 .0) (c .before .before .sabre-tick .ensures .1 .1)
 
--- src/lib.rt:356:1
 same-length-8 : tie.Need-same-length-8
 same-length-8 c = search needs
 
--- src/lib.rt:356:1
 returns-9 : tie.Need-returns-9
 returns-9 c = made (c .before .before .before .before .before .before .before .args .area .now) (c .before .before .before .before .before .before .before .args .input) (c .sabre-look .result) (c .sabre-look .last .1 .1 .1 .0) (c .before .before .before .before .before .before .before .args .area .now) _ (ap meant (c .before .before .before .before .input7 .given .1)) (c .sabre-look .ensures .0) (c .sabre-look .ensures .1) (sym (look-keeps (c .before .before .before .before .before .before .before .args .area .now) _ _))
 
--- src/lib.rt:356:1
 same-length-9 : tie.Need-same-length-9
 same-length-9 c = search needs
 
--- src/lib.rt:356:1
 returns-10 : tie.Need-returns-10
 returns-10 c = made (c .before .before .before .before .before .before .before .args .area .now) (c .before .before .before .before .before .before .before .args .input) (c .sabre-view .result) (c .sabre-view .last .1 .1 .1 .0) (c .before .before .before .before .before .before .before .args .area .now) _ (ap meant (c .before .before .before .before .input8 .given .1)) (c .sabre-view .ensures .0) (c .sabre-view .ensures .1) (sym (view-keeps (c .before .before .before .before .before .before .before .args .area .now) _ _))
 
--- src/lib.rt:356:1
 same-length-10 : tie.Need-same-length-10
 same-length-10 c = search needs
 
--- src/lib.rt:356:1
 returns-11 : tie.Need-returns-11
 returns-11 c = made (c .before .before .before .before .before .before .before .args .area .now) (c .before .before .before .before .before .before .before .args .input) (c .sabre-count .result) (c .sabre-count .last .1 .1 .0) (c .before .before .before .before .before .before .before .args .area .now) _ (ap meant (c .before .before .before .before .input9 .given .1)) (c .sabre-count .ensures .0) (c .sabre-count .ensures .1) (sym (count-keeps (c .before .before .before .before .before .before .before .args .area .now) _))
 

@@ -6,24 +6,19 @@ use Rattle.record.proofs.next_progress.Reads as reads
 use Rattle.record.proofs.next_progress.Lts as lts
 use Rattle.record.proofs.is_bad.Reads as is-bad-reads
 
--- src/lib.rt:420:9
 is-bad-requires : tie.Need-is-bad-requires
 is-bad-requires c κs = search needs
 
--- src/lib.rt:425:21
 add-t6 : tie.Need-add-t6
 add-t6 c = search needs
 
--- src/lib.rt:422:9
 returns : tie.Need-returns
 unfolding nextProgress
 returns c = rw (c .before .before .is-bad .ensures, c .before .if1 .taken)
 
--- src/lib.rt:431:17
 add-t7 : tie.Need-add-t7
 add-t7 c = search needs
 
--- src/lib.rt:416:1
 returns-2 : tie.Need-returns-2
 unfolding nextProgress
 returns-2 c = rw (c .before .before .is-bad .ensures, c .before .if1 .left)

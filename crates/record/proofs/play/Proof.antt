@@ -17,34 +17,27 @@ Inv-loop area₀ bytes out₀ count next₀ at₀ i₀ area out next at i = (i �
 abbrev μ-loop : tie.MeasureT-loop
 μ-loop area₀ bytes out₀ count next₀ at₀ i₀ area out next at i = count - i
 
--- src/lib.rt:475:18
 add-count : tie.Need-add-count Inv-loop μ-loop
 add-count c = omega arith
 
--- src/lib.rt:478:5
 loop-holds : tie.Need-loop-holds Inv-loop μ-loop
 unfolding records
 loop-holds c = (omega arith, refl, refl, refl, upto-none (c .before .before .before .args .progress) (c .before .before .before .args .area .now) (c .before .before .before .args .bytes .now) (c .before .before .before .args .out .now))
 
--- src/lib.rt:479:41
 record-at-requires : tie.Need-record-at-requires Inv-loop μ-loop
 unfolding records
 record-at-requires c κs = omega arith
 
--- src/lib.rt:479:13
 play-one-requires : tie.Need-play-one-requires Inv-loop μ-loop
 unfolding records
 play-one-requires c κs = let u = upto-room (c .before .before .before .before .before .before .before .before .args .progress) (c .before .before .before .before .before .before .before .before .args .area .now) (c .before .before .before .before .before .before .before .before .args .bytes .now) (c .before .before .before .before .before .before .before .before .args .out .now) (c .before .before .before .before .loop .i) (c .before .before .before .before .loop .next) (c .before .before .before .before .loop .area) (c .before .before .before .before .loop .out) (c .before .before .before .before .loop .at) (c .before .before .before .before .loop .inv .4) in (omega (arith, u .1, c .before .before .before .before .before .before .before .before .pre .0), omega (arith, u .0, c .before .before .before .before .before .before .before .before .pre .1))
 
--- src/lib.rt:478:9
 add-i : tie.Need-add-i Inv-loop μ-loop
 add-i c = omega arith
 
--- src/lib.rt:478:5
 loop-less : tie.Need-loop-less Inv-loop μ-loop
 loop-less c = omega arith
 
--- src/lib.rt:478:5
 loop-again : tie.Need-loop-again Inv-loop μ-loop
 loop-again c = (
   omega arith,
@@ -56,15 +49,12 @@ loop-again c = (
       (record { progress-is = c .before .before .before .before .before .play-one .ensures .0; area-is = c .before .before .before .before .before .play-one .ensures .1 .0; text-is = c .before .before .before .before .before .play-one .ensures .1 .1 }),
 )
 
--- src/lib.rt:469:1
 same-length : tie.Need-same-length Inv-loop μ-loop
 same-length c = c .before .loop .inv .2
 
--- src/lib.rt:469:1
 same-length-2 : tie.Need-same-length-2 Inv-loop μ-loop
 same-length-2 c = c .before .loop .inv .3
 
--- src/lib.rt:469:1
 returns : tie.Need-returns Inv-loop μ-loop
 returns c = let e : c .before .loop .i ≡ records (c .before .before .before .before .before .args .bytes .now) = omega (arith, c .before .loop .inv .1) in (rw (← e) (c .before .loop .inv .4 .progress-is), (rw (← e) (c .before .loop .inv .4 .area-is), rw (← e) (c .before .loop .inv .4 .text-is)))
 

@@ -10,43 +10,33 @@ use Rattle.record.proofs.next_progress.Reads as next-progress-reads
 use Rattle.record.proofs.put_line.Reads as put-line-reads
 use Rattle.record.proofs.read_record.Reads as read-record-reads
 
--- src/lib.rt:443:9
 returns : tie.Need-returns
 returns c = let o = one-over (c .before .before .before .before .args .progress) (c .before .before .before .before .args .area .now) (c .before .before .before .before .args .bytes .now) (c .before .before .before .before .args .out .now) (c .before .before .before .before .args .at) (c .if1 .taken) in (o .progress-is, (o .area-is, o .text-is))
 
--- src/lib.rt:447:32
 read-record-requires : tie.Need-read-record-requires
 read-record-requires c κs = search needs
 
--- src/lib.rt:447:9
 admit-requires : tie.Need-admit-requires
 admit-requires c κs = search needs
 
--- src/lib.rt:449:5
 make-call-requires : tie.Need-make-call-requires
 make-call-requires c κs = search needs
 
--- src/lib.rt:450:9
 put-line-requires : tie.Need-put-line-requires
 put-line-requires c κs = search needs
 
--- src/lib.rt:451:39
 array-read-next-progress : tie.Need-array-read-next-progress
 array-read-next-progress c = search needs
 
--- src/lib.rt:451:9
 next-progress-requires : tie.Need-next-progress-requires
 next-progress-requires c κs = search needs
 
--- src/lib.rt:436:1
 same-length : tie.Need-same-length
 same-length c = search needs
 
--- src/lib.rt:436:1
 same-length-2 : tie.Need-same-length-2
 same-length-2 c = search needs
 
--- src/lib.rt:436:1
 returns-2 : tie.Need-returns-2
 returns-2 c =
     let o = one-played (c .before .before .before .before .before .before .before .before .before .before .before .before .before .before .before .before .args .progress) (c .before .before .before .before .before .before .before .before .before .before .before .before .before .before .before .before .args .area .now) (c .before .before .before .before .before .before .before .before .before .before .before .before .before .before .before .before .args .bytes .now) (c .before .before .before .before .before .before .before .before .before .before .before .before .before .before .before .before .args .out .now) (c .before .before .before .before .before .before .before .before .before .before .before .before .before .before .before .before .args .at)

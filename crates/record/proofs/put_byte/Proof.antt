@@ -5,19 +5,15 @@ use Rattle.record.proofs.put_byte.Tie as tie
 use Rattle.record.proofs.put_byte.Reads as reads
 use Rattle.record.proofs.put_byte.Lts as lts
 
--- src/lib.rt:151:5
 slice-write-out : tie.Need-slice-write-out
 slice-write-out c = search needs
 
--- src/lib.rt:152:5
 add-result : tie.Need-add-result
 add-result c = search needs
 
--- src/lib.rt:147:1
 same-length : tie.Need-same-length
 same-length c = search needs
 
--- src/lib.rt:147:1
 returns : tie.Need-returns
 returns c = wrote-one (c .args .out .now) (c .args .at) (c .args .b) (c .pre)
 

@@ -12,31 +12,24 @@ use Rattle.record.proofs.put_byte.Reads as put-byte-reads
 use Rattle.record.proofs.put_number.Reads as put-number-reads
 use Rattle.record.proofs.put_word.Reads as put-word-reads
 
--- src/lib.rt:220:9
 put-number-requires : tie.Need-put-number-requires
 put-number-requires c κs = search needs
 
--- src/lib.rt:221:9
 put-byte-requires : tie.Need-put-byte-requires
 put-byte-requires c κs = omega (arith, c .before .before .before .before .before .before .pre, c .before .before .before .put-number .ensures .ends, c .before .before .before .put-number .kept .0, digits-most 20 (c .before .before .before .before .before .before .args .number))
 
--- src/lib.rt:222:9
 put-word-requires : tie.Need-put-word-requires
 put-word-requires c κs = omega (arith, c .before .before .before .before .before .before .before .before .before .before .pre, c .before .before .before .before .before .before .before .put-number .ensures .ends, c .before .before .before .before .before .before .before .put-number .kept .0, c .before .before .before .put-byte .ensures .ends, c .before .before .before .put-byte .kept .0, digits-most 20 (c .before .before .before .before .before .before .before .before .before .before .args .number))
 
--- src/lib.rt:223:9
 put-byte-requires-2 : tie.Need-put-byte-requires-2
 put-byte-requires-2 c κs = omega (arith, c .before .before .before .before .before .before .before .before .before .before .before .before .before .before .pre, c .before .before .before .before .before .before .before .before .before .before .before .put-number .ensures .ends, c .before .before .before .before .before .before .before .before .before .before .before .put-number .kept .0, c .before .before .before .before .before .before .before .put-byte .ensures .ends, c .before .before .before .before .before .before .before .put-byte .kept .0, c .before .before .before .put-word .ensures .ends, c .before .before .before .put-word .kept .0, digits-most 20 (c .before .before .before .before .before .before .before .before .before .before .before .before .before .before .args .number), word-most (c .before .before .before .before .before .before .before .before .before .before .before .before .before .before .args .word))
 
--- src/lib.rt:224:5
 put-number-requires-2 : tie.Need-put-number-requires-2
 put-number-requires-2 c κs = omega (arith, c .before .before .before .before .before .before .before .before .before .before .before .before .before .before .before .before .before .before .pre, c .before .before .before .before .before .before .before .before .before .before .before .before .before .before .before .put-number .ensures .ends, c .before .before .before .before .before .before .before .before .before .before .before .before .before .before .before .put-number .kept .0, c .before .before .before .before .before .before .before .before .before .before .before .put-byte .ensures .ends, c .before .before .before .before .before .before .before .before .before .before .before .put-byte .kept .0, c .before .before .before .before .before .before .before .put-word .ensures .ends, c .before .before .before .before .before .before .before .put-word .kept .0, c .before .before .before .put-byte2 .ensures .ends, c .before .before .before .put-byte2 .kept .0, digits-most 20 (c .before .before .before .before .before .before .before .before .before .before .before .before .before .before .before .before .before .before .args .number), word-most (c .before .before .before .before .before .before .before .before .before .before .before .before .before .before .before .before .before .before .args .word))
 
--- src/lib.rt:216:1
 same-length : tie.Need-same-length
 same-length c = c .before .before .put-number2 .kept .0 ∙ c .before .before .before .before .before .before .put-byte2 .kept .0 ∙ c .before .before .before .before .before .before .before .before .before .before .put-word .kept .0 ∙ c .before .before .before .before .before .before .before .before .before .before .before .before .before .before .put-byte .kept .0 ∙ c .before .before .before .before .before .before .before .before .before .before .before .before .before .before .before .before .before .before .put-number .kept .0
 
--- src/lib.rt:216:1
 returns : tie.Need-returns
 unfolding headText
 returns c =

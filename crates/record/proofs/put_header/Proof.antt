@@ -6,19 +6,15 @@ use Rattle.record.proofs.put_header.Reads as reads
 use Rattle.record.proofs.put_header.Lts as lts
 use Rattle.record.proofs.put_text.Reads as put-text-reads
 
--- src/lib.rt:255:22
 slice-aggregate-put-text : tie.Need-slice-aggregate-put-text
 slice-aggregate-put-text c = search needs
 
--- src/lib.rt:255:5
 put-text-requires : tie.Need-put-text-requires
 put-text-requires c κs = search needs
 
--- src/lib.rt:251:1
 same-length : tie.Need-same-length
 same-length c = search needs
 
--- src/lib.rt:251:1
 returns : tie.Need-returns
 unfolding header
 returns c = c .before .before .put-text .ensures

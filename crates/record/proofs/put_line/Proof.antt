@@ -10,35 +10,27 @@ use Rattle.record.proofs.put_line.Lts as lts
 use Rattle.record.proofs.put_head.Reads as put-head-reads
 use Rattle.record.proofs.put_tail.Reads as put-tail-reads
 
--- src/lib.rt:243:16
 array-read-word : tie.Need-array-read-word
 array-read-word c = search needs
 
--- src/lib.rt:244:17
 array-read-value : tie.Need-array-read-value
 array-read-value c = search needs
 
--- src/lib.rt:245:16
 array-read-slot : tie.Need-array-read-slot
 array-read-slot c = search needs
 
--- src/lib.rt:246:16
 array-read-back : tie.Need-array-read-back
 array-read-back c = search needs
 
--- src/lib.rt:247:9
 put-head-requires : tie.Need-put-head-requires
 put-head-requires c κs = search needs
 
--- src/lib.rt:248:5
 put-tail-requires : tie.Need-put-tail-requires
 put-tail-requires c κs = omega (arith, c .before .before .before .before .before .before .pre, c .before .before .before .put-head .ensures .ends, c .before .before .before .put-head .kept .0, head-most (c .before .before .before .before .before .before .args .number) (getD (c .before .before .before .before .before .before .args .t4) 0 0) (getD (c .before .before .before .before .before .before .args .t4) 1 0))
 
--- src/lib.rt:239:1
 same-length : tie.Need-same-length
 same-length c = search needs
 
--- src/lib.rt:239:1
 returns : tie.Need-returns
 unfolding lineOf
 returns c =

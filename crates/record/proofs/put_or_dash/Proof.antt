@@ -7,31 +7,24 @@ use Rattle.record.proofs.put_or_dash.Lts as lts
 use Rattle.record.proofs.put_byte.Reads as put-byte-reads
 use Rattle.record.proofs.put_number.Reads as put-number-reads
 
--- src/lib.rt:211:9
 put-byte-requires : tie.Need-put-byte-requires
 put-byte-requires c κs = search needs
 
--- src/lib.rt:211:9
 same-length : tie.Need-same-length
 same-length c = search needs
 
--- src/lib.rt:211:9
 returns : tie.Need-returns
 returns c = rw (c .before .before .before .before .if1 .taken) (c .before .before .put-byte .ensures)
 
--- src/lib.rt:213:25
 sub-put-number : tie.Need-sub-put-number
 sub-put-number c = search needs
 
--- src/lib.rt:213:5
 put-number-requires : tie.Need-put-number-requires
 put-number-requires c κs = search needs
 
--- src/lib.rt:206:1
 same-length-2 : tie.Need-same-length-2
 same-length-2 c = search needs
 
--- src/lib.rt:206:1
 returns-2 : tie.Need-returns-2
 returns-2 c = rw (dash-number (c .before .before .before .before .before .before .args .told) (c .before .before .before .before .if1 .left)) (c .before .before .put-number .ensures)
 

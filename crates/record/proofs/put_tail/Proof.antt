@@ -12,35 +12,27 @@ use Rattle.record.proofs.put_byte.Reads as put-byte-reads
 use Rattle.record.proofs.put_or_dash.Reads as put-or-dash-reads
 use Rattle.record.proofs.put_text.Reads as put-text-reads
 
--- src/lib.rt:231:31
 slice-aggregate-put-text : tie.Need-slice-aggregate-put-text
 slice-aggregate-put-text c = search needs
 
--- src/lib.rt:231:9
 put-text-requires : tie.Need-put-text-requires
 put-text-requires c κs = search needs
 
--- src/lib.rt:232:9
 put-or-dash-requires : tie.Need-put-or-dash-requires
 put-or-dash-requires c κs = omega (arith, c .before .before .before .before .before .before .before .pre, c .before .before .before .put-text .ensures .ends, c .before .before .before .put-text .kept .0)
 
--- src/lib.rt:233:9
 put-byte-requires : tie.Need-put-byte-requires
 put-byte-requires c κs = omega (arith, c .before .before .before .before .before .before .before .before .before .before .before .pre, c .before .before .before .before .before .before .before .put-text .ensures .ends, c .before .before .before .before .before .before .before .put-text .kept .0, c .before .before .before .put-or-dash .ensures .ends, c .before .before .before .put-or-dash .kept .0, dash-most (c .before .before .before .before .before .before .before .before .before .before .before .args .slot))
 
--- src/lib.rt:234:9
 put-or-dash-requires-2 : tie.Need-put-or-dash-requires-2
 put-or-dash-requires-2 c κs = omega (arith, c .before .before .before .before .before .before .before .before .before .before .before .before .before .before .before .pre, c .before .before .before .before .before .before .before .before .before .before .before .put-text .ensures .ends, c .before .before .before .before .before .before .before .before .before .before .before .put-text .kept .0, c .before .before .before .before .before .before .before .put-or-dash .ensures .ends, c .before .before .before .before .before .before .before .put-or-dash .kept .0, c .before .before .before .put-byte .ensures .ends, c .before .before .before .put-byte .kept .0, dash-most (c .before .before .before .before .before .before .before .before .before .before .before .before .before .before .before .args .slot))
 
--- src/lib.rt:235:5
 put-byte-requires-2 : tie.Need-put-byte-requires-2
 put-byte-requires-2 c κs = omega (arith, c .before .before .before .before .before .before .before .before .before .before .before .before .before .before .before .before .before .before .before .pre, c .before .before .before .before .before .before .before .before .before .before .before .before .before .before .before .put-text .ensures .ends, c .before .before .before .before .before .before .before .before .before .before .before .before .before .before .before .put-text .kept .0, c .before .before .before .before .before .before .before .before .before .before .before .put-or-dash .ensures .ends, c .before .before .before .before .before .before .before .before .before .before .before .put-or-dash .kept .0, c .before .before .before .before .before .before .before .put-byte .ensures .ends, c .before .before .before .before .before .before .before .put-byte .kept .0, c .before .before .before .put-or-dash2 .ensures .ends, c .before .before .before .put-or-dash2 .kept .0, dash-most (c .before .before .before .before .before .before .before .before .before .before .before .before .before .before .before .before .before .before .before .args .slot), dash-most (c .before .before .before .before .before .before .before .before .before .before .before .before .before .before .before .before .before .before .before .args .back))
 
--- src/lib.rt:227:1
 same-length : tie.Need-same-length
 same-length c = c .before .before .put-byte2 .kept .0 ∙ c .before .before .before .before .before .before .put-or-dash2 .kept .0 ∙ c .before .before .before .before .before .before .before .before .before .before .put-byte .kept .0 ∙ c .before .before .before .before .before .before .before .before .before .before .before .before .before .before .put-or-dash .kept .0 ∙ c .before .before .before .before .before .before .before .before .before .before .before .before .before .before .before .before .before .before .put-text .kept .0
 
--- src/lib.rt:227:1
 returns : tie.Need-returns
 unfolding tailText
 returns c =

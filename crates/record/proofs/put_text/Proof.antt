@@ -16,43 +16,33 @@ Inv-loop out₀ at text i₀ i-end out i = (i ≤ i-end) × (i-end ≡ length te
 abbrev μ-loop : tie.MeasureT-loop
 μ-loop out₀ at text i₀ i-end out i = i-end - i
 
--- src/lib.rt:141:5
 loop-holds : tie.Need-loop-holds Inv-loop μ-loop
 loop-holds c = (omega arith, refl, refl, spliced-none (c .args .out .now) (c .args .at))
 
--- src/lib.rt:142:23
 shared-slice-read-out : tie.Need-shared-slice-read-out Inv-loop μ-loop
 shared-slice-read-out c = omega arith
 
--- src/lib.rt:142:13
 add-out : tie.Need-add-out Inv-loop μ-loop
 add-out c = omega arith
 
--- src/lib.rt:142:9
 slice-write-out : tie.Need-slice-write-out Inv-loop μ-loop
 slice-write-out c = omega arith
 
--- src/lib.rt:141:9
 add-i : tie.Need-add-i Inv-loop μ-loop
 add-i c = omega arith
 
--- src/lib.rt:141:5
 loop-less : tie.Need-loop-less Inv-loop μ-loop
 loop-less c = omega arith
 
--- src/lib.rt:141:5
 loop-again : tie.Need-loop-again Inv-loop μ-loop
 loop-again c = (omega arith, c .before .before .loop .inv .1, simp length-set (c .before .before .loop .inv .2), text-turn (c .before .before .before .args .out .now) (c .before .before .loop .out) (c .before .before .before .args .at) (c .before .before .before .args .text .now) (c .before .before .loop .i) (c .before .before .loop .inv .3) (omega arith) (omega arith))
 
--- src/lib.rt:144:5
 add-result : tie.Need-add-result Inv-loop μ-loop
 add-result c = omega arith
 
--- src/lib.rt:137:1
 same-length : tie.Need-same-length Inv-loop μ-loop
 same-length c = omega arith
 
--- src/lib.rt:137:1
 returns : tie.Need-returns Inv-loop μ-loop
 returns c = text-end (c .before .before .args .out .now) (c .before .loop .out) (c .before .before .args .at) (c .before .before .args .text .now) (c .before .loop .i) (c .before .loop .inv .3) (omega arith)
 

@@ -10,47 +10,36 @@ use Rattle.record.proofs.half.Reads as half-reads
 use Rattle.record.proofs.input_of.Reads as input-of-reads
 use Rattle.record.proofs.word.Reads as word-reads
 
--- src/lib.rt:120:9
 returns : tie.Need-returns
 returns c = cut (c .before .before .args .bytes .now) (c .if1 .taken)
 
--- src/lib.rt:122:8
 half-requires : tie.Need-half-requires
 half-requires c κs = search needs
 
--- src/lib.rt:123:9
 returns-2 : tie.Need-returns-2
 returns-2 c = other-mark (c .before .before .before .before .args .bytes .now) (c .before .half .result) (c .before .half .ensures .0) (c .if2 .taken)
 
--- src/lib.rt:125:9
 byte-requires : tie.Need-byte-requires
 byte-requires c κs = search needs
 
--- src/lib.rt:126:9
 byte-requires-2 : tie.Need-byte-requires-2
 byte-requires-2 c κs = search needs
 
--- src/lib.rt:127:9
 byte-requires-3 : tie.Need-byte-requires-3
 byte-requires-3 c κs = search needs
 
--- src/lib.rt:128:9
 byte-requires-4 : tie.Need-byte-requires-4
 byte-requires-4 c κs = search needs
 
--- src/lib.rt:129:9
 half-requires-2 : tie.Need-half-requires-2
 half-requires-2 c κs = search needs
 
--- src/lib.rt:130:9
 word-requires : tie.Need-word-requires
 word-requires c κs = search needs
 
--- src/lib.rt:131:5
 input-of-requires : tie.Need-input-of-requires
 input-of-requires c κs = search needs
 
--- src/lib.rt:116:1
 returns-3 : tie.Need-returns-3
 returns-3 c =
     whole (c .before .before .before .before .before .before .before .before .before .before .before .args .bytes .now) (c .before .before .before .before .before .before .before .before .half .result) (c .before .before .before .before .before .before .byte .result) (c .before .before .before .before .before .byte2 .result) (c .before .before .before .before .byte3 .result) (c .before .before .before .byte4 .result) (c .before .before .half2 .result) (c .before .word .result)

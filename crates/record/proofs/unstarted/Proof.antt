@@ -5,101 +5,79 @@ use Rattle.record.proofs.unstarted.Tie as tie
 use Rattle.record.proofs.unstarted.Reads as reads
 use Rattle.record.proofs.unstarted.Lts as lts
 
--- src/lib.rt:304:23
 enum-told : tie.Need-enum-told
 enum-told c = search needs
 
--- src/lib.rt:305:24
 enum-known-input : tie.Need-enum-known-input
 enum-known-input c = search needs
 
--- src/lib.rt:310:14
 enum-told-2 : tie.Need-enum-told-2
 enum-told-2 c = search needs
 
--- src/lib.rt:316:14
 enum-told-3 : tie.Need-enum-told-3
 enum-told-3 c = search needs
 
--- src/lib.rt:321:14
 enum-told-4 : tie.Need-enum-told-4
 enum-told-4 c = search needs
 
--- src/lib.rt:322:44
 enum-told-5 : tie.Need-enum-told-5
 enum-told-5 c = search needs
 
--- src/lib.rt:323:46
 enum-told-6 : tie.Need-enum-told-6
 enum-told-6 c = search needs
 
--- src/lib.rt:324:24
 enum-told-7 : tie.Need-enum-told-7
 enum-told-7 c = search needs
 
--- src/lib.rt:325:45
 enum-told-8 : tie.Need-enum-told-8
 enum-told-8 c = search needs
 
--- src/lib.rt:326:46
 enum-told-9 : tie.Need-enum-told-9
 enum-told-9 c = search needs
 
--- src/lib.rt:327:38
 enum-told-10 : tie.Need-enum-told-10
 enum-told-10 c = search needs
 
--- src/lib.rt:300:1
 returns : tie.Need-returns
 unfolding admitted
 returns c = rw (c .enum-told .given .1)
 
--- src/lib.rt:300:1
 returns-2 : tie.Need-returns-2
 unfolding admitted
 returns-2 c = rw (c .before .input .given .1)
 
--- src/lib.rt:300:1
 returns-3 : tie.Need-returns-3
 unfolding admitted
 returns-3 c = rw (c .enum-told2 .given .1)
 
--- src/lib.rt:300:1
 returns-4 : tie.Need-returns-4
 unfolding admitted
 returns-4 c = rw (c .enum-told3 .given .1)
 
--- src/lib.rt:300:1
 returns-5 : tie.Need-returns-5
 unfolding admitted
 returns-5 c = rw (c .enum-told4 .given .1)
 
--- src/lib.rt:300:1
 returns-6 : tie.Need-returns-6
 unfolding admitted
 returns-6 c = rw (c .enum-told5 .given .1)
 
--- src/lib.rt:300:1
 returns-7 : tie.Need-returns-7
 unfolding admitted
 returns-7 c = rw (c .enum-told6 .given .1)
 
--- src/lib.rt:300:1
 returns-8 : tie.Need-returns-8
 unfolding admitted
 returns-8 c = rw (c .enum-told7 .given .1)
 
--- src/lib.rt:300:1
 returns-9 : tie.Need-returns-9
 unfolding admitted
 returns-9 c = rw (c .enum-told8 .given .1)
 
--- src/lib.rt:300:1
 returns-10 : tie.Need-returns-10
 unfolding admitted
 returns-10 c = rw (c .enum-told9 .given .1)
 
--- src/lib.rt:300:1
 returns-11 : tie.Need-returns-11
 unfolding admitted
 returns-11 c = rw (c .enum-told10 .given .1)

@@ -6,27 +6,21 @@ use Rattle.record.proofs.word.Reads as reads
 use Rattle.record.proofs.word.Lts as lts
 use Rattle.record.proofs.half.Reads as half-reads
 
--- src/lib.rt:79:9
 half-requires : tie.Need-half-requires
 half-requires c κs = search needs
 
--- src/lib.rt:80:27
 add-half : tie.Need-add-half
 add-half c = search needs
 
--- src/lib.rt:80:9
 half-requires-2 : tie.Need-half-requires-2
 half-requires-2 c κs = search needs
 
--- src/lib.rt:81:5
 mul-result : tie.Need-mul-result
 mul-result c = search needs
 
--- src/lib.rt:81:5
 add-result : tie.Need-add-result
 add-result c = search needs
 
--- src/lib.rt:75:1
 returns : tie.Need-returns
 returns c = rw (c .before .half .ensures .0, c .half2 .ensures .0) (field-four (c .before .before .before .args .bytes .now) (c .before .before .before .args .at) (c .before .before .before .pre))
 

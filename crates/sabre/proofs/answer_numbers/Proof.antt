@@ -10,234 +10,181 @@ use Rattle.sabre.proofs.answer_numbers.Lts as lts
 use Rattle.sabre.proofs.back_number.Reads as back-number-reads
 use Rattle.sabre.proofs.cause_word.Reads as cause-word-reads
 
--- src/lib.rt:40:25
 enum-known-x : tie.Need-enum-known-x
 enum-known-x c = search needs
 
--- src/lib.rt:40:40
 cast-t20 : tie.Need-cast-t20
 cast-t20 c = search needs
 
--- src/lib.rt:41:28
 enum-told : tie.Need-enum-told
 enum-told c = search needs
 
--- src/lib.rt:42:26
 enum-told-2 : tie.Need-enum-told-2
 enum-told-2 c = search needs
 
--- src/lib.rt:43:25
 enum-known-x-2 : tie.Need-enum-known-x-2
 enum-known-x-2 c = search needs
 
--- src/lib.rt:44:17
 back-number-requires : tie.Need-back-number-requires
 back-number-requires c κs = search needs
 
--- src/lib.rt:45:20
 add-t22 : tie.Need-add-t22
 add-t22 c = omega (arith, ready-slot _ _ (c .before .before .x2 .given .0 .1 .0) (c .before .before .x2 .given .1) (c .before .before .before .before .pre))
 
--- src/lib.rt:47:25
 enum-known-x-3 : tie.Need-enum-known-x-3
 enum-known-x-3 c = search needs
 
--- src/lib.rt:48:17
 back-number-requires-2 : tie.Need-back-number-requires-2
 back-number-requires-2 c κs = search needs
 
--- src/lib.rt:49:17
 cast-t23 : tie.Need-cast-t23
 cast-t23 c = search needs
 
--- src/lib.rt:49:29
 add-t25 : tie.Need-add-t25
 add-t25 c = omega (arith, fetch-slot _ (c .before .before .x3 .given .0 .0) _ (c .before .before .x3 .given .0 .1 .1 .0) (c .before .before .x3 .given .1) (c .before .before .before .before .pre))
 
--- src/lib.rt:51:25
 enum-told-3 : tie.Need-enum-told-3
 enum-told-3 c = search needs
 
--- src/lib.rt:52:29
 enum-told-4 : tie.Need-enum-told-4
 enum-told-4 c = search needs
 
--- src/lib.rt:53:26
 enum-told-5 : tie.Need-enum-told-5
 enum-told-5 c = search needs
 
--- src/lib.rt:54:23
 enum-known-x-4 : tie.Need-enum-known-x-4
 enum-known-x-4 c = search needs
 
--- src/lib.rt:54:37
 cast-t26 : tie.Need-cast-t26
 cast-t26 c = search needs
 
--- src/lib.rt:55:28
 enum-told-6 : tie.Need-enum-told-6
 enum-told-6 c = search needs
 
--- src/lib.rt:56:28
 enum-told-7 : tie.Need-enum-told-7
 enum-told-7 c = search needs
 
--- src/lib.rt:57:29
 enum-known-x-5 : tie.Need-enum-known-x-5
 enum-known-x-5 c = search needs
 
--- src/lib.rt:57:41
 cast-t27 : tie.Need-cast-t27
 cast-t27 c = search needs
 
--- src/lib.rt:58:31
 enum-told-8 : tie.Need-enum-told-8
 enum-told-8 c = search needs
 
--- src/lib.rt:59:27
 enum-known-x-6 : tie.Need-enum-known-x-6
 enum-known-x-6 c = search needs
 
--- src/lib.rt:60:17
 cause-word-requires : tie.Need-cause-word-requires
 cause-word-requires c κs = search needs
 
--- src/lib.rt:63:31
 enum-told-9 : tie.Need-enum-told-9
 enum-told-9 c = search needs
 
--- src/lib.rt:64:28
 enum-known-x-7 : tie.Need-enum-known-x-7
 enum-known-x-7 c = search needs
 
--- src/lib.rt:64:45
 cast-t28 : tie.Need-cast-t28
 cast-t28 c = search needs
 
--- src/lib.rt:65:26
 enum-known-x-8 : tie.Need-enum-known-x-8
 enum-known-x-8 c = search needs
 
--- src/lib.rt:65:43
 cast-t29 : tie.Need-cast-t29
 cast-t29 c = search needs
 
--- src/lib.rt:66:27
 enum-known-x-9 : tie.Need-enum-known-x-9
 enum-known-x-9 c = search needs
 
--- src/lib.rt:66:44
 cast-t30 : tie.Need-cast-t30
 cast-t30 c = search needs
 
--- src/lib.rt:67:29
 enum-known-x-10 : tie.Need-enum-known-x-10
 enum-known-x-10 c = search needs
 
--- src/lib.rt:67:46
 cast-t31 : tie.Need-cast-t31
 cast-t31 c = search needs
 
--- src/lib.rt:68:22
 enum-known-x-11 : tie.Need-enum-known-x-11
 enum-known-x-11 c = search needs
 
--- src/lib.rt:35:1
 returns : tie.Need-returns
 unfolding answerNumbers word value slotTold backTold
 returns c = simp (c .before .x .given .1)
 
--- src/lib.rt:35:1
 returns-2 : tie.Need-returns-2
 unfolding answerNumbers word value slotTold backTold
 returns-2 c = simp (c .enum-told .given .1)
 
--- src/lib.rt:35:1
 returns-3 : tie.Need-returns-3
 unfolding answerNumbers word value slotTold backTold
 returns-3 c = simp (c .enum-told2 .given .1)
 
--- src/lib.rt:35:1
 returns-4 : tie.Need-returns-4
 unfolding answerNumbers word value slotTold backTold
 returns-4 c = simp (c .back-number .ensures, c .before .before .x2 .given .1)
 
--- src/lib.rt:35:1
 returns-5 : tie.Need-returns-5
 unfolding answerNumbers word value slotTold backTold
 returns-5 c = simp (c .back-number2 .ensures, c .before .before .x3 .given .1)
 
--- src/lib.rt:35:1
 returns-6 : tie.Need-returns-6
 unfolding answerNumbers word value slotTold backTold
 returns-6 c = simp (c .enum-told3 .given .1)
 
--- src/lib.rt:35:1
 returns-7 : tie.Need-returns-7
 unfolding answerNumbers word value slotTold backTold
 returns-7 c = simp (c .enum-told4 .given .1)
 
--- src/lib.rt:35:1
 returns-8 : tie.Need-returns-8
 unfolding answerNumbers word value slotTold backTold
 returns-8 c = simp (c .enum-told5 .given .1)
 
--- src/lib.rt:35:1
 returns-9 : tie.Need-returns-9
 unfolding answerNumbers word value slotTold backTold
 returns-9 c = simp (c .before .x4 .given .1)
 
--- src/lib.rt:35:1
 returns-10 : tie.Need-returns-10
 unfolding answerNumbers word value slotTold backTold
 returns-10 c = simp (c .enum-told6 .given .1)
 
--- src/lib.rt:35:1
 returns-11 : tie.Need-returns-11
 unfolding answerNumbers word value slotTold backTold
 returns-11 c = simp (c .enum-told7 .given .1)
 
--- src/lib.rt:35:1
 returns-12 : tie.Need-returns-12
 unfolding answerNumbers word value slotTold backTold
 returns-12 c = simp (c .before .x5 .given .1)
 
--- src/lib.rt:35:1
 returns-13 : tie.Need-returns-13
 unfolding answerNumbers word value slotTold backTold
 returns-13 c = simp (c .enum-told8 .given .1)
 
--- src/lib.rt:35:1
 returns-14 : tie.Need-returns-14
 unfolding answerNumbers word value slotTold backTold
 returns-14 c = simp (c .cause-word .ensures, c .before .before .x6 .given .1)
 
--- src/lib.rt:35:1
 returns-15 : tie.Need-returns-15
 unfolding answerNumbers word value slotTold backTold
 returns-15 c = simp (c .enum-told9 .given .1)
 
--- src/lib.rt:35:1
 returns-16 : tie.Need-returns-16
 unfolding answerNumbers word value slotTold backTold
 returns-16 c = simp (c .before .x7 .given .1)
 
--- src/lib.rt:35:1
 returns-17 : tie.Need-returns-17
 unfolding answerNumbers word value slotTold backTold
 returns-17 c = simp (c .before .x8 .given .1)
 
--- src/lib.rt:35:1
 returns-18 : tie.Need-returns-18
 unfolding answerNumbers word value slotTold backTold
 returns-18 c = simp (c .before .x9 .given .1)
 
--- src/lib.rt:35:1
 returns-19 : tie.Need-returns-19
 unfolding answerNumbers word value slotTold backTold
 returns-19 c = simp (c .before .x10 .given .1)
 
--- src/lib.rt:35:1
 returns-20 : tie.Need-returns-20
 unfolding answerNumbers word value slotTold backTold
 returns-20 c = simp (c .before .x11 .given .1)

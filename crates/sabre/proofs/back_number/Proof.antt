@@ -4,27 +4,21 @@ use Rattle.sabre.proofs.back_number.Tie as tie
 use Rattle.sabre.proofs.back_number.Reads as reads
 use Rattle.sabre.proofs.back_number.Lts as lts
 
--- src/lib.rt:29:26
 enum-told : tie.Need-enum-told
 enum-told c = search needs
 
--- src/lib.rt:30:20
 enum-known-back : tie.Need-enum-known-back
 enum-known-back c = search needs
 
--- src/lib.rt:30:29
 cast-result : tie.Need-cast-result
 cast-result c = search needs
 
--- src/lib.rt:30:29
 add-result : tie.Need-add-result
 add-result c = search needs
 
--- src/lib.rt:25:1
 returns : tie.Need-returns
 returns c = search needs
 
--- src/lib.rt:25:1
 returns-2 : tie.Need-returns-2
 returns-2 c = simp (c .before .back .given .1)
 

@@ -2,7 +2,8 @@ use native.Mathlib.Omega.{arith}
 use mathlib.Core.Path.{_≡_, refl, _∙_, sym, ap}
 use mathlib.Core.Bool.{not}
 use lib.ListN.{length}
-use Rattle.rules.specs.Run.{outcome, look}
+use Rattle.model.specs.declared.Call.the-variants.{Look}
+use Rattle.rules.specs.Run.{outcome}
 use Rattle.sabre.specs.Lent.{unfit}
 use Rattle.sabre.proofs.CallLaws.{short-unsound, refused-1, sound-state, fits-clock, answered-slot, answered}
 use borrow.Author.Needs.{needs}
@@ -15,46 +16,38 @@ use Rattle.calls.proofs.look.Reads as look-reads
 use Rattle.sabre.proofs.refuse.Reads as refuse-reads
 use Rattle.sabre.proofs.tell.Reads as tell-reads
 
--- src/lib.rt:321:9
 refuse-requires : tie.Need-refuse-requires
 refuse-requires c κs = search needs
 
--- src/lib.rt:321:9
 returns : tie.Need-returns
 unfolding unfit
 returns c =
-    let p = refused-1 (c .before .before .before .before .args .area .now) (look (c .before .before .before .before .args .level) (c .before .before .before .before .args .row)) _ _ (rw (short-unsound (c .before .before .before .before .args .area .now) (c .before .before .if1 .taken))) (c .refuse .ensures .0) (c .refuse .ensures .1) in
+    let p = refused-1 (c .before .before .before .before .args .area .now) (Look (c .before .before .before .before .args .level) (c .before .before .before .before .args .row)) _ _ (rw (short-unsound (c .before .before .before .before .args .area .now) (c .before .before .if1 .taken))) (c .refuse .ensures .0) (c .refuse .ensures .1) in
     (p .returned, p .told)
 
--- src/lib.rt:324:9
 decode-requires : tie.Need-decode-requires
 decode-requires c κs = search needs
 
--- src/lib.rt:326:13
 look-requires : tie.Need-look-requires
 look-requires c κs = search needs
 
--- src/lib.rt:327:9
 tell-requires : tie.Need-tell-requires
 unfolding outcome
-tell-requires c κs = answered-slot (c .before .before .before .before .before .before .before .args .area .now) (look (c .before .before .before .before .before .before .before .args .level) (c .before .before .before .before .before .before .before .args .row)) (c .before .before .before .decode .result) (c .before .before .before .decode .ensures .0) (c .before .look .result) (sym (c .before .before .before .decode .ensures .1) ∙ c .before .before .if2 .taken) (c .before .look .ensures)
+tell-requires c κs = answered-slot (c .before .before .before .before .before .before .before .args .area .now) (Look (c .before .before .before .before .before .before .before .args .level) (c .before .before .before .before .before .before .before .args .row)) (c .before .before .before .decode .result) (c .before .before .before .decode .ensures .0) (c .before .look .result) (sym (c .before .before .before .decode .ensures .1) ∙ c .before .before .if2 .taken) (c .before .look .ensures)
 
--- src/lib.rt:327:9
 returns-2 : tie.Need-returns-2
 unfolding unfit outcome
 returns-2 c =
     let h = sym (c .before .before .before .before .decode .ensures .1) ∙ c .before .before .before .if2 .taken in
-    answered (c .before .before .before .before .before .before .before .before .args .area .now) (look (c .before .before .before .before .before .before .before .before .args .level) (c .before .before .before .before .before .before .before .before .args .row)) (c .before .before .before .before .decode .result) (c .before .before .before .before .decode .ensures .0) (c .before .before .look .result) _ _ (rw h) (c .before .before .look .ensures) (c .tell .ensures .0) (c .tell .ensures .1)
+    answered (c .before .before .before .before .before .before .before .before .args .area .now) (Look (c .before .before .before .before .before .before .before .before .args .level) (c .before .before .before .before .before .before .before .before .args .row)) (c .before .before .before .before .decode .result) (c .before .before .before .before .decode .ensures .0) (c .before .before .look .result) _ _ (rw h) (c .before .before .look .ensures) (c .tell .ensures .0) (c .tell .ensures .1)
 
--- src/lib.rt:329:5
 refuse-requires-2 : tie.Need-refuse-requires-2
 refuse-requires-2 c κs = search needs
 
--- src/lib.rt:315:1
 returns-3 : tie.Need-returns-3
 unfolding unfit
 returns-3 c =
-    let p = refused-1 (c .before .before .before .before .before .before .before .args .area .now) (look (c .before .before .before .before .before .before .before .args .level) (c .before .before .before .before .before .before .before .args .row)) _ _ (rw (sym (c .before .before .before .decode .ensures .1) ∙ c .before .before .if2 .left)) (c .refuse2 .ensures .0) (c .refuse2 .ensures .1) in
+    let p = refused-1 (c .before .before .before .before .before .before .before .args .area .now) (Look (c .before .before .before .before .before .before .before .args .level) (c .before .before .before .before .before .before .before .args .row)) _ _ (rw (sym (c .before .before .before .decode .ensures .1) ∙ c .before .before .if2 .left)) (c .refuse2 .ensures .0) (c .refuse2 .ensures .1) in
     (p .returned, p .told)
 
 pub sabre-look-spec : {M : Type 1} → statement M

@@ -2,7 +2,8 @@ use native.Mathlib.Omega.{arith}
 use mathlib.Core.Path.{_≡_, refl, _∙_, sym, ap}
 use mathlib.Core.Bool.{not}
 use lib.ListN.{length}
-use Rattle.rules.specs.Run.{outcome, retry}
+use Rattle.model.specs.declared.Call.the-variants.{Retry}
+use Rattle.rules.specs.Run.{outcome}
 use Rattle.sabre.specs.Lent.{unfit}
 use Rattle.sabre.proofs.CallLaws.{short-unsound, refused-1, sound-state, fits-clock, replied, amended}
 use borrow.Author.Needs.{needs}
@@ -15,55 +16,45 @@ use Rattle.calls.proofs.retry.Reads as retry-reads
 use Rattle.sabre.proofs.finish.Reads as finish-reads
 use Rattle.sabre.proofs.refuse.Reads as refuse-reads
 
--- src/lib.rt:244:9
 refuse-requires : tie.Need-refuse-requires
 refuse-requires c κs = search needs
 
--- src/lib.rt:244:9
 returns : tie.Need-returns
 unfolding unfit
 returns c =
-    let p = refused-1 (c .before .before .before .before .args .area .now) (retry (c .before .before .before .before .args .level) (c .before .before .before .before .args .row)) _ _ (rw (short-unsound (c .before .before .before .before .args .area .now) (c .before .before .if1 .taken))) (c .refuse .ensures .0) (c .refuse .ensures .1) in
+    let p = refused-1 (c .before .before .before .before .args .area .now) (Retry (c .before .before .before .before .args .level) (c .before .before .before .before .args .row)) _ _ (rw (short-unsound (c .before .before .before .before .args .area .now) (c .before .before .if1 .taken))) (c .refuse .ensures .0) (c .refuse .ensures .1) in
     (p .returned, (p .told, p .left))
 
--- src/lib.rt:247:9
 decode-requires : tie.Need-decode-requires
 decode-requires c κs = search needs
 
--- src/lib.rt:249:13
 retry-requires : tie.Need-retry-requires
 retry-requires c κs = fits-clock (c .before .decode .result) (sound-state (c .before .before .before .before .before .before .args .area .now) (c .before .decode .result) (c .before .decode .ensures .0) (sym (c .before .decode .ensures .1) ∙ c .if2 .taken))
 
--- src/lib.rt:250:9
 finish-requires : tie.Need-finish-requires
 unfolding outcome
-finish-requires c κs = replied (c .before .before .before .before .before .before .before .before .before .args .area .now) (retry (c .before .before .before .before .before .before .before .before .before .args .level) (c .before .before .before .before .before .before .before .before .before .args .row)) (c .before .before .before .before .decode .result) (c .before .before .before .before .decode .ensures .0) (c .before .before .retry .result) (sym (c .before .before .before .before .decode .ensures .1) ∙ c .before .before .before .if2 .taken) (c .before .before .retry .ensures)
+finish-requires c κs = replied (c .before .before .before .before .before .before .before .before .before .args .area .now) (Retry (c .before .before .before .before .before .before .before .before .before .args .level) (c .before .before .before .before .before .before .before .before .before .args .row)) (c .before .before .before .before .decode .result) (c .before .before .before .before .decode .ensures .0) (c .before .before .retry .result) (sym (c .before .before .before .before .decode .ensures .1) ∙ c .before .before .before .if2 .taken) (c .before .before .retry .ensures)
 
--- src/lib.rt:250:9
 same-length : tie.Need-same-length
 same-length c = search needs
 
--- src/lib.rt:250:9
 returns-2 : tie.Need-returns-2
 unfolding unfit outcome
 returns-2 c =
     let h = sym (c .before .before .before .before .before .before .before .decode .ensures .1) ∙ c .before .before .before .before .before .before .if2 .taken in
-    let p = amended (c .before .before .before .before .before .before .before .before .before .before .before .before .args .area .now) (retry (c .before .before .before .before .before .before .before .before .before .before .before .before .args .level) (c .before .before .before .before .before .before .before .before .before .before .before .before .args .row)) (c .before .before .before .before .before .before .before .decode .result) (c .before .before .before .before .before .before .before .decode .ensures .0) (c .before .before .before .before .before .retry .result) _ _ _ (rw h) (c .before .before .before .before .before .retry .ensures) (c .before .before .finish .ensures .0) (c .before .before .finish .ensures .1) (c .before .before .finish .ensures .2) in
+    let p = amended (c .before .before .before .before .before .before .before .before .before .before .before .before .args .area .now) (Retry (c .before .before .before .before .before .before .before .before .before .before .before .before .args .level) (c .before .before .before .before .before .before .before .before .before .before .before .before .args .row)) (c .before .before .before .before .before .before .before .decode .result) (c .before .before .before .before .before .before .before .decode .ensures .0) (c .before .before .before .before .before .retry .result) _ _ _ (rw h) (c .before .before .before .before .before .retry .ensures) (c .before .before .finish .ensures .0) (c .before .before .finish .ensures .1) (c .before .before .finish .ensures .2) in
     (p .returned, (p .told, p .left))
 
--- src/lib.rt:252:5
 refuse-requires-2 : tie.Need-refuse-requires-2
 refuse-requires-2 c κs = search needs
 
--- src/lib.rt:237:1
 same-length-2 : tie.Need-same-length-2
 same-length-2 c = search needs
 
--- src/lib.rt:237:1
 returns-3 : tie.Need-returns-3
 unfolding unfit
 returns-3 c =
-    let p = refused-1 (c .before .before .before .before .before .before .before .before .args .area .now) (retry (c .before .before .before .before .before .before .before .before .args .level) (c .before .before .before .before .before .before .before .before .args .row)) _ _ (rw (sym (c .before .before .before .decode .ensures .1) ∙ c .before .before .if2 .left)) (c .refuse2 .ensures .0) (c .refuse2 .ensures .1) in
+    let p = refused-1 (c .before .before .before .before .before .before .before .before .args .area .now) (Retry (c .before .before .before .before .before .before .before .before .args .level) (c .before .before .before .before .before .before .before .before .args .row)) _ _ (rw (sym (c .before .before .before .decode .ensures .1) ∙ c .before .before .if2 .left)) (c .refuse2 .ensures .0) (c .refuse2 .ensures .1) in
     (p .returned, (p .told, p .left))
 
 pub sabre-retry-spec : {M : Type 1} → statement M

@@ -9,7 +9,7 @@ use mathlib.Core.Bool.{not}
 use lib.ListN.{length, length-append}
 use Rattle.sabre.proofs.CallLaws.{Promise, refused-1, start-refused, start-accepted}
 use borrow.Author.Tests.{lt-ltb}
-use Rattle.rules.specs.Run.{start}
+use Rattle.model.specs.declared.Call.the-variants.{Start}
 use Rattle.sabre.specs.Lent.{unfit}
 use borrow.Author.Needs.{needs}
 use Rattle.sabre.proofs.sabre_start.Statement.{statement}
@@ -22,50 +22,40 @@ use Rattle.model.proofs.fresh_state.Reads as fresh-state-reads
 use Rattle.sabre.proofs.refuse.Reads as refuse-reads
 use Rattle.sabre.proofs.tell.Reads as tell-reads
 
--- src/lib.rt:176:9
 refuse-requires : tie.Need-refuse-requires
 refuse-requires c κs = search needs
 
--- src/lib.rt:176:9
 returns : tie.Need-returns
 unfolding unfit
 returns c =
-    let p = refused-1 (c .before .before .before .before .args .area .now) (start (c .before .before .before .before .args .slots) (c .before .before .before .before .args .delay)) _ _ (lt-ltb (length (c .before .before .before .before .args .area .now)) 65536 (c .before .before .if1 .taken)) (c .refuse .ensures .0) (c .refuse .ensures .1) in
+    let p = refused-1 (c .before .before .before .before .args .area .now) (Start (c .before .before .before .before .args .slots) (c .before .before .before .before .args .delay)) _ _ (lt-ltb (length (c .before .before .before .before .args .area .now)) 65536 (c .before .before .if1 .taken)) (c .refuse .ensures .0) (c .refuse .ensures .1) in
     (p .returned, (p .told, p .left))
 
--- src/lib.rt:178:9
 start-refusal-requires : tie.Need-start-refusal-requires
 start-refusal-requires c κs = search needs
 
--- src/lib.rt:180:9
 tell-requires : tie.Need-tell-requires
 unfolding slotTold
 tell-requires c κs = omega arith
 
--- src/lib.rt:180:9
 returns-2 : tie.Need-returns-2
 returns-2 c =
     let p = start-refused (c .before .before .before .before .before .before .args .area .now) (c .before .before .before .before .before .before .args .slots) (c .before .before .before .before .before .before .args .delay) _ _ _ (omega arith) (c .before .before .before .start-refusal .result) (c .before .before .before .start-refusal .ensures) (c .before .before .if2 .taken) (c .tell .ensures .0) (c .tell .ensures .1) refl in
     (p .returned, (p .told, p .left))
 
--- src/lib.rt:182:9
 fresh-state-requires : tie.Need-fresh-state-requires
 fresh-state-requires c κs = search needs
 
--- src/lib.rt:183:5
 encode-requires : tie.Need-encode-requires
 encode-requires c κs = search needs
 
--- src/lib.rt:184:5
 tell-requires-2 : tie.Need-tell-requires-2
 unfolding slotTold
 tell-requires-2 c κs = omega arith
 
--- src/lib.rt:169:1
 same-length : tie.Need-same-length
 same-length c = search needs
 
--- src/lib.rt:169:1
 returns-3 : tie.Need-returns-3
 returns-3 c =
     let p = start-accepted (c .before .before .before .before .before .before .before .before .before .before .before .args .area .now) (c .before .before .before .before .before .before .before .before .before .before .before .args .slots) (c .before .before .before .before .before .before .before .before .before .before .before .args .delay) _ _ _ (omega arith) (c .before .before .before .before .before .before .before .before .start-refusal .result) (c .before .before .before .before .before .before .before .before .start-refusal .ensures) (c .before .before .before .before .before .before .before .if2 .left) (c .tell2 .ensures .0) (c .tell2 .ensures .1) (c .before .before .before .before .encode .ensures ∙ ap (λ (s : State). encoded s ++ drop 65536 (c .before .before .before .before .before .before .before .before .before .before .before .args .area .now)) (c .before .before .before .before .before .before .fresh-state .ensures)) in

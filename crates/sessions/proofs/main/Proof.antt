@@ -16,43 +16,33 @@ Inv-loop i₀ i-end i = 0 ≤ i
 abbrev μ-loop : tie.MeasureT-loop
 μ-loop i₀ i-end i = i-end - i
 
--- src/main.rt:43:17
 arg-count-requires : tie.Need-arg-count-requires Inv-loop μ-loop
 arg-count-requires c κs = search needs
 
--- src/main.rt:43:5
 loop-holds : tie.Need-loop-holds Inv-loop μ-loop
 loop-holds c = search needs
 
--- src/main.rt:44:9
 play-argument-requires : tie.Need-play-argument-requires Inv-loop μ-loop
 play-argument-requires c κs = search needs
 
--- src/main.rt:43:9
 add-i : tie.Need-add-i Inv-loop μ-loop
 add-i c = search needs
 
--- src/main.rt:43:5
 loop-less : tie.Need-loop-less Inv-loop μ-loop
 loop-less c = search needs
 
--- src/main.rt:43:5
 loop-again : tie.Need-loop-again Inv-loop μ-loop
 loop-again c = search needs
 
--- src/main.rt:46:5
 play-short-requires : tie.Need-play-short-requires Inv-loop μ-loop
 play-short-requires c κs = search needs
 
--- src/main.rt:47:5
 play-unsound-requires : tie.Need-play-unsound-requires Inv-loop μ-loop
 play-unsound-requires c κs = search needs
 
--- src/main.rt:48:5
 play-last-clock-requires : tie.Need-play-last-clock-requires Inv-loop μ-loop
 play-last-clock-requires c κs = search needs
 
--- src/main.rt:42:1
 returns : tie.Need-returns Inv-loop μ-loop
 returns c = search needs
 

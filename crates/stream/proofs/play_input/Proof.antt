@@ -26,118 +26,90 @@ Inv-loop fd area₀ started out₀ bytes₀ progress₀ head isHeaded counter₀
 abbrev μ-loop : tie.MeasureT-loop
 μ-loop fd area₀ started out₀ bytes₀ progress₀ head isHeaded counter₀ area out bytes progress counter = 1125899906842624 - counter
 
--- src/lib.rt:19:19
 large-buffer-requires : tie.Need-large-buffer-requires Inv-loop μ-loop
 large-buffer-requires c κs = search needs
 
--- src/lib.rt:20:21
 part-buffer-requires : tie.Need-part-buffer-requires Inv-loop μ-loop
 part-buffer-requires c κs = search needs
 
--- src/lib.rt:21:9
 first-progress-requires : tie.Need-first-progress-requires Inv-loop μ-loop
 first-progress-requires c κs = search needs
 
--- src/lib.rt:23:35
 slice-aggregate-put-header : tie.Need-slice-aggregate-put-header Inv-loop μ-loop
 slice-aggregate-put-header c = search needs
 
--- src/lib.rt:23:9
 put-header-requires : tie.Need-put-header-requires Inv-loop μ-loop
 put-header-requires c κs = search needs
 
--- src/lib.rt:24:34
 array-share-prefix-out : tie.Need-array-share-prefix-out Inv-loop μ-loop
 unfolding header
 array-share-prefix-out c = omega (arith, c .before .put-header .ensures .ends, c .before .put-header .kept .0, c .before .before .before .before .before .large-buffer .ensures)
 
--- src/lib.rt:24:34
 slice-aggregate-write-all : tie.Need-slice-aggregate-write-all Inv-loop μ-loop
 unfolding header
 slice-aggregate-write-all c = sym (length-take-le (c .before .before .put-header .result) (c .before .before .put-header .last .0) (omega (arith, c .before .before .put-header .ensures .ends, c .before .before .put-header .kept .0, c .before .before .before .before .before .before .large-buffer .ensures)))
 
--- src/lib.rt:24:5
 write-all-requires : tie.Need-write-all-requires Inv-loop μ-loop
 write-all-requires c κs = search needs
 
--- src/lib.rt:26:9
 returns : tie.Need-returns Inv-loop μ-loop
 returns c = left-none (c .before .before .before .before .before .before .before .before .before .before .args .started) (c .before .before .before .before .before .before .before .before .before .before .args .area .now)
 
--- src/lib.rt:25:5
 loop-holds : tie.Need-loop-holds Inv-loop μ-loop
 loop-holds c = (omega arith, refl, c .before .before .before .before .before .before .before .before .large-buffer .ensures ∙ sym (c .before .before .before .before .put-header .kept .0), c .before .before .before .before .before .before .before .part-buffer .ensures, reached-none (firstFrom (c .before .before .before .before .before .before .before .before .before .before .args .started)) (c .before .before .before .before .before .before .before .before .before .before .args .area .now) _ (first-from (c .before .before .before .before .before .before .first-progress .result) (c .before .before .before .before .before .before .before .before .before .before .args .started) (c .before .before .before .before .before .before .first-progress .ensures)))
 
--- src/lib.rt:26:45
 slice-aggregate-read-full : tie.Need-slice-aggregate-read-full Inv-loop μ-loop
 slice-aggregate-read-full c = search needs
 
--- src/lib.rt:26:13
 read-full-requires : tie.Need-read-full-requires Inv-loop μ-loop
 read-full-requires c κs = search needs
 
--- src/lib.rt:27:45
 array-share-prefix-bytes : tie.Need-array-share-prefix-bytes Inv-loop μ-loop
 array-share-prefix-bytes c = search needs
 
--- src/lib.rt:27:45
 slice-aggregate-play : tie.Need-slice-aggregate-play Inv-loop μ-loop
 slice-aggregate-play c = search needs
 
--- src/lib.rt:27:58
 slice-aggregate-play-2 : tie.Need-slice-aggregate-play-2 Inv-loop μ-loop
 slice-aggregate-play-2 c = search needs
 
--- src/lib.rt:27:13
 play-requires : tie.Need-play-requires Inv-loop μ-loop
 unfolding firstFrom
 play-requires c κs = let few = part-few (c .before .before .before .before .read-full .result) (c .before .before .before .before .read-full .last .1 .0) (c .before .before .before .before .before .before .before .loop .bytes) (c .before .before .before .before .read-full .ensures) (c .before .before .before .before .read-full .kept .1 .0) (c .before .before .before .before .before .before .before .loop .inv .3) in (omega (arith, few, reached-number (firstFrom (c .before .before .before .before .before .before .before .before .before .before .before .before .before .before .before .before .before .before .args .started)) (c .before .before .before .before .before .before .before .before .before .before .before .before .before .before .before .before .before .before .args .area .now) (c .before .before .before .before .before .before .before .loop .counter * 512) (c .before .before .before .before .before .before .before .loop .progress) (c .before .before .before .before .before .before .before .loop .area) (c .before .before .before .before .before .before .before .loop .inv .4), c .before .before .before .before .before .before .before .loop .inv .0), omega (arith, few, c .before .before .before .before .before .before .before .loop .inv .2))
 
--- src/lib.rt:29:55
 array-share-prefix-out-2 : tie.Need-array-share-prefix-out-2 Inv-loop μ-loop
 array-share-prefix-out-2 c = omega (arith, part-few (c .before .before .before .before .before .before .before .before .read-full .result) (c .before .before .before .before .before .before .before .before .read-full .last .1 .0) (c .before .before .before .before .before .before .before .before .before .before .before .loop .bytes) (c .before .before .before .before .before .before .before .before .read-full .ensures) (c .before .before .before .before .before .before .before .before .read-full .kept .1 .0) (c .before .before .before .before .before .before .before .before .before .before .before .loop .inv .3), after-text (c .before .before .before .before .before .before .before .before .before .before .before .loop .progress) (c .before .before .before .before .before .before .before .before .before .before .before .loop .area) (take (c .before .before .before .before .before .before .before .before .read-full .result) (c .before .before .before .before .before .before .before .before .read-full .last .1 .0)) (c .before .before .before .before .before .before .before .before .before .before .before .loop .out) (c .before .before .before .play .last .1 .1 .1 .0) (c .before .before .before .play .result .end) (c .before .before .before .play .ensures .1 .1), c .before .before .before .play .kept .1 .1 .1 .0, c .before .before .before .before .before .before .before .before .before .before .before .loop .inv .2)
 
--- src/lib.rt:29:55
 slice-aggregate-write-all-2 : tie.Need-slice-aggregate-write-all-2 Inv-loop μ-loop
 slice-aggregate-write-all-2 c = sym (length-take-le (c .before .before .before .before .play .result .end) (c .before .before .before .before .play .last .1 .1 .1 .0) (omega (arith, part-few (c .before .before .before .before .before .before .before .before .before .read-full .result) (c .before .before .before .before .before .before .before .before .before .read-full .last .1 .0) (c .before .before .before .before .before .before .before .before .before .before .before .before .loop .bytes) (c .before .before .before .before .before .before .before .before .before .read-full .ensures) (c .before .before .before .before .before .before .before .before .before .read-full .kept .1 .0) (c .before .before .before .before .before .before .before .before .before .before .before .before .loop .inv .3), after-text (c .before .before .before .before .before .before .before .before .before .before .before .before .loop .progress) (c .before .before .before .before .before .before .before .before .before .before .before .before .loop .area) (take (c .before .before .before .before .before .before .before .before .before .read-full .result) (c .before .before .before .before .before .before .before .before .before .read-full .last .1 .0)) (c .before .before .before .before .before .before .before .before .before .before .before .before .loop .out) (c .before .before .before .before .play .last .1 .1 .1 .0) (c .before .before .before .before .play .result .end) (c .before .before .before .before .play .ensures .1 .1), c .before .before .before .before .play .kept .1 .1 .1 .0, c .before .before .before .before .before .before .before .before .before .before .before .before .loop .inv .2)))
 
--- src/lib.rt:29:13
 write-all-requires-2 : tie.Need-write-all-requires-2 Inv-loop μ-loop
 write-all-requires-2 c κs = search needs
 
--- src/lib.rt:33:13
 same-length : tie.Need-same-length Inv-loop μ-loop
 same-length c = c .before .before .before .before .before .before .before .play .kept .0 ∙ c .before .before .before .before .before .before .before .before .before .before .before .before .before .before .before .loop .inv .1
 
--- src/lib.rt:33:13
 returns-2 : tie.Need-returns-2 Inv-loop μ-loop
 returns-2 c = left-by (c .before .before .before .before .before .before .before .before .before .before .before .before .before .before .before .before .before .before .before .before .before .before .before .before .before .before .args .started) (c .before .before .before .before .before .before .before .before .before .before .before .before .before .before .before .before .before .before .before .before .before .before .before .before .before .before .args .area .now) (c .before .before .before .before .before .before .before .before .before .before .before .before .before .before .before .loop .counter * 512) (c .before .before .before .before .before .before .before .before .before .before .before .before .before .before .before .loop .progress) (c .before .before .before .before .before .before .before .before .before .before .before .before .before .before .before .loop .area) (c .before .before .before .before .before .before .before .before .before .before .before .before .before .before .before .loop .inv .4) (take (c .before .before .before .before .before .before .before .before .before .before .before .before .read-full .result) (c .before .before .before .before .before .before .before .before .before .before .before .before .read-full .last .1 .0)) (c .before .before .before .before .before .before .before .play .last .0) (c .before .before .before .before .before .before .before .play .ensures .1 .0)
 
--- src/lib.rt:36:13
 same-length-2 : tie.Need-same-length-2 Inv-loop μ-loop
 same-length-2 c = c .before .before .before .before .before .before .before .before .play .kept .0 ∙ c .before .before .before .before .before .before .before .before .before .before .before .before .before .before .before .before .loop .inv .1
 
--- src/lib.rt:36:13
 returns-3 : tie.Need-returns-3 Inv-loop μ-loop
 returns-3 c = left-by (c .before .before .before .before .before .before .before .before .before .before .before .before .before .before .before .before .before .before .before .before .before .before .before .before .before .before .before .args .started) (c .before .before .before .before .before .before .before .before .before .before .before .before .before .before .before .before .before .before .before .before .before .before .before .before .before .before .before .args .area .now) (c .before .before .before .before .before .before .before .before .before .before .before .before .before .before .before .before .loop .counter * 512) (c .before .before .before .before .before .before .before .before .before .before .before .before .before .before .before .before .loop .progress) (c .before .before .before .before .before .before .before .before .before .before .before .before .before .before .before .before .loop .area) (c .before .before .before .before .before .before .before .before .before .before .before .before .before .before .before .before .loop .inv .4) (take (c .before .before .before .before .before .before .before .before .before .before .before .before .before .read-full .result) (c .before .before .before .before .before .before .before .before .before .before .before .before .before .read-full .last .1 .0)) (c .before .before .before .before .before .before .before .before .play .last .0) (c .before .before .before .before .before .before .before .before .play .ensures .1 .0)
 
--- src/lib.rt:39:13
 same-length-3 : tie.Need-same-length-3 Inv-loop μ-loop
 same-length-3 c = c .before .before .before .before .before .before .before .before .before .play .kept .0 ∙ c .before .before .before .before .before .before .before .before .before .before .before .before .before .before .before .before .before .loop .inv .1
 
--- src/lib.rt:39:13
 returns-4 : tie.Need-returns-4 Inv-loop μ-loop
 returns-4 c = left-by (c .before .before .before .before .before .before .before .before .before .before .before .before .before .before .before .before .before .before .before .before .before .before .before .before .before .before .before .before .args .started) (c .before .before .before .before .before .before .before .before .before .before .before .before .before .before .before .before .before .before .before .before .before .before .before .before .before .before .before .before .args .area .now) (c .before .before .before .before .before .before .before .before .before .before .before .before .before .before .before .before .before .loop .counter * 512) (c .before .before .before .before .before .before .before .before .before .before .before .before .before .before .before .before .before .loop .progress) (c .before .before .before .before .before .before .before .before .before .before .before .before .before .before .before .before .before .loop .area) (c .before .before .before .before .before .before .before .before .before .before .before .before .before .before .before .before .before .loop .inv .4) (take (c .before .before .before .before .before .before .before .before .before .before .before .before .before .before .read-full .result) (c .before .before .before .before .before .before .before .before .before .before .before .before .before .before .read-full .last .1 .0)) (c .before .before .before .before .before .before .before .before .before .play .last .0) (c .before .before .before .before .before .before .before .before .before .play .ensures .1 .0)
 
--- src/lib.rt:25:9
 add-counter : tie.Need-add-counter Inv-loop μ-loop
 add-counter c = search needs
 
--- src/lib.rt:25:5
 loop-less : tie.Need-loop-less Inv-loop μ-loop
 loop-less c = search needs
 
--- src/lib.rt:25:5
 loop-again : tie.Need-loop-again Inv-loop μ-loop
 loop-again c = (
   omega arith,
@@ -147,11 +119,9 @@ loop-again c = (
   rw (next-part (c .before .before .before .before .before .before .before .before .before .before .before .before .before .before .before .before .before .loop .counter)) (reached-more (firstFrom (c .before .before .before .before .before .before .before .before .before .before .before .before .before .before .before .before .before .before .before .before .before .before .before .before .before .before .before .before .args .started)) (c .before .before .before .before .before .before .before .before .before .before .before .before .before .before .before .before .before .before .before .before .before .before .before .before .before .before .before .before .args .area .now) (c .before .before .before .before .before .before .before .before .before .before .before .before .before .before .before .before .before .loop .counter * 512) (c .before .before .before .before .before .before .before .before .before .before .before .before .before .before .before .before .before .loop .progress) (c .before .before .before .before .before .before .before .before .before .before .before .before .before .before .before .before .before .loop .area) (c .before .before .before .before .before .before .before .before .before .before .before .before .before .before .before .before .before .loop .inv .4) (take (c .before .before .before .before .before .before .before .before .before .before .before .before .before .before .read-full .result) (c .before .before .before .before .before .before .before .before .before .before .before .before .before .before .read-full .last .1 .0)) (omega (arith, c .before .if3 .left, c .before .before .before .before .before .before .before .before .before .before .before .before .before .before .read-full .ensures .0, c .before .before .before .before .before .before .before .before .before .before .before .before .before .before .read-full .ensures .1, c .before .before .before .before .before .before .before .before .before .before .before .before .before .before .read-full .kept .1 .0, c .before .before .before .before .before .before .before .before .before .before .before .before .before .before .before .before .before .loop .inv .3)) (c .before .before .before .before .before .before .before .before .before .play .result .progress) (c .before .before .before .before .before .before .before .before .before .play .last .0) (c .before .before .before .before .before .before .before .before .before .play .ensures .0) (c .before .before .before .before .before .before .before .before .before .play .ensures .1 .0)),
 )
 
--- src/lib.rt:16:1
 same-length-4 : tie.Need-same-length-4 Inv-loop μ-loop
 same-length-4 c = c .before .loop .inv .1
 
--- src/lib.rt:16:1
 returns-5 : tie.Need-returns-5 Inv-loop μ-loop
 returns-5 c = left-whole (c .before .before .before .before .before .before .before .before .before .before .before .before .args .started) (c .before .before .before .before .before .before .before .before .before .before .before .before .args .area .now) (c .before .loop .counter * 512) (c .before .loop .progress) (c .before .loop .area) (c .before .loop .inv .4)
 

@@ -19,48 +19,37 @@ Inv-loop a at ws j₀ j-end j = (j ≤ j-end) × (j-end ≡ length ws) × (allBe
 abbrev μ-loop : tie.MeasureT-loop
 μ-loop a at ws j₀ j-end j = j-end - j
 
--- src/lib.rt:49:5
 loop-holds : tie.Need-loop-holds Inv-loop μ-loop
 unfolding allBelow
 loop-holds c = (omega arith, refl, refl)
 
--- src/lib.rt:50:25
 mul-word : tie.Need-mul-word Inv-loop μ-loop
 mul-word c = omega arith
 
--- src/lib.rt:50:20
 add-word : tie.Need-add-word Inv-loop μ-loop
 add-word c = omega arith
 
--- src/lib.rt:50:12
 word-requires : tie.Need-word-requires Inv-loop μ-loop
 word-requires c κs = omega arith
 
--- src/lib.rt:50:35
 mul-if1 : tie.Need-mul-if1 Inv-loop μ-loop
 mul-if1 c = omega arith
 
--- src/lib.rt:50:35
 shared-slice-read-if1 : tie.Need-shared-slice-read-if1 Inv-loop μ-loop
 shared-slice-read-if1 c = omega arith
 
--- src/lib.rt:51:13
 returns : tie.Need-returns Inv-loop μ-loop
 returns c = has-fails (c .before .before .before .before .before .before .before .args .a .now) (c .before .before .before .before .before .before .before .args .at) (c .before .before .before .before .before .before .before .args .ws .now) (c .before .before .before .before .loop .j) _ _ (omega arith) (c .before .before .word .ensures) refl (c .if1 .taken)
 
--- src/lib.rt:49:9
 add-j : tie.Need-add-j Inv-loop μ-loop
 add-j c = omega arith
 
--- src/lib.rt:49:5
 loop-less : tie.Need-loop-less Inv-loop μ-loop
 loop-less c = omega arith
 
--- src/lib.rt:49:5
 loop-again : tie.Need-loop-again Inv-loop μ-loop
 loop-again c = (omega arith, c .before .before .before .before .loop .inv .1, has-turn (c .before .before .before .before .before .before .before .args .a .now) (c .before .before .before .before .before .before .before .args .at) (c .before .before .before .before .before .before .before .args .ws .now) (c .before .before .before .before .loop .j) _ _ (c .before .before .before .before .loop .inv .2) (c .before .before .word .ensures) refl (c .if1 .left))
 
--- src/lib.rt:45:1
 returns-2 : tie.Need-returns-2 Inv-loop μ-loop
 returns-2 c = has-all (c .before .before .before .before .args .a .now) (c .before .before .before .before .args .at) (c .before .before .before .before .args .ws .now) (c .before .loop .j) (omega arith) (c .before .loop .inv .2)
 

@@ -16,40 +16,31 @@ Inv-loop a at n largest₀ j₀ j-end largest j = (j ≤ j-end) × (j-end ≡ n 
 abbrev μ-loop : tie.MeasureT-loop
 μ-loop a at n largest₀ j₀ j-end largest j = j-end - j
 
--- src/lib.rt:82:17
 mul-j-end : tie.Need-mul-j-end Inv-loop μ-loop
 mul-j-end c = omega arith
 
--- src/lib.rt:82:5
 loop-holds : tie.Need-loop-holds Inv-loop μ-loop
 unfolding allBelow
 loop-holds c = (omega arith, refl, refl)
 
--- src/lib.rt:83:37
 add-larger : tie.Need-add-larger Inv-loop μ-loop
 add-larger c = omega arith
 
--- src/lib.rt:83:35
 shared-slice-read-larger : tie.Need-shared-slice-read-larger Inv-loop μ-loop
 shared-slice-read-larger c = omega arith
 
--- src/lib.rt:83:9
 larger-requires : tie.Need-larger-requires Inv-loop μ-loop
 larger-requires c κs = omega arith
 
--- src/lib.rt:82:9
 add-j : tie.Need-add-j Inv-loop μ-loop
 add-j c = omega arith
 
--- src/lib.rt:82:5
 loop-less : tie.Need-loop-less Inv-loop μ-loop
 loop-less c = omega arith
 
--- src/lib.rt:82:5
 loop-again : tie.Need-loop-again Inv-loop μ-loop
 loop-again c = (omega arith, c .before .before .before .loop .inv .1, zero-turn (c .before .before .before .before .before .args .a .now) (c .before .before .before .before .before .args .at) (c .before .before .before .loop .j) (c .before .before .before .loop .largest) _ _ (c .before .before .before .loop .inv .2) refl (c .larger .ensures))
 
--- src/lib.rt:77:1
 returns : tie.Need-returns Inv-loop μ-loop
 returns c = c .before .loop .inv .2 ∙ zero-bytes (c .before .before .before .args .a .now) (c .before .before .before .args .at) (c .before .before .before .args .n) (c .before .loop .j) (omega arith) (omega arith)
 

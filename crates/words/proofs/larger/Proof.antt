@@ -4,11 +4,9 @@ use Rattle.words.proofs.larger.Tie as tie
 use Rattle.words.proofs.larger.Reads as reads
 use Rattle.words.proofs.larger.Lts as lts
 
--- src/lib.rt:71:9
 returns : tie.Need-returns
 returns c = simp (tests, c .if1 .taken)
 
--- src/lib.rt:67:1
 returns-2 : tie.Need-returns-2
 returns-2 c = simp (tests, c .if1 .left)
 

@@ -20,48 +20,37 @@ Inv-loop a₀ at ws j₀ j-end a j = (j ≤ j-end) × (j-end ≡ length ws) × (
 abbrev μ-loop : tie.MeasureT-loop
 μ-loop a₀ at ws j₀ j-end a j = j-end - j
 
--- src/lib.rt:61:5
 loop-holds : tie.Need-loop-holds Inv-loop μ-loop
 unfolding wordBytes
 loop-holds c = (omega arith, refl, refl, spliced-none (c .before .before .args .a .now) (c .before .before .args .at))
 
--- src/lib.rt:62:26
 mul-put-word : tie.Need-mul-put-word Inv-loop μ-loop
 mul-put-word c = omega arith
 
--- src/lib.rt:62:21
 add-put-word : tie.Need-add-put-word Inv-loop μ-loop
 add-put-word c = omega arith
 
--- src/lib.rt:62:33
 mul-put-word-2 : tie.Need-mul-put-word-2 Inv-loop μ-loop
 mul-put-word-2 c = omega arith
 
--- src/lib.rt:62:33
 shared-slice-read-put-word : tie.Need-shared-slice-read-put-word Inv-loop μ-loop
 shared-slice-read-put-word c = omega arith
 
--- src/lib.rt:62:9
 put-word-requires : tie.Need-put-word-requires Inv-loop μ-loop
 put-word-requires c κs = omega arith
 
--- src/lib.rt:61:9
 add-j : tie.Need-add-j Inv-loop μ-loop
 add-j c = omega arith
 
--- src/lib.rt:61:5
 loop-less : tie.Need-loop-less Inv-loop μ-loop
 loop-less c = omega arith
 
--- src/lib.rt:61:5
 loop-again : tie.Need-loop-again Inv-loop μ-loop
 loop-again c = (omega arith, c .before .before .before .before .before .before .loop .inv .1, omega arith, words-turn _ (c .before .before .before .before .before .before .loop .a) _ _ _ (c .before .before .before .before .before .before .loop .j) (omega arith) (omega arith) (c .before .before .before .before .before .before .loop .inv .3) (c .before .before .put-word .ensures))
 
--- src/lib.rt:57:1
 same-length : tie.Need-same-length Inv-loop μ-loop
 same-length c = omega arith
 
--- src/lib.rt:57:1
 returns : tie.Need-returns Inv-loop μ-loop
 returns c = c .before .loop .inv .3 ∙ rw (take-all (c .before .loop .j) (c .before .before .before .before .args .ws .now) (omega arith))
 

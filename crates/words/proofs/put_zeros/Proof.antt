@@ -19,40 +19,31 @@ Inv-loop a₀ at n j₀ a j = (j ≤ n) × (length a ≡ length a₀) × (a ≡ 
 abbrev μ-loop : tie.MeasureT-loop
 μ-loop a₀ at n j₀ a j = n - j
 
--- src/lib.rt:83:5
 loop-holds : tie.Need-loop-holds Inv-loop μ-loop
 unfolding wordBytes
 loop-holds c = (omega arith, refl, spliced-none (c .before .args .a .now) (c .before .args .at))
 
--- src/lib.rt:84:26
 mul-put-word : tie.Need-mul-put-word Inv-loop μ-loop
 mul-put-word c = omega arith
 
--- src/lib.rt:84:21
 add-put-word : tie.Need-add-put-word Inv-loop μ-loop
 add-put-word c = omega arith
 
--- src/lib.rt:84:9
 put-word-requires : tie.Need-put-word-requires Inv-loop μ-loop
 put-word-requires c κs = omega arith
 
--- src/lib.rt:83:9
 add-j : tie.Need-add-j Inv-loop μ-loop
 add-j c = omega arith
 
--- src/lib.rt:83:5
 loop-less : tie.Need-loop-less Inv-loop μ-loop
 loop-less c = omega arith
 
--- src/lib.rt:83:5
 loop-again : tie.Need-loop-again Inv-loop μ-loop
 loop-again c = (omega arith, omega arith, zeros-turn _ (c .before .before .before .before .before .loop .a) _ _ (c .before .before .before .before .before .loop .j) (omega arith) (c .before .before .before .before .before .loop .inv .2) (c .before .before .put-word .ensures))
 
--- src/lib.rt:79:1
 same-length : tie.Need-same-length Inv-loop μ-loop
 same-length c = omega arith
 
--- src/lib.rt:79:1
 returns : tie.Need-returns Inv-loop μ-loop
 returns c = let e : c .before .loop .j ≡ c .before .before .before .args .n = omega arith in c .before .loop .inv .2 ∙ rw e
 

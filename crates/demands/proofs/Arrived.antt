@@ -1,0 +1,163 @@
+-- Demand 2 over lent areas: nobody is told that a page is ready before it has arrived; what wait and fetch say.
+use mathlib.Core.Path.{_≡_, refl, sym, _∙_}
+use mathlib.Core.Bool.{true, false, _&&_}
+use mathlib.Core.List.{List}
+use mathlib.Core.Logic.{_⊎_}
+use Prim.Native.Nat.{ℕ, _<_, _≤_}
+use native.Mathlib.Omega.{arith}
+use borrow.Author.Tests.{eqb-true}
+use lib.Dec.{eqb}
+use Rattle.seq.proofs.Tests.{true-false, and-true, or-true-right, not-true-false}
+use Rattle.model.specs.declared.Answer.{Answer}
+use Rattle.model.specs.declared.Answer.the-variants.{Ready, Fetch, Wait, RowIdle, RowFetching}
+use Rattle.model.specs.declared.Back.{Back}
+use Rattle.model.specs.declared.Condition.{Condition}
+use Rattle.model.specs.declared.Condition.the-variants.{Free, Idle, Fetching, Waiting, Killed}
+use Rattle.model.specs.declared.Mode.{Mode}
+use Rattle.model.specs.declared.State.{State}
+use Rattle.model.specs.Parties.{rowOf}
+use Rattle.model.specs.State.{rowAt, holdingAt}
+use Rattle.model.specs.Words.{holds}
+use Rattle.rules.specs.Answers.{word, mayUse, told}
+use Rattle.rules.specs.Calls.{looked}
+use Rattle.model.specs.declared.Call.{Call}
+use Rattle.model.specs.declared.Call.the-variants.{Start, Begin, Request, Retry, Unpin, End, Tick, Look, View, Count}
+use Rattle.rules.specs.Content.{Fits}
+use Rattle.rules.specs.Requests.{Asks, Names}
+use Rattle.rules.specs.Arrivals.{AllArrived, PinnedAndArrived}
+use Rattle.rules.specs.Waits.{Outranked, NoSlot}
+use Rattle.rules.proofs.Promises.WaitFetch as Waits
+use Rattle.rules.proofs.Promises.Arrived as States
+use Rattle.rules.proofs.Promises.MayUse as Uses
+use Rattle.area.specs.Layout.{decoded, soundArea}
+use Rattle.area.proofs.RoundTrip.{sound-area}
+use Rattle.sabre.specs.Lent.{answerOn, isRefused, areaAfter}
+use Rattle.demands.specs.Runs.{wordOn, isPendingOn, isIdleOn, isDeliveryOn}
+use Rattle.demands.proofs.Areas.{accepted-sound, sound-answer, look-answer, look-named}
+use Rattle.demands.proofs.Refusals.{look-leaves}
+use Rattle.demands.proofs.Steps.{other-sound, step-on}
+
+-- ---- ready and idle
+
+use-accepted : (x : Answer) → mayUse x ≡ true → isRefused x ≡ false
+unfolding mayUse
+use-accepted x e = not-true-false (isRefused x) (λ k. true-false (sym (rw (eqb-true (word x) 0 k) at e)))
+
+-- On any area: an answer that says that a page may be used, ready or a look's idle, goes to a request, retry or look of a row,
+-- and in the area that the call leaves every page that the row holds has arrived.
+pub may-use-arrived : (a : List ℕ) (c : Call) → Fits c → mayUse (answerOn a c) ≡ true → (row : ℕ) × Names c row × AllArrived (decoded (areaAfter a c)) row
+unfolding mayUse word
+may-use-arrived a c f e =
+    let z = other-sound a c (answerOn a c) refl (use-accepted (answerOn a c) e) (λ k. true-false (sym (rw k at e))) in
+    let x = step-on a c z f in
+    rw (x .1) (Uses.may-use-arrived (decoded a) (sound-area a z .sound-state) c (rw (← x .0) e))
+
+-- ready comes only to a request or retry; then, in the area that it leaves, the row holds the slot of the page asked for
+-- with the pin asked for or a stronger one, holding and page have arrived, and so has every other page that the row holds
+pub ready-arrived : (a : List ℕ) (c : Call) → Fits c → (slot : ℕ) (back : Back) → answerOn a c ≡ Ready slot back
+    → (row : ℕ) × (page : ℕ) × (mode : Mode) × Asks (decoded a) c row page mode × PinnedAndArrived (decoded (areaAfter a c)) row page mode slot × AllArrived (decoded (areaAfter a c)) row
+unfolding word
+ready-arrived a c f slot back e =
+    let z = other-sound a c (Ready slot back) e refl (λ k. true-false (cc)) in
+    let x = step-on a c z f in
+    rw (x .1) (States.ready-arrived (decoded a) (sound-area a z .sound-state) c slot back (sym (x .0) ∙ e))
+
+-- a look answers idle only where every page that the row holds has arrived
+pub look-idle : (a : List ℕ) (level number : ℕ) → isIdleOn a level number ≡ true → AllArrived (decoded a) (rowOf level number)
+unfolding mayUse
+look-idle a level number e =
+    let u : mayUse (answerOn a (Look level number)) ≡ true = or-true-right (eqb (wordOn a (Look level number)) 3) (isIdleOn a level number) e in
+    let n = look-named a level number (use-accepted (answerOn a (Look level number)) u) in
+    let l = n .level-is in
+    let m = n .number-is in
+    let x = may-use-arrived a (Look level number) (omega arith) u in
+    rw (← x .1) (rw (look-leaves a level number) at (x .2))
+
+-- ---- deliveries
+
+ready-used : (x : Answer) → eqb (word x) 3 ≡ true → mayUse x ≡ true
+unfolding mayUse
+ready-used x e = rw e
+
+for-row : (s : State) (row level number l n : ℕ) → row ≡ rowOf level number → eqb level l && eqb number n ≡ true → AllArrived s row → AllArrived s (rowOf l n)
+for-row s row level number l n e p h =
+    let q = and-true (eqb level l) (eqb number n) p in
+    let w : rowOf l n ≡ row = omega (arith, eqb-true level l (q .0), eqb-true number n (q .1)) in
+    rw w h
+
+-- On any area: after a delivery every page that the row holds has arrived.
+pub delivery-arrived : (a : List ℕ) (c : Call) → Fits c → (level number : ℕ) → isDeliveryOn a c level number ≡ true → AllArrived (decoded (areaAfter a c)) (rowOf level number)
+unfolding isDeliveryOn
+delivery-arrived a (Start slots delay) f l n e = true-false (sym e)
+delivery-arrived a (Begin level number deadline) f l n e = true-false (sym e)
+delivery-arrived a (Request level number page mode) f l n e =
+    let c = Request level number page mode in
+    let p = and-true (eqb level l && eqb number n) (eqb (wordOn a c) 3) e in
+    let x = may-use-arrived a c f (ready-used (answerOn a c) (p .1)) in
+    for-row (decoded (areaAfter a c)) (x .0) level number l n (x .1) (p .0) (x .2)
+delivery-arrived a (Retry level number) f l n e =
+    let c = Retry level number in
+    let p = and-true (eqb level l && eqb number n) (eqb (wordOn a c) 3) e in
+    let x = may-use-arrived a c f (ready-used (answerOn a c) (p .1)) in
+    for-row (decoded (areaAfter a c)) (x .0) level number l n (x .1) (p .0) (x .2)
+delivery-arrived a (Unpin level number page) f l n e = true-false (sym e)
+delivery-arrived a (End level number) f l n e = true-false (sym e)
+delivery-arrived a Tick f l n e = look-idle (areaAfter a Tick) l n (and-true (isPendingOn a l n) (isIdleOn (areaAfter a Tick) l n) e .1)
+delivery-arrived a (Look level number) f l n e = true-false (sym e)
+delivery-arrived a (View level page) f l n e = true-false (sym e)
+delivery-arrived a (Count level) f l n e = true-false (sym e)
+
+-- ---- wait and fetch
+
+-- On any area: wait comes only to a request or retry, and only by steps 1 and g.
+pub wait-only : (a : List ℕ) (c : Call) → answerOn a c ≡ Wait
+    → (row : ℕ) × (page : ℕ) × (mode : Mode) × Asks (decoded a) c row page mode × (Outranked (decoded a) row page mode ⊎ NoSlot (decoded a) row page)
+unfolding word
+wait-only a c e =
+    let z = other-sound a c Wait e refl (λ k. true-false (cc)) in
+    Waits.wait-only (decoded a) (sound-area a z .sound-state) c (sym (sound-answer a c z) ∙ e)
+
+-- On any area: a fetch is due after the clock, and the row is fetching until then.
+pub fetch-due : (a : List ℕ) (c : Call) → Fits c → (due slot : ℕ) (back : Back) → answerOn a c ≡ Fetch due slot back
+    → (row : ℕ) × (page : ℕ) × (mode : Mode) × Asks (decoded a) c row page mode × (decoded a .clock < due) × (rowAt (decoded (areaAfter a c)) row .condition ≡ Fetching due)
+unfolding word
+fetch-due a c f due slot back e =
+    let z = other-sound a c (Fetch due slot back) e refl (λ k. true-false (cc)) in
+    let x = step-on a c z f in
+    rw (x .1) (Waits.fetch-due (decoded a) (sound-area a z .sound-state) c due slot back (sym (x .0) ∙ e))
+
+-- on a sound area: where a page that the row then holds has not arrived, a request, retry or look of the row is refused, or told fetch with that arrival
+pub fetching-told : (a : List ℕ) → soundArea a ≡ true → (c : Call) → Fits c → (row slot : ℕ) → Names c row → row < 32 → slot < 64
+    → holds (decoded (areaAfter a c)) slot row ≡ true → decoded (areaAfter a c) .clock < holdingAt (decoded (areaAfter a c)) slot row .arrival
+    → (word (answerOn a c) ≡ 0) ⊎ (told (answerOn a c) ≡ record { word = 4; value = holdingAt (decoded (areaAfter a c)) slot row .arrival })
+fetching-told a z c f row slot n r b =
+    let x = step-on a c z f in
+    rw (x .0, x .1) (Uses.fetching-told (decoded a) (sound-area a z .sound-state) c row slot n r b)
+
+-- a row that a look found fetching and finds idle after a tick has reached its due tick
+pub tick-due : (a : List ℕ) (level number due : ℕ) → answerOn a (Look level number) ≡ RowFetching due
+    → answerOn (areaAfter a Tick) (Look level number) ≡ RowIdle → due ≤ decoded (areaAfter a Tick) .clock
+unfolding word
+tick-due a level number due e k =
+    let z = accepted-sound a (Look level number) refl (rw e) in
+    let m = look-named a level number (rw e) in
+    let l = m .level-is in
+    let n = m .number-is in
+    let x = step-on a Tick z tt in
+    let p = fetching (rowAt (decoded a) (rowOf level number) .condition) (sym (look-answer a level number z l n) ∙ e) in
+    let q = idle (rowAt (decoded (areaAfter a Tick)) (rowOf level number) .condition) (sym (look-answer (areaAfter a Tick) level number (x .2) l n) ∙ k) in
+    rw (x .1) (States.tick-arrived (decoded a) (sound-area a z .sound-state) (rowOf level number) due (m .row-is) p (rw (x .1) at q) .0)
+  where
+    fetching : (c : Condition) → looked c ≡ RowFetching due → c ≡ Fetching due
+    fetching Free h = cc
+    fetching Idle h = cc
+    fetching (Fetching d) h = let m : d ≡ due = cc in rw m
+    fetching (Waiting page mode) h = cc
+    fetching (Killed cause) h = cc
+
+    idle : (c : Condition) → looked c ≡ RowIdle → c ≡ Idle
+    idle Free h = cc
+    idle Idle h = refl
+    idle (Fetching d) h = cc
+    idle (Waiting page mode) h = cc
+    idle (Killed cause) h = cc

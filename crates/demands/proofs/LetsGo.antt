@@ -1,0 +1,117 @@
+-- Demand 2 over lent areas: a row that is killed or free holds nothing; a holding goes only so, or with its slot; what was written is dirty or reported.
+use mathlib.Core.Path.{_≡_, refl, sym, _∙_}
+use mathlib.Core.Bool.{true, false, not}
+use mathlib.Core.List.{List, [], _∷_}
+use mathlib.Core.Logic.{_⊎_}
+use Prim.Native.Nat.{ℕ, _+_, _<_, _≤_}
+use lib.Dec.{eqb}
+use Rattle.seq.proofs.Tests.{true-false, and-true, not-true-false}
+use Rattle.model.specs.declared.Answer.{Answer}
+use Rattle.model.specs.declared.Answer.the-variants.{RowFree, RowKilled}
+use Rattle.model.specs.declared.Cause.{Cause}
+use Rattle.model.specs.declared.Cause.the-variants.{Late, Taken}
+use Rattle.model.specs.declared.Condition.{Condition}
+use Rattle.model.specs.declared.Condition.the-variants.{Free, Idle, Fetching, Waiting, Killed}
+use Rattle.model.specs.declared.State.{State}
+use Rattle.model.specs.Parties.{rowOf}
+use Rattle.model.specs.State.{emptyHolding, rowAt, slotAt, holdingAt}
+use Rattle.model.specs.Words.{isLive, pageIn, dirtyIn, isWrite, holds}
+use Rattle.rules.specs.Sound.{sound}
+use Rattle.rules.specs.Answers.{word, backTold}
+use Rattle.rules.specs.Calls.{looked}
+use Rattle.model.specs.declared.Call.{Call}
+use Rattle.model.specs.declared.Call.the-variants.{Look}
+use Rattle.rules.specs.Content.{Fits}
+use Rattle.rules.specs.Slots.{Refilled, Dirty}
+use Rattle.rules.proofs.Facts.SoundFacts.{facts}
+use Rattle.rules.proofs.TwoRuns.StateRuns.{startsRefused}
+use Rattle.rules.proofs.Promises.LetsGo as States
+use Rattle.area.specs.Layout.{decoded, soundArea}
+use Rattle.area.proofs.RoundTrip.{sound-area}
+use Rattle.sabre.specs.Lent.{answerOn, isRefused, areaAfter}
+use Rattle.demands.specs.Runs.{wordOn, notStartedAgain}
+use Rattle.demands.proofs.Areas.{accepted-sound, sound-answer, look-answer, look-named}
+use Rattle.demands.proofs.Steps.{step-on}
+use Rattle.demands.proofs.RunStates.{first-start}
+
+-- ---- rows
+
+-- in a sound state a row that is free or killed has no holding
+unheld : (s : State) → sound s ≡ true → (row slot : ℕ) → row < 32 → slot < 64 → isLive (rowAt s row .condition) ≡ false → holdingAt s slot row ≡ emptyHolding
+unheld s z row slot r b d =
+    let t = facts s z in
+    t .unheld slot row b r (not-true-false (holds s slot row) (λ h. true-false (sym (t .held slot row b r h .live) ∙ d)))
+
+killed-condition : (x : Condition) (cause : Cause) → looked x ≡ RowKilled cause → isLive x ≡ false
+killed-condition Free cause e = refl
+killed-condition Idle cause e = true-false (cc)
+killed-condition (Fetching due) cause e = true-false (cc)
+killed-condition (Waiting page mode) cause e = true-false (cc)
+killed-condition (Killed c) cause e = refl
+
+free-condition : (x : Condition) → looked x ≡ RowFree → isLive x ≡ false
+free-condition Free e = refl
+free-condition Idle e = true-false (cc)
+free-condition (Fetching due) e = true-false (cc)
+free-condition (Waiting page mode) e = true-false (cc)
+free-condition (Killed c) e = refl
+
+killed-accepted : (cause : Cause) → isRefused (RowKilled cause) ≡ false
+unfolding word
+killed-accepted Late = refl
+killed-accepted Taken = refl
+
+-- the row of which a look says something
+looked-unheld : (a : List ℕ) (level number : ℕ) (x : Answer) → isRefused x ≡ false → ((c : Condition) → looked c ≡ x → isLive c ≡ false) → answerOn a (Look level number) ≡ x
+    → (slot : ℕ) → slot < 64 → holdingAt (decoded a) slot (rowOf level number) ≡ emptyHolding
+looked-unheld a level number x r d e slot b =
+    let z = accepted-sound a (Look level number) refl (rw e r) in
+    let m = look-named a level number (rw e r) in
+    unheld (decoded a) (sound-area a z .sound-state) (rowOf level number) slot (m .row-is) b
+    (d (rowAt (decoded a) (rowOf level number) .condition) (sym (look-answer a level number z (m .level-is) (m .number-is)) ∙ e))
+
+-- On any area: a row of which a look says that it was killed, as late or as taken, or that it is free, holds nothing in any slot.
+pub killed-unheld : (a : List ℕ) (level number : ℕ) (cause : Cause) → answerOn a (Look level number) ≡ RowKilled cause
+    → (slot : ℕ) → slot < 64 → holdingAt (decoded a) slot (rowOf level number) ≡ emptyHolding
+killed-unheld a level number cause = looked-unheld a level number (RowKilled cause) (killed-accepted cause) (λ c. killed-condition c cause)
+
+pub free-unheld : (a : List ℕ) (level number : ℕ) → answerOn a (Look level number) ≡ RowFree
+    → (slot : ℕ) → slot < 64 → holdingAt (decoded a) slot (rowOf level number) ≡ emptyHolding
+unfolding word
+free-unheld a level number = looked-unheld a level number RowFree refl free-condition
+
+-- ---- calls on a sound area
+
+module _ (a : List ℕ) (z : soundArea a ≡ true) (c : Call) (fits : Fits c) where
+  -- a row that was live and is ended or killed, by whatever call of whatever row, has let go of every page that it held
+  pub lets-go : (row slot : ℕ) → row < 32 → slot < 64
+      → isLive (rowAt (decoded a) row .condition) ≡ true → isLive (rowAt (decoded (areaAfter a c)) row .condition) ≡ false
+      → holds (decoded a) slot row ≡ true → holds (decoded (areaAfter a c)) slot row ≡ false
+  lets-go row slot r b =
+      rw (step-on a c z fits .1) (States.lets-go (decoded a) (sound-area a z .sound-state) c row slot r b)
+
+  -- a holding goes only with its row, or where its row has no pin and a request or retry chose the slot for a new page
+  pub drops-only : (slot row : ℕ) → slot < 64 → row < 32 → holds (decoded a) slot row ≡ true → holds (decoded (areaAfter a c)) slot row ≡ false
+      → (isLive (rowAt (decoded (areaAfter a c)) row .condition) ≡ false) ⊎ Refilled (decoded a) c (decoded (areaAfter a c)) slot row
+  drops-only slot row b r =
+      rw (step-on a c z fits .1) (States.drops-only (decoded a) (sound-area a z .sound-state) c slot row b r)
+
+  module _ (again : notStartedAgain a (c ∷ []) ≡ true) (slot : ℕ) (b : slot < 64) where
+    refused : startsRefused (c ∷ []) ≡ true
+    unfolding notStartedAgain startsRefused
+    refused = first-start (decoded a) c [] (rw (← sound-answer a c z) (and-true (not (eqb (wordOn a c) 1)) true again .0)) refl
+
+    -- a dirty page stays dirty in its slot, or is reported for write-back
+    pub dirty-kept : dirtyIn (slotAt (decoded a) slot .content) ≡ true
+        → Dirty (decoded (areaAfter a c)) slot (pageIn (slotAt (decoded a) slot .content)) ⊎ (backTold (answerOn a c) ≡ pageIn (slotAt (decoded a) slot .content) + 1)
+    dirty-kept =
+        let x = step-on a c z fits in
+        rw (x .0, x .1) (States.dirty-kept (decoded a) (sound-area a z .sound-state) c refused slot b)
+
+    -- when a write pin goes and its arrival ≤ clock, the slot becomes dirty, or the page is reported for write-back
+    pub write-kept : (row : ℕ) → row < 32 → isWrite (holdingAt (decoded a) slot row .pin) ≡ true → holdingAt (decoded a) slot row .arrival ≤ decoded (areaAfter a c) .clock
+        → isWrite (holdingAt (decoded (areaAfter a c)) slot row .pin) ≡ false
+        → Dirty (decoded (areaAfter a c)) slot (pageIn (slotAt (decoded a) slot .content)) ⊎ (backTold (answerOn a c) ≡ pageIn (slotAt (decoded a) slot .content) + 1)
+    write-kept row r =
+        let x = step-on a c z fits in
+        rw (x .0, x .1) (States.write-kept (decoded a) (sound-area a z .sound-state) c refused slot b row r)

@@ -1,0 +1,191 @@
+-- Demand 2 over lent areas: a call on a sound area, and a start on any area, gives the answer and the next state of the definitions, and leaves a sound area.
+use mathlib.Core.Path.{_≡_, refl, sym, _∙_, ap}
+use mathlib.Core.Bool.{Bool, true, false}
+use mathlib.Core.List.{List, [], _∷_, _++_}
+use Prim.Native.Nat.{ℕ, zero, suc, _≤_}
+use borrow.Author.Tests.{le-ltb, le-leb}
+use lib.ListN.{length, drop}
+use Rattle.seq.proofs.Tests.{true-false}
+use Rattle.model.specs.declared.Answer.{Answer}
+use Rattle.model.specs.declared.Answer.the-variants.{Started}
+use Rattle.model.specs.declared.Back.{Back}
+use Rattle.model.specs.declared.Condition.{Condition}
+use Rattle.model.specs.declared.Condition.the-variants.{Free, Idle, Fetching, Waiting, Killed}
+use Rattle.model.specs.declared.Mode.{Mode}
+use Rattle.model.specs.declared.Outcome.{Outcome}
+use Rattle.model.specs.declared.State.{State}
+use Rattle.model.specs.Parties.{rowOf, modeOf}
+use Rattle.model.specs.State.{fresh, rowAt}
+use Rattle.model.proofs.Ranges.{StateOk}
+use Rattle.rules.specs.Sound.{sound}
+use Rattle.rules.specs.Answers.{word}
+use Rattle.rules.specs.Refusals.{startRefusal, beginRefusal, requestRefusal, retryRefusal, unpinRefusal, endRefusal, tickRefusal, StartTaken}
+use Rattle.rules.specs.Calls.{unless, started, begun, requested, retried, unpinned, ended, ticked, waiting, granted, served, servedAgain}
+use Rattle.model.specs.declared.Call.{Call}
+use Rattle.model.specs.declared.Call.the-variants.{Start, Begin, Request, Retry, Unpin, End, Tick, Look, View, Count}
+use Rattle.rules.specs.Run.{outcome}
+use Rattle.rules.specs.Content.{Fits}
+use Rattle.rules.proofs.Leaves.RefusalFacts.{unless-is, start-taken}
+use Rattle.rules.proofs.Promises.Serving.{Serving, waits, waits-g, joins, fills, serving}
+use Rattle.rules.proofs.Promises.Granting.{granted-answer}
+use Rattle.rules.proofs.Hidden.Hidden.{looked-still, viewed-still, counted-still}
+use Rattle.rules.proofs.Keeping.KeptFresh.{fresh-sound}
+use Rattle.rules.proofs.Keeping.Kept.{kept-sound}
+use Rattle.rules.proofs.Promises.Widths.{fresh-narrow, kept-narrow, sound-ok}
+use Rattle.area.specs.Layout.{encoded, decoded, soundArea}
+use Rattle.area.proofs.Elements.{decoded-deadline}
+use Rattle.area.proofs.RoundTrip.{decode-encode, encode-sound, sound-area}
+use Rattle.sabre.specs.Lent.{unfit, answerOn, isRefused, areaAfter}
+use Rattle.demands.specs.Runs.{AllFit, areaAfterAll}
+use Rattle.demands.proofs.Areas.{start-or-other, accepted-sound, sound-fit, accepted-fit, fit-long, fit-answer}
+
+-- ---- a refused call leaves the state
+
+-- a served request or retry is not refused
+granted-accepted : (u : State) (row slot : ℕ) (mode : Mode) (arrival : ℕ) (back : Back) → isRefused (granted u row slot mode arrival back .answer) ≡ false
+unfolding word
+granted-accepted u row slot mode arrival back =
+    granted-answer u row slot mode arrival back (granted u row slot mode arrival back .answer) refl
+    (λ q k. rw k refl)
+    (λ q k. rw k refl)
+
+pub served-accepted : (s : State) (row page : ℕ) (mode : Mode) → isRefused (served s row page mode .answer) ≡ false
+unfolding waiting word
+served-accepted s row page mode = go (served s row page mode) (serving s row page mode)
+  where
+    go : (o : Outcome) → Serving s row page mode o → isRefused (o .answer) ≡ false
+    go o (waits slot e v w q) = rw q refl
+    go o (waits-g e n q) = rw q refl
+    go o (joins slot arrival some e n q) = rw q (granted-accepted _ _ _ _ _ _)
+    go o (fills slot e n q) = rw q (granted-accepted _ _ _ _ _ _)
+
+-- the outcome is refused and leaves the state, or is not refused
+abbrev Still : State → Outcome → Type 0
+Still s o = isRefused (o .answer) ≡ true → o .state ≡ s
+
+by-refusal : (n : ℕ) (s : State) (o : Outcome) → Still s o → Still s (unless n s o)
+by-refusal n s o h = unless-is (Still s) n s o (λ k _. refl) (λ _. h)
+
+again-still : (s : State) (row : ℕ) (x : Condition) → Still s (servedAgain x s row)
+again-still s row Free e = refl
+again-still s row Idle e = refl
+again-still s row (Fetching due) e = refl
+again-still s row (Waiting page mode) e = true-false (sym e ∙ served-accepted s row page mode)
+again-still s row (Killed cause) e = refl
+
+pub refused-still : (s : State) (c : Call) → isRefused (outcome s c .answer) ≡ true → outcome s c .state ≡ s
+unfolding outcome started begun requested retried unpinned ended ticked word
+refused-still s (Start slots delay) = by-refusal (startRefusal slots delay) s _ (λ e. true-false (sym e))
+refused-still s (Begin level number deadline) = by-refusal (beginRefusal s level number deadline) s _ (λ e. true-false (sym e))
+refused-still s (Request level number page mode) = by-refusal (requestRefusal s level number page mode) s _ (λ e. true-false (sym e ∙ served-accepted s (rowOf level number) page (modeOf mode)))
+refused-still s (Retry level number) = by-refusal (retryRefusal s level number) s _ (again-still s (rowOf level number) (rowAt s (rowOf level number) .condition))
+refused-still s (Unpin level number page) = by-refusal (unpinRefusal s level number page) s _ (λ e. true-false (sym e))
+refused-still s (End level number) = by-refusal (endRefusal s level number) s _ (λ e. true-false (sym e))
+refused-still s Tick = by-refusal (tickRefusal s) s _ (λ e. true-false (sym e))
+refused-still s (Look level number) = λ _. looked-still s level number
+refused-still s (View level page) = λ _. viewed-still s level page
+refused-still s (Count level) = λ _. counted-still s level
+
+-- ---- start
+
+start-accepted : (slots delay : ℕ) → 1 ≤ slots → slots ≤ 64 → 1 ≤ delay → delay ≤ 255 → startRefusal slots delay ≡ 0
+unfolding startRefusal
+start-accepted slots delay a b c d = rw (le-leb 1 slots a, le-leb slots 64 b, le-leb 1 delay c, le-leb delay 255 d)
+
+-- a start is refused or answered started
+pub start-answer : (a : List ℕ) (slots delay : ℕ) → isRefused (answerOn a (Start slots delay)) ≡ false → (startRefusal slots delay ≡ 0) × (answerOn a (Start slots delay) ≡ Started)
+unfolding outcome started word
+start-answer a slots delay e =
+    let f = fit-answer a (Start slots delay) (accepted-fit a (Start slots delay) e) in
+    let x = go (startRefusal slots delay) (sym (ap isRefused f) ∙ e) in
+    (x .0, f ∙ x .1)
+  where
+    go : (n : ℕ) → isRefused (unless n (decoded a) (record { state = fresh slots delay; answer = Started }) .answer) ≡ false
+        → (n ≡ 0) × (unless n (decoded a) (record { state = fresh slots delay; answer = Started }) .answer ≡ Started)
+    go zero k = (refl, refl)
+    go (suc n) k = true-false k
+
+-- start is answered started only where the area is long enough and its numbers are in range
+pub start-only : (a : List ℕ) (slots delay : ℕ) → answerOn a (Start slots delay) ≡ Started → (65536 ≤ length a) × StartTaken slots delay
+unfolding word
+start-only a slots delay e =
+    (fit-long a (Start slots delay) (accepted-fit a (Start slots delay) (rw e)), start-taken slots delay (start-answer a slots delay (rw e) .0))
+
+-- any other answer that is no refusal is given on sound areas alone
+pub other-sound : (a : List ℕ) (c : Call) (x : Answer) → answerOn a c ≡ x → isRefused x ≡ false → (x ≡ Started → ⊥) → soundArea a ≡ true
+other-sound a c x e r n =
+    start-or-other (λ d. answerOn a d ≡ x → soundArea a ≡ true) c
+    (λ slots delay k. absurd (n (sym k ∙ start-answer a slots delay (rw k r) .1)))
+    (λ o k. accepted-sound a c o (rw k r))
+    e
+
+-- ---- calls
+
+-- the area that an accepted call leaves, where the next state's numbers fit
+accepted-area : (a : List ℕ) (c : Call) → isRefused (answerOn a c) ≡ false → StateOk (outcome (decoded a) c .state) → sound (outcome (decoded a) c .state) ≡ true
+    → (decoded (areaAfter a c) ≡ outcome (decoded a) c .state) × (soundArea (areaAfter a c) ≡ true)
+unfolding areaAfter
+accepted-area a c e ok z =
+    let t = outcome (decoded a) c .state in
+    (rw e (decode-encode t ok (drop 65536 a)), rw e (encode-sound t ok (drop 65536 a) z))
+
+refused-area : (a : List ℕ) (c : Call) → isRefused (answerOn a c) ≡ true → soundArea a ≡ true → outcome (decoded a) c .state ≡ decoded a
+    → (decoded (areaAfter a c) ≡ outcome (decoded a) c .state) × (soundArea (areaAfter a c) ≡ true)
+unfolding areaAfter
+refused-area a c e z k = (rw e (sym k), rw e z)
+
+-- a call on a sound area
+pub step-on : (a : List ℕ) (c : Call) → soundArea a ≡ true → Fits c
+    → (answerOn a c ≡ outcome (decoded a) c .answer)
+    × (decoded (areaAfter a c) ≡ outcome (decoded a) c .state)
+    × (soundArea (areaAfter a c) ≡ true)
+step-on a c z f =
+    let w = fit-answer a c (sound-fit a c z) in
+    let x = go (isRefused (answerOn a c)) refl w in
+    (w, x .0, x .1)
+  where
+    go : (b : Bool) → isRefused (answerOn a c) ≡ b → answerOn a c ≡ outcome (decoded a) c .answer
+        → (decoded (areaAfter a c) ≡ outcome (decoded a) c .state) × (soundArea (areaAfter a c) ≡ true)
+    go true e w = refused-area a c e z (refused-still (decoded a) c (sym (ap isRefused w) ∙ e))
+    go false e w =
+        let s = sound-area a z .sound-state in
+        let t = kept-sound (decoded a) c s in
+        accepted-area a c e (sound-ok (outcome (decoded a) c .state) t (kept-narrow (decoded a) c s f (decoded-deadline a))) t
+
+-- a start on any area that is long enough
+pub start-on : (a : List ℕ) (slots delay : ℕ) → 65536 ≤ length a → 1 ≤ slots → slots ≤ 64 → 1 ≤ delay → delay ≤ 255
+    → (answerOn a (Start slots delay) ≡ Started)
+    × (decoded (areaAfter a (Start slots delay)) ≡ fresh slots delay)
+    × (soundArea (areaAfter a (Start slots delay)) ≡ true)
+unfolding unfit outcome started word
+start-on a slots delay n h i j k =
+    let r = start-accepted slots delay h i j k in
+    let o : outcome (decoded a) (Start slots delay) ≡ record { state = fresh slots delay; answer = Started } = rw r in
+    let w : answerOn a (Start slots delay) ≡ Started = fit-answer a (Start slots delay) (le-ltb (length a) 65536 n) ∙ rw o in
+    let z = fresh-sound slots delay h i j k in
+    let x = accepted-area a (Start slots delay) (rw w) (rw o (sound-ok (fresh slots delay) z (fresh-narrow slots delay))) (rw o z) in
+    (w, x .0 ∙ rw o, x .1)
+
+-- its bytes are those of the fresh state, whatever the area held before
+pub start-bytes : (a : List ℕ) (slots delay : ℕ) → answerOn a (Start slots delay) ≡ Started → areaAfter a (Start slots delay) ≡ encoded (fresh slots delay) ++ drop 65536 a
+unfolding areaAfter outcome started word
+start-bytes a slots delay e =
+    let t = start-only a slots delay e .1 in
+    let r = start-accepted slots delay (t .slots-least) (t .slots-most) (t .delay-least) (t .delay-most) in
+    rw (e, r)
+
+-- ---- lists of calls
+
+-- every list of calls leaves a sound area sound
+pub run-sound-on : (cs : List Call) (a : List ℕ) → soundArea a ≡ true → AllFit cs → soundArea (areaAfterAll a cs) ≡ true
+unfolding areaAfterAll
+run-sound-on [] a z f = z
+run-sound-on (c ∷ cs) a z f = run-sound-on cs (areaAfter a c) (step-on a c z (f .0) .2) (f .1)
+
+-- so every area that a list of calls leaves from an accepted start on, whatever the area held before, is sound
+pub started-sound-on : (a : List ℕ) (slots delay : ℕ) (cs : List Call) → answerOn a (Start slots delay) ≡ Started → AllFit cs
+    → soundArea (areaAfterAll a (Start slots delay ∷ cs)) ≡ true
+unfolding areaAfterAll
+started-sound-on a slots delay cs e =
+    let t = start-only a slots delay e in
+    run-sound-on cs (areaAfter a (Start slots delay)) (start-on a slots delay (t .0) (t .1 .slots-least) (t .1 .slots-most) (t .1 .delay-least) (t .1 .delay-most) .2)

@@ -1,0 +1,3 @@
+pub mod SlotWords
+pub mod Runs
+pub mod RefusalTable

@@ -1,0 +1,11 @@
+pub mod ChoiceSteps
+pub mod ChoiceRank
+pub mod ChoiceOpen
+pub mod ChoiceOrder
+pub mod ChoicePages
+pub mod ChoiceSame
+pub mod IntoGain
+pub mod IntoGrant
+pub mod IntoFill
+pub mod IntoOpen
+pub mod IntoSame

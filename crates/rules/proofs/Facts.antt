@@ -1,0 +1,2 @@
+pub mod SoundFacts
+pub mod SoundBack

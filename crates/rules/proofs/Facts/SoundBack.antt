@@ -1,0 +1,121 @@
+-- From the facts back to the test: a state of which they hold is sound.
+use mathlib.Core.Path.{_≡_, refl, sym}
+use mathlib.Core.Bool.{Bool, true, false, _&&_, _||_, not}
+use Prim.Native.Nat.{ℕ, _+_, _<_, _≤_}
+use native.Mathlib.Omega.{arith}
+use borrow.Author.Tests.{lt-ltb, le-leb, eq-eqb, lt-leb}
+use lib.Dec.{leb, ltb}
+use lib.ListN.{length}
+use Rattle.seq.specs.Below.{allBelow, countBelow}
+use Rattle.seq.proofs.Tests.{and-true, both-true, not-true-false, or-true-right}
+use Rattle.seq.proofs.BelowLaws.{each-all, one-count, each-pairs}
+use Rattle.model.specs.declared.Condition.{Condition}
+use Rattle.model.specs.declared.Condition.the-variants.{Free, Idle, Fetching, Waiting, Killed}
+use Rattle.model.specs.declared.Content.{Content}
+use Rattle.model.specs.declared.Content.the-variants.{Empty, Filled}
+use Rattle.model.specs.declared.State.{State}
+use Rattle.model.specs.Parties.{levelOf, lastClock, isPast}
+use Rattle.model.specs.State.{rowAt, slotAt, holdingAt}
+use Rattle.model.specs.Words.{isFilled, pageIn, arrivalIn, lowestIn, hasPage, holds, conflict}
+use Rattle.model.proofs.ContentLaws.{page-has}
+use Rattle.rules.specs.Sound.{soundNumbers, arrived, awaits, soundContent, soundSlot, samePage, soundPages, soundCondition, soundRow, soundHolding, soundPins, sound}
+use Rattle.rules.proofs.Facts.SoundFacts.{SlotSound, Settled, RowSound, Sound}
+
+false-not : (b : Bool) → b ≡ false → not b ≡ true
+false-not b e = rw e
+
+slot-back : (s : State) (i : ℕ) → SlotSound s i → soundSlot s i ≡ true
+unfolding soundSlot
+slot-back s i h = both-true (go (slotAt s i .content) refl) (last (isFilled (slotAt s i .content)) refl)
+  where
+    go : (c : Content) → slotAt s i .content ≡ c → soundContent s (slotAt s i .content) (slotAt s i .touch) ≡ true
+    go Empty e = rw e (eq-eqb (slotAt s i .touch) 0 (h .empty (rw e)))
+    go (Filled p a x l) e =
+        rw e (both-true (both-true (both-true
+        (le-leb p 4095 (rw e at (h .page (rw e))))
+        (le-leb l 3 (rw e at (h .lowest (rw e)))))
+        (le-leb (slotAt s i .touch) (s .clock) (h .touch)))
+        (le-leb a (s .clock + s .delay) (rw e at (h .arrival (rw e)))))
+
+    last : (b : Bool) → isFilled (slotAt s i .content) ≡ b → ltb i (s .size) || not (isFilled (slotAt s i .content)) ≡ true
+    last true e = rw (lt-ltb i (s .size) (h .started e))
+    last false e = or-true-right (ltb i (s .size)) (not (isFilled (slotAt s i .content))) (rw e)
+
+pages-back : (s : State) → Sound s → soundPages s ≡ true
+unfolding soundPages samePage
+pages-back s h =
+    each-pairs (λ slot other. not (isFilled (slotAt s slot .content) && hasPage (pageIn (slotAt s slot .content)) (slotAt s other .content))) 64
+    (λ i j a b. false-not (isFilled (slotAt s i .content) && hasPage (pageIn (slotAt s i .content)) (slotAt s j .content))
+    (not-true-false (isFilled (slotAt s i .content) && hasPage (pageIn (slotAt s i .content)) (slotAt s j .content)) (λ e.
+    let f = and-true (isFilled (slotAt s i .content)) (hasPage (pageIn (slotAt s i .content)) (slotAt s j .content)) e in
+    let g = page-has (pageIn (slotAt s i .content)) (slotAt s j .content) (f .1) in
+    omega (arith, h .one-slot i j a (omega arith) (f .0) (g .0) (sym (g .1))))))
+
+arrived-back : (s : State) (i r : ℕ) → (holds s i r ≡ true → holdingAt s i r .arrival ≤ s .clock) → arrived s i r ≡ true
+unfolding arrived
+arrived-back s i r h = go (holds s i r) refl
+  where
+    go : (b : Bool) → holds s i r ≡ b → not (holds s i r) || leb (holdingAt s i r .arrival) (s .clock) ≡ true
+    go true e = rw e (le-leb (holdingAt s i r .arrival) (s .clock) (h e))
+    go false e = rw e
+
+settled-back : (s : State) (r d : ℕ) → Settled s r d → not (isPast (s .clock) d) && allBelow 64 (λ slot. arrived s slot r) ≡ true
+settled-back s r d h =
+    both-true (false-not (isPast (s .clock) d) (lt-leb d (s .clock) (h .deadline)))
+    (each-all (λ slot. arrived s slot r) 64 (λ i b. arrived-back s i r (h .arrived i b)))
+
+row-back : (s : State) (r : ℕ) (c : Condition) (d : ℕ) → RowSound s r c d → soundCondition s r c d ≡ true
+row-back s r Free d h = eq-eqb d 0 h
+row-back s r (Killed cause) d h = eq-eqb d 0 h
+row-back s r Idle d h = settled-back s r d h
+row-back s r (Fetching due) d h =
+    both-true (both-true (both-true
+    (false-not (isPast (s .clock) d) (lt-leb d (s .clock) (h .deadline)))
+    (lt-ltb (s .clock) due (h .due)))
+    (eq-eqb (countBelow 64 (awaits s r due)) 1 (one-count (awaits s r due) 64 (h .one))))
+    (each-all (λ slot. arrived s slot r || awaits s r due slot) 64 (λ i b. go i b (awaits s r due i) refl))
+  where
+    go : (i : ℕ) → i < 64 → (b : Bool) → awaits s r due i ≡ b → arrived s i r || awaits s r due i ≡ true
+    go i b true e = or-true-right (arrived s i r) (awaits s r due i) e
+    go i b false e = rw (arrived-back s i r (λ w. h .others i b w e))
+row-back s r (Waiting page mode) d h =
+    both-true (both-true (settled-back s r d (h .0)) (le-leb page 4095 (h .1))) (h .2)
+
+holding-back : (s : State) (i r : ℕ) → i < 64 → r < 32 → Sound s → soundHolding s i r ≡ true
+unfolding soundHolding
+holding-back s i r a b h = go (holds s i r) refl
+  where
+    go : (x : Bool) → holds s i r ≡ x → soundHolding s i r ≡ true
+    go true e =
+        let k = h .held i r a b e in
+        rw e (both-true (both-true (both-true (both-true (both-true (both-true (k .live) (k .filled)) (k .allowed))
+        (le-leb (arrivalIn (slotAt s i .content)) (holdingAt s i r .arrival) (k .after)))
+        (le-leb (holdingAt s i r .arrival) (s .clock + s .delay) (k .arrival)))
+        (le-leb (holdingAt s i r .touch) (slotAt s i .touch) (k .touch)))
+        (le-leb (lowestIn (slotAt s i .content)) (levelOf r) (k .lowest)))
+    go false e = let k = h .unheld i r a b e in rw k
+
+pins-back : (s : State) (i : ℕ) → i < 64 → Sound s → soundPins s i ≡ true
+unfolding soundPins
+pins-back s i a h =
+    each-pairs (λ row other. not (conflict (holdingAt s i row .pin) (holdingAt s i other .pin))) 32
+    (λ r q b c. false-not (conflict (holdingAt s i r .pin) (holdingAt s i q .pin)) (h .no-conflict i r q a b (omega arith) (λ e. omega arith)))
+
+pub back : (s : State) → Sound s → sound s ≡ true
+unfolding sound soundNumbers soundRow
+back s h =
+    both-true (both-true (both-true (both-true (both-true
+    (both-true (both-true (both-true (both-true (both-true (both-true (both-true
+    (eq-eqb (length (s .rows)) 32 (h .sized .rows))
+    (eq-eqb (length (s .slots)) 64 (h .sized .slots)))
+    (eq-eqb (length (s .holdings)) 2048 (h .sized .holdings)))
+    (le-leb 1 (s .size) (h .size-least)))
+    (le-leb (s .size) 64 (h .size-most)))
+    (le-leb 1 (s .delay) (h .delay-least)))
+    (le-leb (s .delay) 255 (h .delay-most)))
+    (le-leb (s .clock) lastClock (h .clock-most)))
+    (each-all (soundSlot s) 64 (λ i b. slot-back s i (h .slot i b))))
+    (pages-back s h))
+    (each-all (soundRow s) 32 (λ r b. row-back s r (rowAt s r .condition) (rowAt s r .deadline) (h .row r b))))
+    (each-all (λ slot. allBelow 32 (soundHolding s slot)) 64 (λ i a. each-all (soundHolding s i) 32 (λ r b. holding-back s i r a b h))))
+    (each-all (soundPins s) 64 (λ i a. pins-back s i a h))

@@ -1,0 +1,14 @@
+pub mod KeptFresh
+pub mod KeptBase
+pub mod KeptChange
+pub mod KeptRows
+pub mod KeptDrop
+pub mod KeptOwn
+pub mod KeptTick
+pub mod KeptNew
+pub mod KeptGrant
+pub mod KeptFill
+pub mod KeptChoice
+pub mod KeptTaken
+pub mod KeptServe
+pub mod Kept

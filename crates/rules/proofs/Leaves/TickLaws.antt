@@ -1,0 +1,56 @@
+-- What a tick leaves at each row, slot and holding.
+use mathlib.Core.Path.{_≡_, refl, sym, _∙_, ap}
+use mathlib.Core.Bool.{Bool, true, false, cond}
+use Prim.Native.Nat.{ℕ, _+_, _<_, _≤_}
+use borrow.Author.Tests.{leb-true}
+use lib.Dec.{leb}
+use Rattle.seq.proofs.Tests.{true-false}
+use Rattle.seq.proofs.EachLaws.{each-at, each-length}
+use Rattle.model.specs.declared.Cause.the-variants.{Late}
+use Rattle.model.specs.declared.Condition.the-variants.{Idle, Fetching}
+use Rattle.model.specs.declared.Row.{Row}
+use Rattle.model.specs.declared.State.{State}
+use Rattle.model.specs.State.{freeRow, emptyHolding, rowAt, slotAt, holdingAt}
+use Rattle.model.specs.Changes.{dirtied, killedRow, wroteSlot}
+use Rattle.model.proofs.StateLaws.{Sized}
+use Rattle.model.proofs.ChangeLaws.{killed-row, killed-slot, killed-holding, killed-clock}
+use Rattle.rules.specs.Calls.{deliveredRow, deliveredRows, isLate, lateKilled, advanced}
+
+-- the clock and the rows before the late ones are killed
+abbrev pub later : State → State
+later s = deliveredRows (advanced s)
+
+module _ (s : State) (z : Sized s) where
+  pub sized-later : Sized (later s)
+  unfolding deliveredRows advanced
+  sized-later = record { rows = each-length _ (s .rows) ∙ z .rows; slots = z .slots; holdings = z .holdings }
+
+  pub later-row : (row : ℕ) → row < 32 → rowAt (later s) row ≡ deliveredRow (s .clock + 1) (rowAt s row)
+  unfolding deliveredRows advanced
+  later-row row b = each-at (λ _ x. deliveredRow (s .clock + 1) x) (s .rows) row freeRow (rw (z .rows) b)
+
+  pub ticked-row : (row : ℕ) → row < 32 → rowAt (lateKilled (later s)) row ≡ cond (isLate (later s) row) (killedRow Late) (deliveredRow (s .clock + 1) (rowAt s row))
+  unfolding lateKilled
+  ticked-row row b = killed-row (isLate (later s)) (later s) sized-later Late row b ∙ rw (later-row row b)
+
+  pub ticked-slot : (slot : ℕ) → slot < 64 → slotAt (lateKilled (later s)) slot ≡ cond (wroteSlot (isLate (later s)) (later s) slot) (dirtied (slotAt s slot)) (slotAt s slot)
+  unfolding lateKilled deliveredRows advanced
+  ticked-slot slot b = killed-slot (isLate (later s)) (later s) sized-later Late slot b
+
+  pub ticked-holding : (slot row : ℕ) → row < 32 → holdingAt (lateKilled (later s)) slot row ≡ cond (isLate (later s) row) emptyHolding (holdingAt s slot row)
+  unfolding lateKilled deliveredRows advanced
+  ticked-holding slot row b = killed-holding (isLate (later s)) (later s) sized-later Late slot row b
+
+  pub ticked-clock : lateKilled (later s) .clock ≡ s .clock + 1
+  unfolding lateKilled deliveredRows advanced
+  ticked-clock = killed-clock (isLate (later s)) Late (later s)
+
+  -- a row that was fetching becomes idle when its tick is reached
+  pub ticked-idle : (row due : ℕ) → row < 32 → rowAt s row .condition ≡ Fetching due → rowAt (lateKilled (later s)) row .condition ≡ Idle → due ≤ s .clock + 1
+  unfolding deliveredRow
+  ticked-idle row due b f e = go (isLate (later s) row) (leb due (s .clock + 1)) refl (sym (ap (λ (x : Row). x .condition) (ticked-row row b)) ∙ e)
+    where
+      go : (late reached : Bool) → leb due (s .clock + 1) ≡ reached → cond late (killedRow Late) (deliveredRow (s .clock + 1) (rowAt s row)) .condition ≡ Idle → due ≤ s .clock + 1
+      go true r q k = true-false (cc)
+      go false true q k = leb-true due (s .clock + 1) q
+      go false false q k = let n : Fetching due ≡ Idle = rw (f, q) at k in true-false (cc)

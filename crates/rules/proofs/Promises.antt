@@ -1,0 +1,12 @@
+pub mod OneSlot
+pub mod CallCases
+pub mod Serving
+pub mod GrantBooks
+pub mod Granting
+pub mod WaitFetch
+pub mod Arrived
+pub mod MayUse
+pub mod Drops
+pub mod Booking
+pub mod LetsGo
+pub mod Widths

@@ -1,0 +1,74 @@
+-- What is told to be ready or idle has arrived.
+use mathlib.Core.Path.{_≡_, refl, ap}
+use mathlib.Core.Bool.{true}
+use Prim.Native.Nat.{ℕ, zero, suc, _+_, _<_, _≤_}
+use native.Mathlib.Omega.{arith}
+use Rattle.seq.proofs.Tests.{true-false}
+use Rattle.model.specs.declared.Answer.the-variants.{Ready, Clock}
+use Rattle.model.specs.declared.Back.{Back}
+use Rattle.model.specs.declared.Condition.the-variants.{Idle, Fetching}
+use Rattle.model.specs.declared.Mode.{Mode}
+use Rattle.model.specs.declared.Pin.{Pin}
+use Rattle.model.specs.declared.Pin.the-variants.{Absent, Unpinned, Read, Write}
+use Rattle.model.specs.declared.Mode.the-variants as Mode
+use Rattle.model.specs.declared.State.{State}
+use Rattle.model.specs.State.{rowAt, holdingAt}
+use Rattle.model.specs.Words.{isHeld, pinOf, strength}
+use Rattle.rules.specs.Sound.{sound}
+use Rattle.rules.specs.Refusals.{tickRefusal}
+use Rattle.rules.specs.Calls.{unless, lateKilled, ticked}
+use Rattle.model.specs.declared.Call.{Call}
+use Rattle.model.specs.declared.Call.the-variants.{Tick}
+use Rattle.rules.specs.Run.{outcome}
+use Rattle.rules.specs.Requests.{Asks}
+use Rattle.rules.specs.Arrivals.{AllArrived, PinnedAndArrived}
+use Rattle.rules.proofs.Facts.SoundFacts.{Sound, facts}
+use Rattle.rules.proofs.Leaves.TickLaws.{later, ticked-clock, ticked-idle}
+use Rattle.rules.proofs.Keeping.Kept.{kept-sound}
+use Rattle.rules.proofs.Promises.CallCases.{isServed}
+use Rattle.rules.proofs.Promises.Granting.{grant-ready}
+use Rattle.rules.proofs.Promises.WaitFetch.{granted-alone}
+
+pub idle-arrived : (s : State) → Sound s → (row : ℕ) → row < 32 → rowAt s row .condition ≡ Idle → AllArrived s row
+idle-arrived s z row b e slot i h =
+    let a = (rw e at (z .row row b)) .arrived slot i h in
+    (a, omega (arith, z .held slot row i b h .after))
+
+strength-held : (mode : Mode) (p : Pin) → strength (pinOf mode) ≤ strength p → isHeld p ≡ true
+strength-held Mode.Read Absent h = absurd (omega arith)
+strength-held Mode.Write Absent h = absurd (omega arith)
+strength-held mode Unpinned h = refl
+strength-held mode Read h = refl
+strength-held mode Write h = refl
+
+-- ready comes only to a request or retry; then the row pins the page asked for, which has arrived, and so has every holding of the row
+pub ready-arrived : (s : State) → sound s ≡ true → (c : Call) (slot : ℕ) (back : Back) → outcome s c .answer ≡ Ready slot back
+    → (row : ℕ) × (page : ℕ) × (mode : Mode) × Asks s c row page mode × PinnedAndArrived (outcome s c .state) row page mode slot × AllArrived (outcome s c .state) row
+ready-arrived s z c slot back w =
+    let x = granted-alone s z c (ap isServed w) (λ e. let n : _≡_ {A = ℕ} 0 1 = cc in omega arith) in
+    let row = x .0 in
+    let page = x .1 in
+    let mode = x .2 in
+    let y = grant-ready s row page mode (x .4) (outcome s c) (x .5) slot back w in
+    let t = facts (outcome s c .state) (kept-sound s c z) in
+    let all = idle-arrived (outcome s c .state) t row (x .4) (y .1) in
+    let h = strength-held mode (holdingAt (outcome s c .state) slot row .pin) (y .3) in
+    let a = all slot (y .0) h in (
+      row,
+      page,
+      mode,
+      x .3,
+      record { slot-is = y .0; has-it = y .2; pinned = y .3; holding-arrived = a .0; slot-arrived = a .1 },
+      all,
+    )
+
+-- a row that was fetching and is idle after a tick has reached its due tick, and every holding of it has arrived
+pub tick-arrived : (s : State) → sound s ≡ true → (row due : ℕ) → row < 32 → rowAt s row .condition ≡ Fetching due → rowAt (outcome s Tick .state) row .condition ≡ Idle
+    → (due ≤ outcome s Tick .state .clock) × AllArrived (outcome s Tick .state) row
+unfolding outcome ticked
+tick-arrived s z row due b f e = (go (tickRefusal s) e, idle-arrived (outcome s Tick .state) (facts (outcome s Tick .state) (kept-sound s Tick z)) row b e)
+  where
+    go : (n : ℕ) → rowAt (unless n s (record { state = lateKilled (later s); answer = Clock (s .clock + 1) }) .state) row .condition ≡ Idle
+        → due ≤ unless n s (record { state = lateKilled (later s); answer = Clock (s .clock + 1) }) .state .clock
+    go zero k = rw (ticked-clock s (facts s z .sized)) (ticked-idle s (facts s z .sized) row due b f k)
+    go (suc n) k = true-false (cc)

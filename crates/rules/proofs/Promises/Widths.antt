@@ -1,0 +1,153 @@
+-- Every number of a sound state fits its word where the deadlines fit 32 bits, and they stay so under calls whose numbers do.
+use mathlib.Core.Path.{_≡_, refl}
+use mathlib.Core.Bool.{Bool, true, false, cond}
+use mathlib.Core.List.{List}
+use Prim.Native.Nat.{ℕ, _+_, _*_, _/_, _%_, _<_, _≤_, _^_}
+use native.Mathlib.Omega.{arith}
+use native.Mathlib.Decide.{decLt}
+use borrow.Author.Tests.{eqb-true}
+use lib.Dec.{eqb}
+use lib.ListN.{length, getD, List·getD-eq-default}
+use Rattle.seq.proofs.Tests.{and-true}
+use Rattle.model.specs.declared.Back.{Back}
+use Rattle.model.specs.declared.Cause.{Cause}
+use Rattle.model.specs.declared.Cause.the-variants.{Late, Taken}
+use Rattle.model.specs.declared.Condition.{Condition}
+use Rattle.model.specs.declared.Condition.the-variants.{Free, Idle, Fetching, Waiting, Killed}
+use Rattle.model.specs.declared.Content.{Content}
+use Rattle.model.specs.declared.Content.the-variants.{Empty, Filled}
+use Rattle.model.specs.declared.Mode.{Mode}
+use Rattle.model.specs.declared.Outcome.{Outcome}
+use Rattle.model.specs.declared.Row.{Row}
+use Rattle.model.specs.declared.State.{State}
+use Rattle.model.specs.Parties.{rowOf, levelOf}
+use Rattle.model.specs.State.{freeRow, emptySlot, emptyHolding, fresh, rowAt, slotAt, holdingAt}
+use Rattle.model.specs.Words.{holds, pins}
+use Rattle.model.specs.Changes.{killedRow, released, killed, cleared}
+use Rattle.model.proofs.StateLaws.{Sized, row-put, fresh-row}
+use Rattle.model.proofs.ChangeLaws.{killed-row, sized-released}
+use Rattle.model.proofs.PinLaws.{pin-held}
+use Rattle.model.proofs.Ranges.{ConditionOk, ContentOk, HoldingOk, RowOk, SlotOk, StateOk}
+use Rattle.rules.specs.Sound.{awaits, sound}
+use Rattle.rules.specs.Calls.{unpinnedAt, deliveredRow, isLate, waiting, granted, pinnersKilled, filled}
+use Rattle.model.specs.declared.Call.{Call}
+use Rattle.rules.specs.Run.{Narrow, outcome}
+use Rattle.rules.specs.Content.{Fits}
+use Rattle.rules.proofs.Facts.SoundFacts.{Sound, Awaiting, RowSound, facts}
+use Rattle.rules.proofs.Leaves.GrantLaws.{grantedRow, granted-row}
+use Rattle.rules.proofs.Leaves.TickLaws.{later, ticked-row}
+use Rattle.rules.proofs.Promises.Serving.{Serving, waits, waits-g, joins, fills, serving}
+use Rattle.rules.proofs.Keeping.Kept.{kept-sound}
+use Rattle.rules.proofs.Keeping.KeptChoice.{chosen-free}
+use Rattle.rules.proofs.Promises.CallCases.{Effect, stays, starts, begins, unpins, ends, ticks, serves, effect}
+use Rattle.rules.proofs.Promises.Granting.{killed-ground, filled-ground}
+
+-- what holds of each element of a list and of the default, holds at every place
+everywhere : {A : Type 0} (P : A → Type 0) (l : List A) (d : A) (n : ℕ) → length l ≡ n → P d → ((i : ℕ) → i < n → P (getD l i d)) → (i : ℕ) → P (getD l i d)
+everywhere P l d n e z f i = elim (decLt i n) [
+  | yes h ↦ f i h
+  | no h ↦ rw (List·getD-eq-default l d {n = i} (omega arith)) z
+]
+
+-- ---- the deadlines
+
+pub fresh-narrow : (slots delay : ℕ) → Narrow (fresh slots delay)
+fresh-narrow slots delay row = rw (fresh-row slots delay row) (omega arith)
+
+either : (b : Bool) (x y : Row) → x .deadline < 2 ^ 32 → y .deadline < 2 ^ 32 → cond b x y .deadline < 2 ^ 32
+either true x y h k = h
+either false x y h k = k
+
+module _ (s : State) (z : Sound s) (narrow : Narrow s) (q : ℕ) (b : q < 32) where
+  killed-narrow : (some : ℕ → Bool) (cause : Cause) (r : ℕ) → r < 32 → rowAt (killed some cause s) r .deadline < 2 ^ 32
+  killed-narrow some cause r h = rw (killed-row some s (z .sized) cause r h) (either (some r) (killedRow cause) (rowAt s r) (omega arith) (narrow r))
+
+  -- a grant on a state with the rows that a kill left
+  granted-narrow : (some : ℕ → Bool) (u : State) → Sized u → ((r : ℕ) → rowAt u r ≡ rowAt (killed some Taken s) r)
+      → (row slot : ℕ) → row < 32 → slot < 64 → (mode : Mode) (arrival : ℕ) (back : Back) → rowAt (granted u row slot mode arrival back .state) q .deadline < 2 ^ 32
+  granted-narrow some u y same row slot r i mode arrival back =
+      rw (granted-row u y row slot r i mode arrival back q)
+      (either (eqb q row) (grantedRow u row arrival) (rowAt u q) (rw (same row) (killed-narrow some Taken row r)) (rw (same q) (killed-narrow some Taken q b)))
+
+  served-narrow : (row page : ℕ) (mode : Mode) → row < 32 → (o : Outcome) → Serving s row page mode o → rowAt (o .state) q .deadline < 2 ^ 32
+  unfolding waiting filled cleared pinnersKilled
+  served-narrow row page mode r o (waits slot e v w k) = rw (k, row-put s (z .sized) row _ q r) (either (eqb q row) _ (rowAt s q) (narrow row) (narrow q))
+  served-narrow row page mode r o (waits-g e n k) = rw (k, row-put s (z .sized) row _ q r) (either (eqb q row) _ (rowAt s q) (narrow row) (narrow q))
+  served-narrow row page mode r o (joins slot arrival some e n k) =
+      let g = killed-ground s z some page slot e in
+      rw k (granted-narrow some _ (g .sized) (λ _. refl) row slot r (g .slot-is) mode arrival _)
+  served-narrow row page mode r o (fills slot e n k) =
+      let g = filled-ground s z page slot (levelOf row) (chosen-free s row r z slot n .0) in
+      rw k (granted-narrow _ _ (g .sized) (λ _. refl) row slot r (g .slot-is) mode _ _)
+
+  call-narrow : (c : Call) → Fits c → (o : Outcome) → Effect s c o → rowAt (o .state) q .deadline < 2 ^ 32
+  unfolding unpinnedAt deliveredRow released
+  call-narrow c f o (stays a x e) = rw e (narrow q)
+  call-narrow c f o (starts slots delay x e) = rw e (fresh-narrow slots delay q)
+  call-narrow c f o (begins level number deadline k r e) =
+      rw (e, row-put s (z .sized) (rowOf level number) _ q r) (either (eqb q (rowOf level number)) _ (rowAt s q) ((rw k at f) .deadline) (narrow q))
+  call-narrow c f o (unpins row slot r i e) = rw e (narrow q)
+  call-narrow c f o (ends row r e) =
+      rw (e, row-put (released (eqb row) s) (sized-released (eqb row) s (z .sized)) row freeRow q r) (either (eqb q row) freeRow (rowAt s q) (omega arith) (narrow q))
+  call-narrow c f o (ticks e) =
+      rw (e, ticked-row s (z .sized) q b) (either (isLate (later s) q) (killedRow Late) (deliveredRow (s .clock + 1) (rowAt s q)) (omega arith) (narrow q))
+  call-narrow c f o (serves row page mode r a e) = served-narrow row page mode r o (rw (← e) at (serving s row page mode))
+
+pub kept-narrow : (s : State) (c : Call) → sound s ≡ true → Fits c → Narrow s → Narrow (outcome s c .state)
+kept-narrow s c z f narrow =
+    everywhere (λ x. x .deadline < 2 ^ 32) (outcome s c .state .rows) freeRow 32 (facts (outcome s c .state) (kept-sound s c z) .sized .rows) (omega arith)
+    (λ row b. call-narrow s (facts s z) narrow row b c f (outcome s c) (effect s (facts s z) c))
+
+-- ---- the other numbers
+
+module _ (s : State) (z : Sound s) where
+  -- a fetching row's due tick is the arrival of one of its holdings
+  due-fits : (row due deadline : ℕ) → row < 32 → Awaiting s row due deadline → due < 2 ^ 32
+  unfolding awaits
+  due-fits row due deadline b h =
+      let slot = h .one .at in
+      let w = and-true (pins s slot row) (eqb (holdingAt s slot row .arrival) due) (h .one .passes) in
+      omega (arith, eqb-true (holdingAt s slot row .arrival) due (w .1), z .held slot row (h .one .below) b (pin-held (holdingAt s slot row .pin) (w .0)) .arrival, z .clock-most, z .delay-most)
+
+  condition-fits : (row : ℕ) → row < 32 → (c : Condition) (deadline : ℕ) → RowSound s row c deadline → ConditionOk c
+  condition-fits row b Free deadline h = tt
+  condition-fits row b Idle deadline h = tt
+  condition-fits row b (Fetching due) deadline h = due-fits row due deadline b h
+  condition-fits row b (Waiting page mode) deadline h = omega (arith, h .1)
+  condition-fits row b (Killed cause) deadline h = tt
+
+  content-fits : (slot : ℕ) → slot < 64 → (c : Content) → slotAt s slot .content ≡ c → ContentOk c
+  content-fits slot b Empty e = tt
+  content-fits slot b (Filled page arrival dirty lowest) e =
+      let k = z .slot slot b in
+      let p : page ≤ 4095 = rw e at (k .page (rw e)) in
+      let a : arrival ≤ s .clock + s .delay = rw e at (k .arrival (rw e)) in
+      let l : lowest ≤ 3 = rw e at (k .lowest (rw e)) in
+      (omega arith, omega (arith, z .clock-most, z .delay-most), omega arith)
+
+  holding-fits : (slot row : ℕ) → slot < 64 → row < 32 → HoldingOk (holdingAt s slot row)
+  holding-fits slot row b r = go (holds s slot row) refl
+    where
+      go : (v : Bool) → holds s slot row ≡ v → HoldingOk (holdingAt s slot row)
+      go true e =
+          let h = z .held slot row b r e in
+          record { arrival = omega (arith, h .arrival, z .clock-most, z .delay-most); touch = omega (arith, h .touch, z .slot slot b .touch, z .clock-most) }
+      go false e = rw (z .unheld slot row b r e) (record { arrival = omega arith; touch = omega arith })
+
+-- every number of the state fits its word
+pub sound-ok : (s : State) → sound s ≡ true → Narrow s → StateOk s
+sound-ok s e narrow = record {
+  size = omega (arith, z .size-most);
+  delay = omega (arith, z .delay-most);
+  clock = omega (arith, z .clock-most);
+  sized = z .sized;
+  row = everywhere RowOk (s .rows) freeRow 32 (z .sized .rows) (record { condition = tt; deadline = omega arith })
+      (λ i b. record { condition = condition-fits s z i b (rowAt s i .condition) (rowAt s i .deadline) (z .row i b); deadline = narrow i });
+  slot = everywhere SlotOk (s .slots) emptySlot 64 (z .sized .slots) (record { content = tt; touch = omega arith })
+      (λ i b. record { content = content-fits s z i b (slotAt s i .content) refl; touch = omega (arith, z .slot i b .touch, z .clock-most) });
+  holding = everywhere HoldingOk (s .holdings) emptyHolding 2048 (z .sized .holdings) (record { arrival = omega arith; touch = omega arith })
+      (λ k b. let n : k / 32 * 32 + k % 32 ≡ k = omega arith in rw n at (holding-fits s z (k / 32) (k % 32) (omega arith) (omega arith)));
+}
+  where
+    z : Sound s
+    z = facts s e

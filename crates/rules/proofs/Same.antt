@@ -1,0 +1,10 @@
+pub mod Alike
+pub mod AlikeLaws
+pub mod SamePages
+pub mod SameSlots
+pub mod SameChanges
+pub mod SameRefusals
+pub mod SameCalls
+pub mod SameUnpin
+pub mod SameServed
+pub mod SameStep

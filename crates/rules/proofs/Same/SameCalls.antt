@@ -1,0 +1,143 @@
+-- Begin, end, tick, look, view and count on two states alike for L, by a level up to L: the same answer, and alike states.
+use mathlib.Core.Path.{_≡_, refl, sym, _∙_, ap}
+use mathlib.Core.Bool.{Bool, false}
+use Prim.Native.Nat.{ℕ, _+_, _<_, _≤_}
+use native.Mathlib.Omega.{arith}
+use lib.Dec.{eqb}
+use Rattle.seq.specs.Below.{countBelow}
+use Rattle.seq.specs.declared.Found.{Found}
+use Rattle.seq.specs.declared.Found.the-variants.{At, Nowhere}
+use Rattle.model.specs.declared.Answer.the-variants.{Begun, Ended, Clock}
+use Rattle.model.specs.declared.Cause.the-variants.{Late}
+use Rattle.model.specs.declared.Condition.the-variants.{Idle}
+use Rattle.model.specs.declared.Holding.{Holding}
+use Rattle.model.specs.declared.Row.{Row}
+use Rattle.model.specs.declared.State.{State}
+use Rattle.model.specs.Parties.{rowOf, levelOf}
+use Rattle.model.specs.State.{freeRow, rowAt, putRow}
+use Rattle.model.specs.Words.{isHeld, seen, isOpen, slotOf}
+use Rattle.model.specs.Changes.{released}
+use Rattle.model.proofs.StateLaws.{Sized}
+use Rattle.model.proofs.ChangeLaws.{sized-released}
+use Rattle.model.proofs.SeenLaws.{no-dormant, none-seen}
+use Rattle.rules.specs.Answers.{told}
+use Rattle.rules.specs.Calls.{begun, ended, deliveredRows, isLate, lateKilled, advanced, ticked, looked, lookedAt, viewedIn, viewed, counted}
+use Rattle.rules.specs.Refusals.{beginRefusal, endRefusal, tickRefusal, lookRefusal, viewRefusal, countRefusal}
+use Rattle.rules.proofs.Facts.SoundFacts.{Sound}
+use Rattle.rules.proofs.Same.Alike.{holdingOn, Alike, Same}
+use Rattle.rules.proofs.Same.AlikeLaws.{alike-sym}
+use Rattle.rules.proofs.Leaves.PageLaws.{on-slot, on-nowhere}
+use Rattle.rules.proofs.Leaves.TickLaws.{later, sized-later, later-row}
+use Rattle.rules.proofs.Leaves.RefusalFacts.{begin-taken, end-taken, look-taken}
+use Rattle.rules.proofs.Same.SamePages.{same-seen, same-strongest, same-least, same-holding}
+use Rattle.rules.proofs.Same.SameChanges.{same-unless, same-put-row, same-killed, same-released}
+use Rattle.rules.proofs.Same.SameRefusals.{same-tick-refusal, own-row, same-begin-refusal, same-end-refusal}
+
+-- a page that the other state has in no slot is held by no row up to L
+unseen : (L : ℕ) (s t : State) → Alike L s t → (page i : ℕ) → slotOf s page ≡ At i → slotOf t page ≡ Nowhere → (level : ℕ) → level ≤ L → seen s level i ≡ false
+unseen L s t alike page i at-s at-t level up = none-seen s level i (λ r h l.
+    ap (λ (x : Holding). isHeld (x .pin)) (sym (on-slot s page i r at-s) ∙ alike .holding page r h (omega arith) ∙ on-nowhere t page r at-t))
+
+-- ---- tick
+
+same-delivered : (L : ℕ) (s t : State) → Sized s → Sized t → Alike L s t → Alike L (later s) (later t)
+unfolding deliveredRows advanced holdingOn slotOf
+same-delivered L s t y z a = record {
+  size = a .size;
+  delay = a .delay;
+  clock = ap (λ (n : ℕ). n + 1) (a .clock);
+  row = λ r h l. rw (later-row s y r h, later-row t z r h, a .row r h l, a .clock);
+  holding = a .holding;
+}
+
+same-late : (L : ℕ) (s t : State) → Alike L s t → (r : ℕ) → r < 32 → levelOf r ≤ L → isLate s r ≡ isLate t r
+unfolding isLate
+same-late L s t a r h l = rw (a .row r h l, a .clock)
+
+delivered-most : (s : State) → s .size ≤ 64 → later s .size ≤ 64
+unfolding deliveredRows advanced
+delivered-most s h = h
+
+module _ (L : ℕ) (s t : State) (y : Sound s) (z : Sound t) (alike : Alike L s t) where
+  pub same-ticked : Same L (ticked s) (ticked t)
+  unfolding ticked lateKilled
+  same-ticked =
+      same-unless L s t (tickRefusal s) (tickRefusal t)
+      (record { state = lateKilled (later s); answer = Clock (s .clock + 1) })
+      (record { state = lateKilled (later t); answer = Clock (t .clock + 1) })
+      alike (same-tick-refusal L s t alike)
+      (λ e.
+      let d = same-delivered L s t (y .sized) (z .sized) alike in (
+        rw (alike .clock),
+        same-killed L (later s) (later t) (sized-later s (y .sized)) (sized-later t (z .sized)) d
+            (delivered-most s (y .size-most)) (delivered-most t (z .size-most))
+            (isLate (later s)) (isLate (later t))
+            (same-late L (later s) (later t) d) Late,
+      ))
+
+  module _ (two : L ≤ 2) (level : ℕ) (low : level ≤ L) where
+    pub same-begun : (number deadline : ℕ) → Same L (begun s level number deadline) (begun t level number deadline)
+    unfolding begun
+    same-begun number deadline =
+        let x : Row = record { condition = Idle; deadline = deadline } in
+        same-unless L s t (beginRefusal s level number deadline) (beginRefusal t level number deadline)
+        (record { state = putRow s (rowOf level number) x; answer = Begun })
+        (record { state = putRow t (rowOf level number) x; answer = Begun })
+        alike (same-begin-refusal L s t alike two level number low deadline)
+        (λ e. (refl, same-put-row L s t (y .sized) (z .sized) alike (rowOf level number) x x (begin-taken s level number deadline e .names .row-is) refl))
+
+    pub same-ended : (number : ℕ) → Same L (ended s level number) (ended t level number)
+    unfolding ended
+    same-ended number =
+        let own : ℕ → Bool = eqb (rowOf level number) in
+        same-unless L s t (endRefusal s level number) (endRefusal t level number)
+        (record { state = putRow (released own s) (rowOf level number) freeRow; answer = Ended })
+        (record { state = putRow (released own t) (rowOf level number) freeRow; answer = Ended })
+        alike (same-end-refusal L s t alike two level number low)
+        (λ e. (
+          refl,
+          same-put-row L (released own s) (released own t) (sized-released own s (y .sized)) (sized-released own t (z .sized))
+              (same-released L s t (y .sized) (z .sized) alike (y .size-most) (z .size-most) own own (λ r h l. refl))
+              (rowOf level number) freeRow freeRow (end-taken s level number e .row-is) refl,
+        ))
+
+    pub same-looked : (number : ℕ) → Same L (lookedAt s level number) (lookedAt t level number)
+    unfolding lookedAt
+    same-looked number =
+        same-unless L s t (lookRefusal level number) (lookRefusal level number)
+        (record { state = s; answer = looked (rowAt s (rowOf level number) .condition) })
+        (record { state = t; answer = looked (rowAt t (rowOf level number) .condition) })
+        alike refl
+        (λ e. (ap (λ (x : Row). told (looked (x .condition))) (own-row L s t alike two level number low (look-taken level number e .number-is)), alike))
+
+    same-view : (page : ℕ) → viewedIn (slotOf s page) s level ≡ viewedIn (slotOf t page) t level
+    same-view page = go (slotOf s page) (slotOf t page) refl refl
+      where
+        both : (i j : ℕ) → slotOf s page ≡ At i → slotOf t page ≡ At j → viewedIn (At i) s level ≡ viewedIn (At j) t level
+        both i j at-s at-t =
+            let same = same-holding L s t alike page i j at-s at-t in
+            rw (
+              same-seen L s t alike i j same level low,
+              same-strongest L s t alike i j same level low,
+              same-least L s t alike i j same level low,
+              no-dormant s level i (omega arith),
+              no-dormant t level j (omega arith),
+            )
+
+        go : (f g : Found) → slotOf s page ≡ f → slotOf t page ≡ g → viewedIn (slotOf s page) s level ≡ viewedIn (slotOf t page) t level
+        go Nowhere Nowhere p q = rw (p, q)
+        go (At i) Nowhere p q = rw (p, q, unseen L s t alike page i p q level low, no-dormant s level i (omega arith))
+        go Nowhere (At j) p q = rw (p, q, unseen L t s (alike-sym alike) page j q p level low, no-dormant t level j (omega arith))
+        go (At i) (At j) p q = rw (p, q) (both i j p q)
+
+    pub same-viewed : (page : ℕ) → Same L (viewed s level page) (viewed t level page)
+    unfolding viewed
+    same-viewed page =
+        same-unless L s t (viewRefusal level page) (viewRefusal level page)
+        (record { state = s; answer = viewedIn (slotOf s page) s level })
+        (record { state = t; answer = viewedIn (slotOf t page) t level })
+        alike refl (λ e. (ap told (same-view page), alike))
+
+    pub same-counted : countBelow (s .size) (isOpen s level) ≡ countBelow (t .size) (isOpen t level) → Same L (counted s level) (counted t level)
+    unfolding counted
+    same-counted n = same-unless L s t (countRefusal level) (countRefusal level) _ _ alike refl (λ e. (cc, alike))

@@ -1,0 +1,3 @@
+pub mod StateRuns
+pub mod BlindRuns
+pub mod Blind

@@ -1,0 +1,66 @@
+-- Document 01, "The calls" and "Two runs side by side": a call's content, its kind and its numbers, and who makes it.
+-- Beside the area only the answer is lent, always four numbers long, so no length is part of the content.
+use mathlib.Core.Bool.{Bool, _&&_, _||_, not}
+use Prim.Native.Nat.{ℕ, _<_, _^_}
+use lib.Dec.{leb, eqb}
+use Rattle.model.specs.declared.Call.{Call}
+use Rattle.model.specs.declared.Call.the-variants.{Start, Begin, Request, Retry, Unpin, End, Tick, Look, View, Count}
+
+-- a call's kind and numbers, 0 for a number that it has not; kinds as the player has them:
+-- 0 start, 1 begin, 2 request, 3 unpin, 4 end, 5 retry, 6 tick, 7 look, 8 view, 9 count
+pub record Fields : Type 0 where
+  pub kind : ℕ
+  pub level : ℕ
+  pub number : ℕ
+  pub page : ℕ
+  pub mode : ℕ
+  pub slots : ℕ
+  pub delay : ℕ
+  pub deadline : ℕ
+
+abbrev pub fields : Call → Fields
+fields (Start slots delay) = record { kind = 0; level = 0; number = 0; page = 0; mode = 0; slots = slots; delay = delay; deadline = 0 }
+fields (Begin level number deadline) = record { kind = 1; level = level; number = number; page = 0; mode = 0; slots = 0; delay = 0; deadline = deadline }
+fields (Request level number page mode) = record { kind = 2; level = level; number = number; page = page; mode = mode; slots = 0; delay = 0; deadline = 0 }
+fields (Unpin level number page) = record { kind = 3; level = level; number = number; page = page; mode = 0; slots = 0; delay = 0; deadline = 0 }
+fields (End level number) = record { kind = 4; level = level; number = number; page = 0; mode = 0; slots = 0; delay = 0; deadline = 0 }
+fields (Retry level number) = record { kind = 5; level = level; number = number; page = 0; mode = 0; slots = 0; delay = 0; deadline = 0 }
+fields Tick = record { kind = 6; level = 0; number = 0; page = 0; mode = 0; slots = 0; delay = 0; deadline = 0 }
+fields (Look level number) = record { kind = 7; level = level; number = number; page = 0; mode = 0; slots = 0; delay = 0; deadline = 0 }
+fields (View level page) = record { kind = 8; level = level; number = 0; page = page; mode = 0; slots = 0; delay = 0; deadline = 0 }
+fields (Count level) = record { kind = 9; level = level; number = 0; page = 0; mode = 0; slots = 0; delay = 0; deadline = 0 }
+
+abbrev pub ofKind : ℕ → Call → Bool
+ofKind kind c = eqb (fields c .kind) kind
+
+abbrev pub isStart : Call → Bool
+isStart c = ofKind 0 c
+
+abbrev pub isTick : Call → Bool
+isTick c = ofKind 6 c
+
+-- a call for a page: request or retry
+abbrev pub isAsking : Call → Bool
+isAsking c = ofKind 2 c || ofKind 5 c
+
+-- look, view and count change nothing
+abbrev pub isReading : Call → Bool
+isReading c = ofKind 7 c || ofKind 8 c || ofKind 9 c
+
+-- start and tick are the server's; every other call counts as made by the level it names
+abbrev pub isServers : Call → Bool
+isServers c = isStart c || isTick c
+
+-- the call is made by clearance L or below
+abbrev pub isMadeUpTo : ℕ → Call → Bool
+isMadeUpTo L c = not (isServers c) && leb (fields c .level) L
+
+-- each number of the call is an unsigned 32-bit number
+pub record Fits (c : Call) : Type 0 where
+  pub level : fields c .level < 2 ^ 32
+  pub number : fields c .number < 2 ^ 32
+  pub page : fields c .page < 2 ^ 32
+  pub mode : fields c .mode < 2 ^ 32
+  pub slots : fields c .slots < 2 ^ 32
+  pub delay : fields c .delay < 2 ^ 32
+  pub deadline : fields c .deadline < 2 ^ 32

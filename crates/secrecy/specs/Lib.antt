@@ -1,3 +1,0 @@
-pub mod SlotWords
-pub mod Runs
-pub mod Table
