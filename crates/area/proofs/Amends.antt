@@ -23,7 +23,7 @@ use Rattle.model.specs.declared.Change.{Change}
 use Rattle.model.specs.State.{freeRow, emptySlot, emptyHolding, withClock, withRows, withSlots}
 use Rattle.model.specs.Inner.Changed.{marked, holdingAfter, changed}
 use Rattle.area.specs.Layout.{mark, version, headerWords, rowWords, slotWords, holdingWords, encoded}
-use Rattle.area.specs.Writes.{rowDropped, rowsDropped}
+use Rattle.area.specs.Inner.Writes.{rowDropped, rowsDropped}
 use Rattle.area.proofs.Elements.{header-wide, holding-wide}
 use Rattle.area.proofs.Pieces.{rowsBytes, slotsBytes, rows-long, slots-long, zeros-long}
 

@@ -4,7 +4,6 @@ use mathlib.Core.Bool.{Bool, true, false, _&&_}
 use mathlib.Core.List.{List, [], _∷_, _++_, append-assoc}
 use Prim.Native.Nat.{ℕ, _+_, _*_, _<_, _≤_}
 use native.Mathlib.Omega.{arith}
-use borrow.Author.Tests.{le-leb}
 use lib.ListN.{length, drop, set, replicate, length-append}
 use Rattle.seq.specs.Below.{allBelow}
 use Rattle.seq.proofs.BelowLaws.{all-more}
@@ -16,8 +15,8 @@ use Rattle.model.specs.declared.Slot.{Slot}
 use Rattle.model.specs.declared.Holding.{Holding}
 use Rattle.model.specs.declared.State.{State}
 use Rattle.model.specs.State.{withHoldings}
-use Rattle.rules.specs.Sound.{sound}
-use Rattle.area.specs.Layout.{mark, version, low, headerWords, exactRows, exactSlots, exactHoldings, decoded, encoded, exact, soundArea}
+use Rattle.area.specs.Layout.{mark, version, low, headerWords, decoded, encoded, exact}
+use Rattle.area.specs.Inner.Exact.{exactRows, exactSlots, exactHoldings}
 use Rattle.area.proofs.Elements.{header-wide}
 use Rattle.area.proofs.Pieces.{rowsBytes, slotsBytes, holdingsBytes, rows-long, slots-long, holdings-long, zeros-long, exact-pieces}
 
@@ -73,14 +72,6 @@ pub framed : (a : List ℕ) (size delay clock : ℕ) → size ≡ wordAt a 16 �
     ≡ hasWords a 0 (headerWords (decoded a)) && (hasWords a 40 (replicate 59 0) && hasWords a 55808 (replicate 1216 0))
 unfolding headerWords decoded
 framed a size delay clock e1 e2 e3 = rw (e1, e2, e3)
-
-pub decode-sound : (a : List ℕ) (s : State) (t : Bool) → 65536 ≤ length a → exact a ≡ true → s ≡ decoded a → t ≡ sound s → t ≡ soundArea a
-unfolding soundArea
-decode-sound a s t l e f g = rw (le-leb 65536 (length a) l, e) (g ∙ ap sound f)
-
-pub decode-unsound : (a : List ℕ) → exact a ≡ false → 65536 ≤ length a → false ≡ soundArea a
-unfolding soundArea
-decode-unsound a e l = rw (le-leb 65536 (length a) l, e)
 
 -- six lists written one after another from the front
 pub six : (a a1 a2 a3 a4 a5 a6 p1 p2 p3 p4 p5 p6 : List ℕ) (n1 n2 n3 n4 n5 n6 : ℕ)

@@ -11,7 +11,7 @@ use Rattle.seq.specs.Each.{each, eachBelow}
 use Rattle.seq.proofs.EachLaws.{each-below-more, each-below-all}
 use Rattle.model.specs.State.{freeRow, emptySlot, emptyHolding, emptyHoldings}
 use Rattle.area.specs.Layout.{freeRows, emptySlots}
-use Rattle.area.specs.Writes.{rowDropped, rowsDropped}
+use Rattle.area.specs.Inner.Writes.{rowDropped, rowsDropped}
 use Rattle.words.specs.Bytes.{hasWords, spliced, joined, zeroWords}
 use Rattle.words.proofs.SpliceLaws.{spliced-more}
 use Rattle.words.proofs.JoinLaws.{length-joined}

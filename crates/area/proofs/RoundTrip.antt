@@ -1,15 +1,13 @@
--- A state's bytes name that state again; an area that is exact is the bytes of the state that it names; what a sound area is.
+-- A state's bytes name that state again, and an area that is exact is the bytes of the state that it names.
 use mathlib.Core.Path.{_≡_, sym, ap, _∙_}
-use mathlib.Core.Bool.{true, _&&_}
+use mathlib.Core.Bool.{true}
 use mathlib.Core.List.{List, [], _++_, append-assoc}
 use Prim.Native.Nat.{ℕ, _+_, _*_, _<_, _≤_}
 use native.Mathlib.Omega.{arith}
-use borrow.Author.Tests.{leb-true, le-leb}
-use lib.Dec.{leb, lit<}
+use lib.Dec.{lit<}
 use lib.ListN.{length, getD, take, drop, replicate, length-append, length-replicate, take-append-drop}
 use lib.Seq.{ext-getD, take-at}
 use Rattle.seq.specs.Each.{each}
-use Rattle.seq.proofs.Tests.{and-true, both-true}
 use Rattle.seq.proofs.EachLaws.{each-length}
 use Rattle.seq.proofs.BuildLaws.{build-at}
 use Rattle.words.specs.Bytes.{wordAt, wordBytes, zeroWords}
@@ -20,8 +18,7 @@ use Rattle.model.specs.declared.Holding.{Holding}
 use Rattle.model.specs.declared.State.{State}
 use Rattle.model.specs.State.{freeRow, emptySlot, emptyHolding, emptyHoldings, rowAt, slotAt}
 use Rattle.model.proofs.Ranges.{StateOk}
-use Rattle.rules.specs.Sound.{sound}
-use Rattle.area.specs.Layout.{headerWords, rowWords, slotWords, holdingWords, encoded, low, rowFrom, slotFrom, holdingFrom, freeRows, emptySlots, decoded, exact, soundArea}
+use Rattle.area.specs.Layout.{headerWords, rowWords, slotWords, holdingWords, encoded, low, rowFrom, slotFrom, holdingFrom, freeRows, emptySlots, decoded, exact}
 use Rattle.area.proofs.Elements.{header-wide, row-wide, slot-wide, holding-wide, low-same, row-back, slot-back, holding-back, header-back}
 use Rattle.area.proofs.Pieces.{rowsBytes, slotsBytes, holdingsBytes, rows-long, slots-long, holdings-long, zeros-long}
 
@@ -141,12 +138,6 @@ module _ (s : State) (k : StateOk s) (r : List ℕ) where
       let a = encoded s ++ r in
       true-same (take 65536 a) (encoded (decoded a)) (take-at (encoded s) r 65536 (encoded-long s) ∙ sym (ap encoded decode-encode))
 
-  pub encode-sound : sound s ≡ true → soundArea (encoded s ++ r) ≡ true
-  unfolding soundArea
-  encode-sound h =
-      let l : 65536 ≤ length (encoded s ++ r) = rw (length-append (encoded s) r, encoded-long s) (omega arith) in
-      both-true (le-leb 65536 (length (encoded s ++ r)) l) (both-true encode-exact (rw decode-encode h))
-
 -- ---- exact areas
 
 pub exact-area : (a : List ℕ) → exact a ≡ true → encoded (decoded a) ++ drop 65536 a ≡ a
@@ -157,25 +148,3 @@ pub exact-long : (a : List ℕ) → exact a ≡ true → 65536 ≤ length a
 exact-long a e =
     let n = ap length (exact-area a e) in
     omega (arith, length-append (encoded (decoded a)) (drop 65536 a), encoded-long (decoded a))
-
--- ---- sound areas
-
--- what the test says of an area
-pub record SoundArea (a : List ℕ) : Type 0 where
-  pub long : 65536 ≤ length a
-  pub exactly : exact a ≡ true
-  pub sound-state : sound (decoded a) ≡ true
-
-pub sound-area : (a : List ℕ) → soundArea a ≡ true → SoundArea a
-unfolding soundArea
-sound-area a e =
-    let p = and-true (leb 65536 (length a)) (exact a && sound (decoded a)) e in
-    let q = and-true (exact a) (sound (decoded a)) (p .1) in
-    record { long = leb-true 65536 (length a) (p .0); exactly = q .0; sound-state = q .1 }
-
-pub area-sound : (a : List ℕ) → 65536 ≤ length a → exact a ≡ true → sound (decoded a) ≡ true → soundArea a ≡ true
-unfolding soundArea
-area-sound a l e h = both-true (le-leb 65536 (length a) l) (both-true e h)
-
-pub sound-area-bytes : (a : List ℕ) → soundArea a ≡ true → encoded (decoded a) ++ drop 65536 a ≡ a
-sound-area-bytes a e = exact-area a (sound-area a e .exactly)

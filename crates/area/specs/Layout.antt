@@ -1,12 +1,11 @@
--- docs/LAYOUT.md: a state as the first 65,536 bytes of a lent area, the state that an area names, and what a sound area is.
-use mathlib.Core.Bool.{Bool, cond, not, _&&_}
+-- docs/LAYOUT.md: a state as the first 65,536 bytes of a lent area, the state that an area names, and whether its bytes are exactly that state's.
+use mathlib.Core.Bool.{Bool, cond, not}
 use mathlib.Core.List.{List, [], _∷_, _++_}
 use Prim.Native.Nat.{ℕ, _+_, _*_, _%_}
-use lib.Dec.{eqb, leb}
-use lib.ListN.{length, getD, take, replicate}
-use Rattle.seq.specs.Below.{allBelow}
+use lib.Dec.{eqb}
+use lib.ListN.{getD, take, replicate}
 use Rattle.seq.specs.Each.{each}
-use Rattle.words.specs.Bytes.{wordAt, hasWords, wordBytes, zeroWords, joined, same}
+use Rattle.words.specs.Bytes.{wordAt, wordBytes, zeroWords, joined, same}
 use Rattle.model.specs.declared.Mode.{Mode}
 use Rattle.model.specs.declared.Cause.{Cause}
 use Rattle.model.specs.declared.Cause.the-variants.{Late, Taken}
@@ -23,7 +22,6 @@ use Rattle.model.specs.declared.State.{State}
 use Rattle.model.specs.Parties.{modeOf, modeNumber}
 use Rattle.model.specs.State.{freeRow, emptySlot, emptyHolding, emptyHoldings, rowAt, slotAt}
 use Rattle.model.specs.Words.{isFilled, pageIn, arrivalIn, dirtyIn, lowestIn, strength}
-use Rattle.rules.specs.Sound.{sound}
 
 -- the letters SABREBUF, the first the least byte
 abbrev pub mark : ℕ
@@ -136,20 +134,6 @@ decoded a = record {
   holdings = each (λ k _. holdingFrom a (6656 + k * 24)) emptyHoldings;
 }
 
--- the words of each row, slot and holding are exactly those of what they name
-unfoldable pub exactRows : List ℕ → Bool
-exactRows a = allBelow 32 (λ row. hasWords a (512 + row * 64) (rowWords (rowFrom a (512 + row * 64))))
-
-unfoldable pub exactSlots : List ℕ → Bool
-exactSlots a = allBelow 64 (λ slot. hasWords a (2560 + slot * 64) (slotWords (slotFrom a (2560 + slot * 64))))
-
-unfoldable pub exactHoldings : List ℕ → Bool
-exactHoldings a = allBelow 2048 (λ k. hasWords a (6656 + k * 24) (holdingWords (holdingFrom a (6656 + k * 24))))
-
 -- the first 65,536 bytes are exactly those of the state that they name
 unfoldable pub exact : List ℕ → Bool
 exact a = same (take 65536 a) (encoded (decoded a))
-
--- an area that every call but start accepts
-unfoldable pub soundArea : List ℕ → Bool
-soundArea a = leb 65536 (length a) && (exact a && sound (decoded a))

@@ -1,2 +1,3 @@
 pub mod Layout
-pub mod Writes
+-- for the code
+pub mod Inner

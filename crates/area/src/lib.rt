@@ -18,8 +18,9 @@ ghost use Rattle.words.specs.Bytes.{hasWords, spliced, joined, wordBytes};
 ghost use Rattle.model.specs.Parties.{modeOf};
 ghost use Rattle.model.specs.State.{freeRow, emptySlot, emptyHolding};
 ghost use Rattle.model.specs.Inner.Changed.{marked, changed};
-ghost use Rattle.area.specs.Layout.{mark, version, bit, low, causeNumber, conditionOf, pinNumbered, contentOf, rowFrom, slotFrom, holdingFrom, headerWords, rowWords, slotWords, holdingWords, freeRows, emptySlots, exactRows, exactSlots, exactHoldings, decoded, encoded, exact, soundArea};
-ghost use Rattle.area.specs.Writes.{rowDropped, rowsDropped};
+ghost use Rattle.area.specs.Layout.{mark, version, bit, low, causeNumber, conditionOf, pinNumbered, contentOf, rowFrom, slotFrom, holdingFrom, headerWords, rowWords, slotWords, holdingWords, freeRows, emptySlots, decoded, encoded, exact};
+ghost use Rattle.area.specs.Inner.Exact.{exactRows, exactSlots, exactHoldings};
+ghost use Rattle.area.specs.Inner.Writes.{rowDropped, rowsDropped};
 
 // The rows and slots that an area names, and whether its bytes there are exactly theirs.
 struct Rows {
@@ -301,10 +302,10 @@ fn is_frame(a: &[u8], size: usize, delay: u32, clock: u32) -> bool
     false
 }
 
-// The state that an area of at least 65,536 bytes names, and whether the area is sound. The holdings are read into their place.
-pub fn decode(a: &[u8], sound: &mut bool) -> State
+// The state that an area of at least 65,536 bytes names, and whether its bytes are exactly that state's. The holdings are read into their place.
+pub fn decode(a: &[u8], whole: &mut bool) -> State
     requires { ⌜ 65536 ≤ length (now a) ⌝ }
-    ensures { λ r. ⌜ (r ≡ decoded (now (a .entry))) × (now (sound .exit) ≡ soundArea (now (a .entry))) ⌝ }
+    ensures { λ r. ⌜ (r ≡ decoded (now (a .entry))) × (now (whole .exit) ≡ exact (now (a .entry))) ⌝ }
 {
     let size = words::word(a, 16) as usize;
     let delay = low(words::word(a, 24));
@@ -312,7 +313,7 @@ pub fn decode(a: &[u8], sound: &mut bool) -> State
     let r = get_rows(a);
     let s = get_slots(a);
     let frame = is_frame(a, size, delay, clock);
-    let mut exact = seq::both(frame, seq::both(r.exact, s.exact));
+    let mut same = seq::both(frame, seq::both(r.exact, s.exact));
     let rows = r.rows;
     let slots = s.slots;
     let holdings = model::empty_holdings();
@@ -328,14 +329,10 @@ pub fn decode(a: &[u8], sound: &mut bool) -> State
         let at = 6656 + k * 24;
         let x = get_holding(a, at);
         let ws = holding_words(x);
-        exact = seq::both(exact, words::has_words(a, at, &ws));
+        same = seq::both(same, words::has_words(a, at, &ws));
         state.holdings[k] = x;
     }
-    if exact {
-        *sound = sound::is_sound(state);
-        return state;
-    }
-    *sound = false;
+    *whole = same;
     state
 }
 

@@ -16,10 +16,10 @@ use Rattle.model.specs.declared.Call.{Call}
 use Rattle.model.specs.declared.Call.the-variants.{Start, Begin, Request, Retry, Unpin, End, Tick, Look, View, Count}
 use Rattle.rules.specs.Run.{outcome}
 use Rattle.rules.proofs.Leaves.RefusalFacts.{Named, look-taken}
-use Rattle.area.specs.Layout.{decoded, soundArea}
-use Rattle.area.proofs.RoundTrip.{sound-area}
-use Rattle.sabre.specs.Lent.{unfit, answerOn, isRefused}
+use Rattle.area.specs.Layout.{decoded}
+use Rattle.sabre.specs.Lent.{unfit, answerOn, isRefused, soundArea}
 use Rattle.demands.specs.Runs.{isStart}
+use Rattle.sabre.proofs.SoundAreas.{sound-area}
 
 -- a call other than start accepts the sound areas alone
 pub unfit-other : (a : List ℕ) (c : Call) → isStart c ≡ false → unfit a c ≡ not (soundArea a)

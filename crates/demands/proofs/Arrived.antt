@@ -29,13 +29,13 @@ use Rattle.rules.specs.Waits.{Outranked, NoSlot}
 use Rattle.rules.proofs.Promises.WaitFetch as Waits
 use Rattle.rules.proofs.Promises.Arrived as States
 use Rattle.rules.proofs.Promises.MayUse as Uses
-use Rattle.area.specs.Layout.{decoded, soundArea}
-use Rattle.area.proofs.RoundTrip.{sound-area}
-use Rattle.sabre.specs.Lent.{answerOn, isRefused, areaAfter}
+use Rattle.area.specs.Layout.{decoded}
+use Rattle.sabre.specs.Lent.{answerOn, isRefused, areaAfter, soundArea}
 use Rattle.demands.specs.Runs.{wordOn, isPendingOn, isIdleOn, isDeliveryOn}
 use Rattle.demands.proofs.Areas.{accepted-sound, sound-answer, look-answer, look-named}
 use Rattle.demands.proofs.Refusals.{look-leaves}
 use Rattle.demands.proofs.Steps.{other-sound, step-on}
+use Rattle.sabre.proofs.SoundAreas.{sound-area}
 
 -- ---- ready and idle
 

@@ -26,13 +26,13 @@ use Rattle.rules.specs.Slots.{Refilled, Dirty}
 use Rattle.rules.proofs.Facts.SoundFacts.{facts}
 use Rattle.rules.proofs.TwoRuns.StateRuns.{startsRefused}
 use Rattle.rules.proofs.Promises.LetsGo as States
-use Rattle.area.specs.Layout.{decoded, soundArea}
-use Rattle.area.proofs.RoundTrip.{sound-area}
-use Rattle.sabre.specs.Lent.{answerOn, isRefused, areaAfter}
+use Rattle.area.specs.Layout.{decoded}
+use Rattle.sabre.specs.Lent.{answerOn, isRefused, areaAfter, soundArea}
 use Rattle.demands.specs.Runs.{wordOn, notStartedAgain}
 use Rattle.demands.proofs.Areas.{accepted-sound, sound-answer, look-answer, look-named}
 use Rattle.demands.proofs.Steps.{step-on}
 use Rattle.demands.proofs.RunStates.{first-start}
+use Rattle.sabre.proofs.SoundAreas.{sound-area}
 
 -- ---- rows
 

@@ -10,13 +10,13 @@ use Rattle.model.specs.Words.{hasPage}
 use Rattle.model.specs.declared.Call.{Call}
 use Rattle.model.specs.declared.Call.the-variants.{Start}
 use Rattle.rules.proofs.Promises.OneSlot as States
-use Rattle.area.specs.Layout.{low, contentOf, slotFrom, decoded, soundArea}
+use Rattle.area.specs.Layout.{low, contentOf, slotFrom, decoded}
 use Rattle.area.proofs.Elements.{decoded-slot}
-use Rattle.area.proofs.RoundTrip.{sound-area}
-use Rattle.sabre.specs.Lent.{answerOn}
+use Rattle.sabre.specs.Lent.{answerOn, soundArea}
 use Rattle.demands.specs.SlotWords.{filledWord, pageWord}
 use Rattle.demands.specs.Runs.{AllFit, areaAfterAll}
 use Rattle.demands.proofs.Steps.{started-sound-on}
+use Rattle.sabre.proofs.SoundAreas.{sound-area}
 
 -- no page in two slots of a sound area
 pub one-slot : (a : List ℕ) → soundArea a ≡ true → (page i j : ℕ) → i < 64 → j < 64

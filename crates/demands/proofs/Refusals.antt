@@ -11,11 +11,12 @@ use Rattle.model.specs.declared.Call.{Call}
 use Rattle.model.specs.declared.Call.the-variants.{Look, View, Count}
 use Rattle.rules.specs.Run.{outcome}
 use Rattle.rules.proofs.Hidden.Hidden.{looked-still, viewed-still, counted-still}
-use Rattle.area.specs.Layout.{encoded, decoded, soundArea}
-use Rattle.area.proofs.RoundTrip.{encoded-long, sound-area-bytes}
-use Rattle.sabre.specs.Lent.{answerOn, isRefused, areaAfter}
+use Rattle.area.specs.Layout.{encoded, decoded}
+use Rattle.area.proofs.RoundTrip.{encoded-long}
+use Rattle.sabre.specs.Lent.{answerOn, isRefused, areaAfter, soundArea}
 use Rattle.demands.specs.Runs.{isStart}
 use Rattle.demands.proofs.Areas.{unfit-other, short-unfit, fit-long, accepted-fit, accepted-sound}
+use Rattle.sabre.proofs.SoundAreas.{sound-area-bytes}
 
 -- an area under 65,536 bytes is refused by number 1, whatever the call
 pub short-refused : (a : List ℕ) (c : Call) → length a < 65536 → answerOn a c ≡ Refused 1

@@ -25,8 +25,8 @@ use Rattle.rules.specs.Content.{Fits}
 use Rattle.rules.specs.Secrecy.{isKept}
 use Rattle.rules.proofs.TwoRuns.StateRuns.{keptAnswers, startsRefused, isPending, isIdle, isDelivery, deliveries}
 use Rattle.rules.proofs.Leaves.RefusalFacts.{Named, request-taken, retry-taken}
-use Rattle.area.specs.Layout.{decoded, soundArea}
-use Rattle.sabre.specs.Lent.{answerOn, areaAfter}
+use Rattle.area.specs.Layout.{decoded}
+use Rattle.sabre.specs.Lent.{answerOn, areaAfter, soundArea}
 use Rattle.demands.specs.Runs.{AllFit, areaAfterAll, wordOn, notStartedAgain, keptAnswersOn, isPendingOn, isIdleOn, isDeliveryOn, deliveriesOn}
 use Rattle.demands.proofs.Areas.{sound-answer, look-answer}
 use Rattle.demands.proofs.Steps.{step-on}

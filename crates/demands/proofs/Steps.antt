@@ -32,12 +32,13 @@ use Rattle.rules.proofs.Hidden.Hidden.{looked-still, viewed-still, counted-stil
 use Rattle.rules.proofs.Keeping.KeptFresh.{fresh-sound}
 use Rattle.rules.proofs.Keeping.Kept.{kept-sound}
 use Rattle.rules.proofs.Promises.Widths.{fresh-narrow, kept-narrow, sound-ok}
-use Rattle.area.specs.Layout.{encoded, decoded, soundArea}
+use Rattle.area.specs.Layout.{encoded, decoded}
 use Rattle.area.proofs.Elements.{decoded-deadline}
-use Rattle.area.proofs.RoundTrip.{decode-encode, encode-sound, sound-area}
-use Rattle.sabre.specs.Lent.{unfit, answerOn, isRefused, areaAfter}
+use Rattle.area.proofs.RoundTrip.{decode-encode}
+use Rattle.sabre.specs.Lent.{unfit, answerOn, isRefused, areaAfter, soundArea}
 use Rattle.demands.specs.Runs.{AllFit, areaAfterAll}
 use Rattle.demands.proofs.Areas.{start-or-other, accepted-sound, sound-fit, accepted-fit, fit-long, fit-answer}
+use Rattle.sabre.proofs.SoundAreas.{encode-sound, sound-area}
 
 -- ---- a refused call leaves the state
 

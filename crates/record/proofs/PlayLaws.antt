@@ -23,15 +23,15 @@ use Rattle.rules.specs.Calls.{unless, looked, lookedAt, viewedIn, viewed, count
 use Rattle.model.specs.declared.Call.{Call}
 use Rattle.model.specs.declared.Call.the-variants.{Look, View, Count}
 use Rattle.rules.specs.Run.{outcome}
-use Rattle.area.specs.Layout.{encoded, decoded, soundArea}
-use Rattle.area.proofs.RoundTrip.{sound-area-bytes}
-use Rattle.sabre.specs.Lent.{unfit, isRefused, answerOn, areaAfter, status, answerNumbers}
+use Rattle.area.specs.Layout.{encoded, decoded}
+use Rattle.sabre.specs.Lent.{unfit, isRefused, answerOn, areaAfter, status, answerNumbers, soundArea}
 use Rattle.record.specs.declared.Input.{Input}
 use Rattle.record.specs.Record.{Record, bad, call, recordOf, meant}
 use Rattle.record.specs.declared.Progress.{Progress}
 use Rattle.record.specs.Text.{lineOf, Wrote}
 use Rattle.record.specs.Play.{Played, admitted, answerTo, areaWith, nextProgress, playedRecord, playedOne, andOne, played, records, firstProgress}
 use Rattle.record.proofs.TextLaws.{wrote-none, wrote-more, line-most}
+use Rattle.sabre.proofs.SoundAreas.{sound-area-bytes}
 
 -- a call that keeps the state leaves the area as it was
 module _ (a : List ℕ) (c : Call) where

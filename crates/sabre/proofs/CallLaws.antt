@@ -4,10 +4,13 @@ use mathlib.Core.Bool.{Bool, true, false, cond, not}
 use mathlib.Core.List.{List, [], _∷_, _++_}
 use Prim.Native.Nat.{ℕ, zero, suc, _+_, _<_, _≤_, _^_}
 use native.Mathlib.Omega.{arith}
-use borrow.Author.Tests.{lt-ltb, le-ltb, lt-leb}
+use borrow.Author.Tests.{lt-ltb, le-ltb, lt-leb, ne-eqb}
 use lib.Dec.{eqb, lit<}
-use lib.ListN.{length, drop}
+use lib.ListN.{length, drop, getD}
 use Rattle.seq.proofs.Tests.{true-false}
+use mir.Val.{Val}
+use denote.Laws.{Is}
+use Rattle.model.proofs.Answer as Answer'
 use Rattle.model.specs.declared.State.{State}
 use Rattle.model.specs.declared.Outcome.{Outcome}
 use Rattle.model.specs.declared.Reply.{Reply}
@@ -50,14 +53,9 @@ use Rattle.rules.proofs.Facts.SoundFacts.{Sound, facts}
 use Rattle.rules.proofs.Promises.Granting.{grant-ready, granted-answer}
 use Rattle.rules.proofs.Promises.CallCases.{isServed}
 use Rattle.rules.proofs.Promises.WaitFetch.{granted-alone}
-use Rattle.area.specs.Layout.{encoded, decoded, exact, soundArea}
-use Rattle.area.proofs.RoundTrip.{sound-area}
-use Rattle.sabre.specs.Lent.{unfit, isRefused, answerOn, areaAfter, status, answerNumbers}
-
--- a short area, and an area that is not sound
-pub short-unsound : (a : List ℕ) → length a < 65536 → soundArea a ≡ false
-unfolding soundArea
-short-unsound a h = rw (lt-leb 65536 (length a) h)
+use Rattle.area.specs.Layout.{encoded, decoded, exact}
+use Rattle.sabre.specs.Lent.{unfit, isRefused, answerOn, areaAfter, status, answerNumbers, soundArea}
+use Rattle.sabre.proofs.SoundAreas.{sound-area}
 
 -- what is promised of a call that returns r, tells ns and leaves b
 pub record Promise (a : List ℕ) (c : Call) (r : ℕ) (ns b : List ℕ) : Type 0 where
@@ -133,22 +131,56 @@ pub fetch-slot : (x : Answer) (due slot : ℕ) (back : Back) → x ≡ Fetch due
 unfolding slotTold
 fetch-slot x due slot back e h = rw e at h
 
--- a look at a killed row is no refusal
-pub killed-told : (x : Answer) (cause : Cause) → x ≡ RowKilled cause → false ≡ isRefused x
-unfolding word
-killed-told x Late e = rw e
-killed-told x Taken e = rw e
+-- a refusal's number is a 32-bit one
+pub refused-narrow : (x : Answer) (vs : List Val) → Is Answer'.the-row x vs → word x ≡ 0 → value x < 2 ^ 32
+unfolding word value
+refused-narrow (Refused number) vs h e = h .1 .1 .1 .1 .0 .1
+refused-narrow Started vs h e = omega (arith, e)
+refused-narrow Begun vs h e = omega (arith, e)
+refused-narrow (Ready slot back) vs h e = omega (arith, e)
+refused-narrow (Fetch due slot back) vs h e = omega (arith, e)
+refused-narrow Wait vs h e = omega (arith, e)
+refused-narrow Unpinned vs h e = omega (arith, e)
+refused-narrow Ended vs h e = omega (arith, e)
+refused-narrow (Clock clock) vs h e = omega (arith, e)
+refused-narrow RowFree vs h e = omega (arith, e)
+refused-narrow RowIdle vs h e = omega (arith, e)
+refused-narrow (RowFetching due) vs h e = omega (arith, e)
+refused-narrow RowWaiting vs h e = omega (arith, e)
+refused-narrow (RowKilled Late) vs h e = omega (arith, e)
+refused-narrow (RowKilled Taken) vs h e = omega (arith, e)
+refused-narrow PageUnseen vs h e = omega (arith, e)
+refused-narrow (PageActive arrival) vs h e = omega (arith, e)
+refused-narrow (PageRead arrival) vs h e = omega (arith, e)
+refused-narrow (PageWrite arrival) vs h e = omega (arith, e)
+refused-narrow (PageDormant arrival) vs h e = omega (arith, e)
+refused-narrow (Open count) vs h e = omega (arith, e)
 
-pub killed-status : (x : Answer) (cause : Cause) → x ≡ RowKilled cause → 0 ≡ status x
-unfolding status
-killed-status x cause e = rw (sym (killed-told x cause e))
+-- the numbers of an answer: the word is 0 for a refusal, and the value is then its number
+module _ (x : Answer) (ns : List ℕ) (e : ns ≡ answerNumbers x) where
+  pub told-narrow : (vs : List Val) → Is Answer'.the-row x vs → getD ns 0 0 ≡ 0 → getD ns 1 0 < 2 ^ 32
+  unfolding answerNumbers
+  told-narrow vs h z = rw e (refused-narrow x vs h (rw e at z))
+
+  pub told-word : getD ns 0 0 ≡ word x
+  unfolding answerNumbers
+  told-word = rw e
+
+  pub told-refused : getD ns 0 0 ≡ 0 → getD ns 1 0 ≡ status x
+  unfolding answerNumbers status
+  told-refused z = rw (e, rw e at z)
+
+  pub told-accepted : (getD ns 0 0 ≡ 0 → ⊥) → 0 ≡ status x
+  unfolding answerNumbers status
+  told-accepted z = rw (ne-eqb (word x) 0 (λ f. z (rw e f)))
 
 -- the area that a refused call leaves, and one that is accepted
-pub finish-refused : (x : Answer) (a b : List ℕ) (t : Bool) → t ≡ isRefused x → t ≡ true → a ≡ cond (isRefused x) a b
-finish-refused x a b t e f = rw (sym e ∙ f)
+module _ (x : Answer) (a b : List ℕ) (n : ℕ) (e : n ≡ word x) where
+  pub finish-refused : n ≡ 0 → a ≡ cond (isRefused x) a b
+  finish-refused z = rw (sym e ∙ z)
 
-pub finish-left : (x : Answer) (a b d : List ℕ) (t : Bool) → t ≡ isRefused x → t ≡ false → d ≡ b → d ≡ cond (isRefused x) a b
-finish-left x a b d t e f g = rw (sym e ∙ f) g
+  pub finish-left : (d : List ℕ) → (n ≡ 0 → ⊥) → d ≡ b → d ≡ cond (isRefused x) a b
+  finish-left d z g = rw (ne-eqb (word x) 0 (λ f. z (e ∙ f))) g
 
 -- the call on the state that decode gives
 module _ (a : List ℕ) (c : Call) (s : State) (e : s ≡ decoded a) where

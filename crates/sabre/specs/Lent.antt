@@ -1,29 +1,25 @@
 -- Demands 1 and 2 over the bytes of a lent area: what each exported call answers, and the area that it leaves.
-use mathlib.Core.Bool.{Bool, cond, not}
+use mathlib.Core.Bool.{Bool, cond, not, _&&_}
 use mathlib.Core.List.{List, [], _∷_, _++_}
 use Prim.Native.Nat.{ℕ}
-use lib.Dec.{eqb, ltb}
+use lib.Dec.{eqb, leb, ltb}
 use lib.ListN.{length, drop}
 use Rattle.model.specs.declared.Answer.{Answer}
 use Rattle.model.specs.declared.Answer.the-variants.{Refused}
+use Rattle.rules.specs.Sound.{sound}
+use Rattle.rules.specs.Content.{isStart}
 use Rattle.rules.specs.Answers.{word, value, slotTold, backTold}
 use Rattle.model.specs.declared.Call.{Call}
-use Rattle.model.specs.declared.Call.the-variants.{Start, Begin, Request, Retry, Unpin, End, Tick, Look, View, Count}
 use Rattle.rules.specs.Run.{outcome}
-use Rattle.area.specs.Layout.{encoded, decoded, soundArea}
+use Rattle.area.specs.Layout.{encoded, decoded, exact}
+
+-- an area is sound if it is long enough, its first 65,536 bytes are exactly those of the state that they name, and that state is sound
+unfoldable pub soundArea : List ℕ → Bool
+soundArea a = leb 65536 (length a) && (exact a && sound (decoded a))
 
 -- refusal 1: the area is under 65,536 bytes, or (not for start) unsound
 unfoldable pub unfit : List ℕ → Call → Bool
-unfit a (Start slots delay) = ltb (length a) 65536
-unfit a (Begin level number deadline) = not (soundArea a)
-unfit a (Request level number page mode) = not (soundArea a)
-unfit a (Retry level number) = not (soundArea a)
-unfit a (Unpin level number page) = not (soundArea a)
-unfit a (End level number) = not (soundArea a)
-unfit a Tick = not (soundArea a)
-unfit a (Look level number) = not (soundArea a)
-unfit a (View level page) = not (soundArea a)
-unfit a (Count level) = not (soundArea a)
+unfit a c = cond (isStart c) (ltb (length a) 65536) (not (soundArea a))
 
 -- the answer of a call on an area
 unfoldable pub answerOn : List ℕ → Call → Answer

@@ -1,18 +1,22 @@
-// The exported calls: each tests the lent area, makes the call on the state by value, and writes what it changes over the area.
+// The exported calls. Each makes its call by `make`, which opens the lent area, makes the call on the state by value and writes what it changes over
+// the area; look, view and count, which change nothing, go by `ask`.
 use model::Answer;
 use model::Back;
+use model::Call;
 use model::Cause;
 use model::Reply;
+use model::State;
 ghost use mathlib.Core.Path.{_≡_};
 ghost use mathlib.Core.Bool.{true, cond};
 ghost use mathlib.Core.List.{[], _∷_, _++_};
 ghost use Prim.Native.Nat.{_≤_};
 ghost use lib.ListN.{length, drop};
+ghost use Rattle.rules.specs.Content.{isReading};
 ghost use Rattle.rules.specs.Answers.{causeWord, pageBack, slotTold};
 ghost use Rattle.model.specs.declared.Call.the-variants.{Start, Begin, Request, Retry, Unpin, End, Tick, Look, View, Count};
 ghost use Rattle.model.specs.Inner.Changed.{changed};
 ghost use Rattle.area.specs.Layout.{encoded, decoded, exact};
-ghost use Rattle.sabre.specs.Lent.{isRefused, answerOn, areaAfter, status, answerNumbers};
+ghost use Rattle.sabre.specs.Lent.{soundArea, isRefused, answerOn, areaAfter, status, answerNumbers};
 
 fn cause_word(cause: Cause) -> u64
     ensures { λ r. ⌜ r ≡ causeWord cause ⌝ }
@@ -70,69 +74,6 @@ fn answer_numbers(x: Answer) -> [u64; 4]
     }
 }
 
-// What a call returns: 0 where it is accepted, else the refusal's number.
-fn status_of(x: Answer) -> u32
-    ensures { λ r. ⌜ r ≡ status x ⌝ }
-{
-    match x {
-        Answer::Refused(number) => number,
-        Answer::Started => 0,
-        Answer::Begun => 0,
-        Answer::Ready { slot: _, back: _ } => 0,
-        Answer::Fetch {
-            due: _,
-            slot: _,
-            back: _,
-        } => 0,
-        Answer::Wait => 0,
-        Answer::Unpinned => 0,
-        Answer::Ended => 0,
-        Answer::Clock(_) => 0,
-        Answer::RowFree => 0,
-        Answer::RowIdle => 0,
-        Answer::RowFetching(_) => 0,
-        Answer::RowWaiting => 0,
-        Answer::RowKilled(_) => 0,
-        Answer::PageUnseen => 0,
-        Answer::PageActive(_) => 0,
-        Answer::PageRead(_) => 0,
-        Answer::PageWrite(_) => 0,
-        Answer::PageDormant(_) => 0,
-        Answer::Open(_) => 0,
-    }
-}
-
-fn is_refused(x: Answer) -> bool
-    ensures { λ r. ⌜ r ≡ isRefused x ⌝ }
-{
-    match x {
-        Answer::Refused(_) => true,
-        Answer::Started => false,
-        Answer::Begun => false,
-        Answer::Ready { slot: _, back: _ } => false,
-        Answer::Fetch {
-            due: _,
-            slot: _,
-            back: _,
-        } => false,
-        Answer::Wait => false,
-        Answer::Unpinned => false,
-        Answer::Ended => false,
-        Answer::Clock(_) => false,
-        Answer::RowFree => false,
-        Answer::RowIdle => false,
-        Answer::RowFetching(_) => false,
-        Answer::RowWaiting => false,
-        Answer::RowKilled(_) => false,
-        Answer::PageUnseen => false,
-        Answer::PageActive(_) => false,
-        Answer::PageRead(_) => false,
-        Answer::PageWrite(_) => false,
-        Answer::PageDormant(_) => false,
-        Answer::Open(_) => false,
-    }
-}
-
 // Refusal 1.
 fn refuse(answer: &mut [u64; 4]) -> u32
     ensures { λ r. ⌜ (r ≡ 1) × (now (answer .exit) ≡ 0 ∷ 1 ∷ 0 ∷ 0 ∷ []) ⌝ }
@@ -141,14 +82,35 @@ fn refuse(answer: &mut [u64; 4]) -> u32
     1
 }
 
-// The answer told.
+// The answer told: refused where its word is 0, and its value is then the refusal's number.
 fn tell(answer: &mut [u64; 4], x: Answer) -> u32
     requires { ⌜ slotTold x ≤ 64 ⌝ }
     ensures { λ r. ⌜ (r ≡ status x) × (now (answer .exit) ≡ answerNumbers x) ⌝ }
 {
     let numbers = answer_numbers(x);
     *answer = numbers;
-    status_of(x)
+    if numbers[0] == 0 {
+        return numbers[1] as u32;
+    }
+    0
+}
+
+// Whether the area is sound: long enough, exactly the bytes of a state, and that state sound; and the state that a sound area names.
+fn open(area: &[u8], sound: &mut bool) -> State
+    ensures { λ r. ⌜ (now (sound .exit) ≡ soundArea (now (area .entry))) × (soundArea (now (area .entry)) ≡ true → r ≡ decoded (now (area .entry))) ⌝ }
+{
+    if area.len() < 65536 {
+        *sound = false;
+        return model::fresh_state(1, 1);
+    }
+    let mut whole = false;
+    let s = area::decode(area, &mut whole);
+    if whole {
+        *sound = sound::is_sound(s);
+        return s;
+    }
+    *sound = false;
+    s
 }
 
 // The answer told and, where the call is accepted, what it changes written over the area.
@@ -158,7 +120,7 @@ fn finish(area: &mut [u8], answer: &mut [u64; 4], r: Reply) -> u32
 {
     let x = r.answer;
     let n = tell(answer, x);
-    if is_refused(x) {
+    if answer[0] == 0 {
         return n;
     }
     let c = r.change;
@@ -167,8 +129,7 @@ fn finish(area: &mut [u8], answer: &mut [u64; 4], r: Reply) -> u32
 }
 
 // A fresh start on any area of at least 65,536 bytes.
-#[no_mangle]
-pub extern "C" fn sabre_start(area: &mut [u8], slots: u32, delay: u32, answer: &mut [u64; 4]) -> u32
+fn start(area: &mut [u8], slots: u32, delay: u32, answer: &mut [u64; 4]) -> u32
     ensures returned { λ r. ⌜ r ≡ status (answerOn (now (area .entry)) (Start slots delay)) ⌝ }
     ensures told { λ _. ⌜ now (answer .exit) ≡ answerNumbers (answerOn (now (area .entry)) (Start slots delay)) ⌝ }
     ensures left { λ _. ⌜ now (area .exit) ≡ areaAfter (now (area .entry)) (Start slots delay) ⌝ }
@@ -185,180 +146,3 @@ pub extern "C" fn sabre_start(area: &mut [u8], slots: u32, delay: u32, answer: &
     tell(answer, Answer::Started)
 }
 
-#[no_mangle]
-pub extern "C" fn sabre_begin(
-    area: &mut [u8],
-    level: u32,
-    row: u32,
-    deadline: u32,
-    answer: &mut [u64; 4],
-) -> u32
-    ensures returned { λ r. ⌜ r ≡ status (answerOn (now (area .entry)) (Begin level row deadline)) ⌝ }
-    ensures told { λ _. ⌜ now (answer .exit) ≡ answerNumbers (answerOn (now (area .entry)) (Begin level row deadline)) ⌝ }
-    ensures left { λ _. ⌜ now (area .exit) ≡ areaAfter (now (area .entry)) (Begin level row deadline) ⌝ }
-{
-    if area.len() < 65536 {
-        return refuse(answer);
-    }
-    let mut sound = false;
-    let s = area::decode(area, &mut sound);
-    if sound {
-        let r = calls::begin(s, level, row, deadline);
-        return finish(area, answer, r);
-    }
-    refuse(answer)
-}
-
-#[no_mangle]
-pub extern "C" fn sabre_request(
-    area: &mut [u8],
-    level: u32,
-    row: u32,
-    page: u32,
-    mode: u32,
-    answer: &mut [u64; 4],
-) -> u32
-    ensures returned { λ r. ⌜ r ≡ status (answerOn (now (area .entry)) (Request level row page mode)) ⌝ }
-    ensures told { λ _. ⌜ now (answer .exit) ≡ answerNumbers (answerOn (now (area .entry)) (Request level row page mode)) ⌝ }
-    ensures left { λ _. ⌜ now (area .exit) ≡ areaAfter (now (area .entry)) (Request level row page mode) ⌝ }
-{
-    if area.len() < 65536 {
-        return refuse(answer);
-    }
-    let mut sound = false;
-    let s = area::decode(area, &mut sound);
-    if sound {
-        let r = calls::request(s, level, row, page, mode);
-        return finish(area, answer, r);
-    }
-    refuse(answer)
-}
-
-#[no_mangle]
-pub extern "C" fn sabre_retry(area: &mut [u8], level: u32, row: u32, answer: &mut [u64; 4]) -> u32
-    ensures returned { λ r. ⌜ r ≡ status (answerOn (now (area .entry)) (Retry level row)) ⌝ }
-    ensures told { λ _. ⌜ now (answer .exit) ≡ answerNumbers (answerOn (now (area .entry)) (Retry level row)) ⌝ }
-    ensures left { λ _. ⌜ now (area .exit) ≡ areaAfter (now (area .entry)) (Retry level row) ⌝ }
-{
-    if area.len() < 65536 {
-        return refuse(answer);
-    }
-    let mut sound = false;
-    let s = area::decode(area, &mut sound);
-    if sound {
-        let r = calls::retry(s, level, row);
-        return finish(area, answer, r);
-    }
-    refuse(answer)
-}
-
-#[no_mangle]
-pub extern "C" fn sabre_unpin(
-    area: &mut [u8],
-    level: u32,
-    row: u32,
-    page: u32,
-    answer: &mut [u64; 4],
-) -> u32
-    ensures returned { λ r. ⌜ r ≡ status (answerOn (now (area .entry)) (Unpin level row page)) ⌝ }
-    ensures told { λ _. ⌜ now (answer .exit) ≡ answerNumbers (answerOn (now (area .entry)) (Unpin level row page)) ⌝ }
-    ensures left { λ _. ⌜ now (area .exit) ≡ areaAfter (now (area .entry)) (Unpin level row page) ⌝ }
-{
-    if area.len() < 65536 {
-        return refuse(answer);
-    }
-    let mut sound = false;
-    let s = area::decode(area, &mut sound);
-    if sound {
-        let r = calls::unpin(s, level, row, page);
-        return finish(area, answer, r);
-    }
-    refuse(answer)
-}
-
-#[no_mangle]
-pub extern "C" fn sabre_end(area: &mut [u8], level: u32, row: u32, answer: &mut [u64; 4]) -> u32
-    ensures returned { λ r. ⌜ r ≡ status (answerOn (now (area .entry)) (End level row)) ⌝ }
-    ensures told { λ _. ⌜ now (answer .exit) ≡ answerNumbers (answerOn (now (area .entry)) (End level row)) ⌝ }
-    ensures left { λ _. ⌜ now (area .exit) ≡ areaAfter (now (area .entry)) (End level row) ⌝ }
-{
-    if area.len() < 65536 {
-        return refuse(answer);
-    }
-    let mut sound = false;
-    let s = area::decode(area, &mut sound);
-    if sound {
-        let r = calls::end(s, level, row);
-        return finish(area, answer, r);
-    }
-    refuse(answer)
-}
-
-#[no_mangle]
-pub extern "C" fn sabre_tick(area: &mut [u8], answer: &mut [u64; 4]) -> u32
-    ensures returned { λ r. ⌜ r ≡ status (answerOn (now (area .entry)) Tick) ⌝ }
-    ensures told { λ _. ⌜ now (answer .exit) ≡ answerNumbers (answerOn (now (area .entry)) Tick) ⌝ }
-    ensures left { λ _. ⌜ now (area .exit) ≡ areaAfter (now (area .entry)) Tick ⌝ }
-{
-    if area.len() < 65536 {
-        return refuse(answer);
-    }
-    let mut sound = false;
-    let s = area::decode(area, &mut sound);
-    if sound {
-        let r = calls::tick(s);
-        return finish(area, answer, r);
-    }
-    refuse(answer)
-}
-
-#[no_mangle]
-pub extern "C" fn sabre_look(area: &[u8], level: u32, row: u32, answer: &mut [u64; 4]) -> u32
-    ensures returned { λ r. ⌜ r ≡ status (answerOn (now (area .entry)) (Look level row)) ⌝ }
-    ensures told { λ _. ⌜ now (answer .exit) ≡ answerNumbers (answerOn (now (area .entry)) (Look level row)) ⌝ }
-{
-    if area.len() < 65536 {
-        return refuse(answer);
-    }
-    let mut sound = false;
-    let s = area::decode(area, &mut sound);
-    if sound {
-        let x = calls::look(s, level, row);
-        return tell(answer, x);
-    }
-    refuse(answer)
-}
-
-#[no_mangle]
-pub extern "C" fn sabre_view(area: &[u8], level: u32, page: u32, answer: &mut [u64; 4]) -> u32
-    ensures returned { λ r. ⌜ r ≡ status (answerOn (now (area .entry)) (View level page)) ⌝ }
-    ensures told { λ _. ⌜ now (answer .exit) ≡ answerNumbers (answerOn (now (area .entry)) (View level page)) ⌝ }
-{
-    if area.len() < 65536 {
-        return refuse(answer);
-    }
-    let mut sound = false;
-    let s = area::decode(area, &mut sound);
-    if sound {
-        let x = calls::view(s, level, page);
-        return tell(answer, x);
-    }
-    refuse(answer)
-}
-
-#[no_mangle]
-pub extern "C" fn sabre_count(area: &[u8], level: u32, answer: &mut [u64; 4]) -> u32
-    ensures returned { λ r. ⌜ r ≡ status (answerOn (now (area .entry)) (Count level)) ⌝ }
-    ensures told { λ _. ⌜ now (answer .exit) ≡ answerNumbers (answerOn (now (area .entry)) (Count level)) ⌝ }
-{
-    if area.len() < 65536 {
-        return refuse(answer);
-    }
-    let mut sound = false;
-    let s = area::decode(area, &mut sound);
-    if sound {
-        let x = calls::count(s, level);
-        return tell(answer, x);
-    }
-    refuse(answer)
-}

@@ -8,9 +8,10 @@ use Rattle.seq.specs.Each.{each, eachBelow}
 use Rattle.seq.proofs.EachLaws.{each-below-none}
 use Rattle.words.specs.Bytes.{hasWords}
 use Rattle.model.specs.State.{withHoldings, emptyHolding, emptyHoldings}
-use Rattle.area.specs.Layout.{low, exact, decoded, exactHoldings, holdingFrom, holdingWords}
+use Rattle.area.specs.Layout.{low, exact, decoded, holdingFrom, holdingWords}
+use Rattle.area.specs.Inner.Exact.{exactHoldings}
 use Rattle.area.proofs.LoopLaws.{empty-holdings-long, read-turn, read-all, read-test}
-use Rattle.area.proofs.AreaSteps.{decode-state, exact-tests, holdings-still, holdings-next, tests-next, framed, decode-sound, decode-unsound}
+use Rattle.area.proofs.AreaSteps.{decode-state, exact-tests, holdings-still, holdings-next, tests-next, framed}
 use Rattle.area.proofs.decode.Statement.{statement}
 use Rattle.area.proofs.decode.Tie as tie
 use Rattle.area.proofs.decode.Reads as reads
@@ -23,7 +24,6 @@ use Rattle.area.proofs.holding_words.Reads as holding-words-reads
 use Rattle.area.proofs.is_frame.Reads as is-frame-reads
 use Rattle.area.proofs.low.Reads as low-reads
 use Rattle.model.proofs.empty_holdings.Reads as empty-holdings-reads
-use Rattle.sound.proofs.is_sound.Reads as is-sound-reads
 use Rattle.words.proofs.has_words.Reads as has-words-reads
 use Rattle.words.proofs.word.Reads as word-reads
 
@@ -40,10 +40,10 @@ unfolding decoded
 all-read a = refl
 
 abbrev Inv-loop : tie.InvT-loop
-Inv-loop a sound size delay clock frame exact₀ state₀ k₀ exact state k = (k ≤ 2048) × (state ≡ withHoldings state₀ (eachBelow k (λ j _. holdingFrom a (6656 + j * 24)) emptyHoldings)) × (exact ≡ exact₀ && allBelow k (λ j. hasWords a (6656 + j * 24) (holdingWords (holdingFrom a (6656 + j * 24)))))
+Inv-loop a whole size delay clock frame same₀ state₀ k₀ same state k = (k ≤ 2048) × (state ≡ withHoldings state₀ (eachBelow k (λ j _. holdingFrom a (6656 + j * 24)) emptyHoldings)) × (same ≡ same₀ && allBelow k (λ j. hasWords a (6656 + j * 24) (holdingWords (holdingFrom a (6656 + j * 24)))))
 
 abbrev μ-loop : tie.MeasureT-loop
-μ-loop a sound size delay clock frame exact₀ state₀ k₀ exact state k = 2048 - k
+μ-loop a whole size delay clock frame same₀ state₀ k₀ same state k = 2048 - k
 
 word-requires : tie.Need-word-requires Inv-loop μ-loop
 word-requires c κs = omega arith
@@ -119,27 +119,17 @@ loop-again : tie.Need-loop-again Inv-loop μ-loop
 loop-again c = (
   omega arith,
   holdings-next (record { size = c .before .before .before .before .before .before .before .before .before .before .before .before .before .before .before .before .before .before .before .word .result; delay = c .before .before .before .before .before .before .before .before .before .before .before .before .before .before .before .before .before .low .result; clock = c .before .before .before .before .before .before .before .before .before .before .before .before .before .before .before .low2 .result; rows = c .before .before .before .before .before .before .before .before .before .before .before .before .before .before .get-rows .result .rows; slots = c .before .before .before .before .before .before .before .before .before .before .before .before .before .get-slots .result .slots; holdings = c .before .before .before .before .before .before .before .empty-holdings .result }) (c .before .before .before .before .before .before .loop .state) _ _ (c .before .before .before .before .before .before .loop .k) _ (c .before .before .before .before .before .before .loop .inv .1) (read-turn (λ j. holdingFrom (c .before .before .before .before .before .before .before .before .before .before .before .before .before .before .before .before .before .before .before .before .before .args .a .now) (6656 + j * 24)) emptyHoldings emptyHolding 2048 empty-holdings-long (c .before .before .before .before .before .before .loop .k) _ _ (omega arith) refl (c .before .before .before .before .get-holding .ensures)),
-  tests-next (λ j. hasWords (c .before .before .before .before .before .before .before .before .before .before .before .before .before .before .before .before .before .before .before .before .before .args .a .now) (6656 + j * 24) (holdingWords (holdingFrom (c .before .before .before .before .before .before .before .before .before .before .before .before .before .before .before .before .before .before .before .before .before .args .a .now) (6656 + j * 24)))) (c .before .before .before .before .before .before .loop .k) (c .before .before .before .before .before .before .before .before .before .before .both2 .result) (c .before .before .before .before .before .before .loop .exact) _ _ (c .before .before .before .before .before .before .loop .inv .2)
+  tests-next (λ j. hasWords (c .before .before .before .before .before .before .before .before .before .before .before .before .before .before .before .before .before .before .before .before .before .args .a .now) (6656 + j * 24) (holdingWords (holdingFrom (c .before .before .before .before .before .before .before .before .before .before .before .before .before .before .before .before .before .before .before .before .before .args .a .now) (6656 + j * 24)))) (c .before .before .before .before .before .before .loop .k) (c .before .before .before .before .before .before .before .before .before .before .both2 .result) (c .before .before .before .before .before .before .loop .same) _ _ (c .before .before .before .before .before .before .loop .inv .2)
       (read-test holdingWords (c .before .before .before .before .before .before .before .before .before .before .before .before .before .before .before .before .before .before .before .before .before .args .a .now) (6656 + c .before .before .before .before .before .before .loop .k * 24) _ (c .before .before .before .before .get-holding .result) _ (c .before .before .before .holding-words .result) (c .before .has-words .ensures) (c .before .before .before .holding-words .ensures) (c .before .before .before .before .get-holding .ensures))
       (c .both3 .ensures),
 )
 
-is-sound-requires : tie.Need-is-sound-requires Inv-loop μ-loop
-is-sound-requires c κs = omega arith
-
 returns : tie.Need-returns Inv-loop μ-loop
 returns c =
-    let e : c .before .before .before .loop .k ≡ 2048 = omega arith in
-    let s = c .before .before .before .loop .inv .1 ∙ decode-state (c .before .before .before .before .before .before .before .before .before .before .before .before .before .before .before .before .before .before .args .a .now) _ (c .before .before .before .before .before .before .before .before .before .before .before .before .before .before .before .before .word .ensures) (c .before .before .before .before .before .before .before .before .before .before .before .before .before .before .low .ensures ∙ ap low (c .before .before .before .before .before .before .before .before .before .before .before .before .before .before .before .word2 .ensures)) (c .before .before .before .before .before .before .before .before .before .before .before .before .low2 .ensures ∙ ap low (c .before .before .before .before .before .before .before .before .before .before .before .before .before .word3 .ensures)) (c .before .before .before .before .before .before .before .before .before .before .before .get-rows .ensures .0) (c .before .before .before .before .before .before .before .before .before .before .get-slots .ensures .0) (read-all (λ j. holdingFrom (c .before .before .before .before .before .before .before .before .before .before .before .before .before .before .before .before .before .before .args .a .now) (6656 + j * 24)) emptyHoldings emptyHolding 2048 empty-holdings-long (c .before .before .before .loop .k) _ e refl ∙ all-read (c .before .before .before .before .before .before .before .before .before .before .before .before .before .before .before .before .before .before .args .a .now)) in
-    let t = exact-tests (c .before .before .before .before .before .before .before .before .before .before .before .before .before .before .before .before .before .before .args .a .now) _ _ _ _ _ _ _ (λ i. omega (arith, c .before .before .before .before .before .before .before .before .before .before .before .before .before .before .before .before .before .shared-slice-known .given i)) (omega arith) (c .before .before .before .before .before .before .before .before .before .is-frame .ensures ∙ framed (c .before .before .before .before .before .before .before .before .before .before .before .before .before .before .before .before .before .before .args .a .now) _ _ _ (c .before .before .before .before .before .before .before .before .before .before .before .before .before .before .before .before .word .ensures) (c .before .before .before .before .before .before .before .before .before .before .before .before .before .before .low .ensures ∙ ap low (c .before .before .before .before .before .before .before .before .before .before .before .before .before .before .before .word2 .ensures)) (c .before .before .before .before .before .before .before .before .before .before .before .before .low2 .ensures ∙ ap low (c .before .before .before .before .before .before .before .before .before .before .before .before .before .word3 .ensures))) (c .before .before .before .before .before .before .before .before .before .before .before .get-rows .ensures .1) (c .before .before .before .before .before .before .before .before .before .before .get-slots .ensures .1) (all-exact (c .before .before .before .before .before .before .before .before .before .before .before .before .before .before .before .before .before .before .args .a .now)) (c .before .before .before .before .before .before .before .before .both .ensures) (c .before .before .before .before .before .before .before .both2 .ensures) (c .before .before .before .loop .inv .2 ∙ rw e) in
-    (s, decode-sound (c .before .before .before .before .before .before .before .before .before .before .before .before .before .before .before .before .before .before .args .a .now) _ _ (omega arith) (sym t ∙ c .before .if1 .taken) s (c .is-sound .ensures))
-
-returns-2 : tie.Need-returns-2 Inv-loop μ-loop
-returns-2 c =
-    let e : c .before .before .loop .k ≡ 2048 = omega arith in
-    let s = c .before .before .loop .inv .1 ∙ decode-state (c .before .before .before .before .before .before .before .before .before .before .before .before .before .before .before .before .before .args .a .now) _ (c .before .before .before .before .before .before .before .before .before .before .before .before .before .before .before .word .ensures) (c .before .before .before .before .before .before .before .before .before .before .before .before .before .low .ensures ∙ ap low (c .before .before .before .before .before .before .before .before .before .before .before .before .before .before .word2 .ensures)) (c .before .before .before .before .before .before .before .before .before .before .before .low2 .ensures ∙ ap low (c .before .before .before .before .before .before .before .before .before .before .before .before .word3 .ensures)) (c .before .before .before .before .before .before .before .before .before .before .get-rows .ensures .0) (c .before .before .before .before .before .before .before .before .before .get-slots .ensures .0) (read-all (λ j. holdingFrom (c .before .before .before .before .before .before .before .before .before .before .before .before .before .before .before .before .before .args .a .now) (6656 + j * 24)) emptyHoldings emptyHolding 2048 empty-holdings-long (c .before .before .loop .k) _ e refl ∙ all-read (c .before .before .before .before .before .before .before .before .before .before .before .before .before .before .before .before .before .args .a .now)) in
-    let t = exact-tests (c .before .before .before .before .before .before .before .before .before .before .before .before .before .before .before .before .before .args .a .now) _ _ _ _ _ _ _ (λ i. omega (arith, c .before .before .before .before .before .before .before .before .before .before .before .before .before .before .before .before .shared-slice-known .given i)) (omega arith) (c .before .before .before .before .before .before .before .before .is-frame .ensures ∙ framed (c .before .before .before .before .before .before .before .before .before .before .before .before .before .before .before .before .before .args .a .now) _ _ _ (c .before .before .before .before .before .before .before .before .before .before .before .before .before .before .before .word .ensures) (c .before .before .before .before .before .before .before .before .before .before .before .before .before .low .ensures ∙ ap low (c .before .before .before .before .before .before .before .before .before .before .before .before .before .before .word2 .ensures)) (c .before .before .before .before .before .before .before .before .before .before .before .low2 .ensures ∙ ap low (c .before .before .before .before .before .before .before .before .before .before .before .before .word3 .ensures))) (c .before .before .before .before .before .before .before .before .before .before .get-rows .ensures .1) (c .before .before .before .before .before .before .before .before .before .get-slots .ensures .1) (all-exact (c .before .before .before .before .before .before .before .before .before .before .before .before .before .before .before .before .before .args .a .now)) (c .before .before .before .before .before .before .before .both .ensures) (c .before .before .before .before .before .before .both2 .ensures) (c .before .before .loop .inv .2 ∙ rw e) in
-    (s, decode-unsound (c .before .before .before .before .before .before .before .before .before .before .before .before .before .before .before .before .before .args .a .now) (sym t ∙ c .if1 .left) (omega arith))
+    let e : c .before .loop .k ≡ 2048 = omega arith in
+    let s = c .before .loop .inv .1 ∙ decode-state (c .before .before .before .before .before .before .before .before .before .before .before .before .before .before .before .before .args .a .now) _ (c .before .before .before .before .before .before .before .before .before .before .before .before .before .before .word .ensures) (c .before .before .before .before .before .before .before .before .before .before .before .before .low .ensures ∙ ap low (c .before .before .before .before .before .before .before .before .before .before .before .before .before .word2 .ensures)) (c .before .before .before .before .before .before .before .before .before .before .low2 .ensures ∙ ap low (c .before .before .before .before .before .before .before .before .before .before .before .word3 .ensures)) (c .before .before .before .before .before .before .before .before .before .get-rows .ensures .0) (c .before .before .before .before .before .before .before .before .get-slots .ensures .0) (read-all (λ j. holdingFrom (c .before .before .before .before .before .before .before .before .before .before .before .before .before .before .before .before .args .a .now) (6656 + j * 24)) emptyHoldings emptyHolding 2048 empty-holdings-long (c .before .loop .k) _ e refl ∙ all-read (c .before .before .before .before .before .before .before .before .before .before .before .before .before .before .before .before .args .a .now)) in
+    let t = exact-tests (c .before .before .before .before .before .before .before .before .before .before .before .before .before .before .before .before .args .a .now) _ _ _ _ _ _ _ (λ i. omega (arith, c .before .before .before .before .before .before .before .before .before .before .before .before .before .before .before .shared-slice-known .given i)) (omega arith) (c .before .before .before .before .before .before .before .is-frame .ensures ∙ framed (c .before .before .before .before .before .before .before .before .before .before .before .before .before .before .before .before .args .a .now) _ _ _ (c .before .before .before .before .before .before .before .before .before .before .before .before .before .before .word .ensures) (c .before .before .before .before .before .before .before .before .before .before .before .before .low .ensures ∙ ap low (c .before .before .before .before .before .before .before .before .before .before .before .before .before .word2 .ensures)) (c .before .before .before .before .before .before .before .before .before .before .low2 .ensures ∙ ap low (c .before .before .before .before .before .before .before .before .before .before .before .word3 .ensures))) (c .before .before .before .before .before .before .before .before .before .get-rows .ensures .1) (c .before .before .before .before .before .before .before .before .get-slots .ensures .1) (all-exact (c .before .before .before .before .before .before .before .before .before .before .before .before .before .before .before .before .args .a .now)) (c .before .before .before .before .before .before .both .ensures) (c .before .before .before .before .before .both2 .ensures) (c .before .loop .inv .2 ∙ rw e) in
+    (s, t)
 
 pub decode-spec : {M : Type 1} → statement M
 decode-spec =
@@ -171,6 +161,4 @@ decode-spec =
     add-k
     loop-less
     loop-again
-    is-sound-requires
-    returns
-    returns-2)
+    returns)

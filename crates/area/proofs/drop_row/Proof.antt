@@ -2,7 +2,7 @@ use native.Mathlib.Omega.{arith}
 use mathlib.Core.Path.{_≡_, refl, _∙_}
 use Prim.Native.Nat.{_≤_, _-_}
 use lib.ListN.{length}
-use Rattle.area.specs.Writes.{rowDropped}
+use Rattle.area.specs.Inner.Writes.{rowDropped}
 use Rattle.area.proofs.LoopLaws.{drop-turn}
 use Rattle.area.proofs.drop_row.Statement.{statement}
 use Rattle.area.proofs.drop_row.Tie as tie

@@ -4,7 +4,7 @@ use mathlib.Core.Logic.{⊎-elim}
 use Prim.Native.Nat.{_≤_, _-_}
 use lib.ListN.{length}
 use Rattle.model.specs.Inner.Changed.{marked}
-use Rattle.area.specs.Writes.{rowsDropped}
+use Rattle.area.specs.Inner.Writes.{rowsDropped}
 use Rattle.area.proofs.LoopLaws.{drops-turn, skips-turn}
 use Rattle.area.proofs.drop_rows.Statement.{statement}
 use Rattle.area.proofs.drop_rows.Tie as tie

@@ -10,7 +10,8 @@ use Rattle.seq.specs.Below.{allBelow}
 use Rattle.seq.specs.Each.{eachBelow}
 use Rattle.words.specs.Bytes.{hasWords, spliced, joined, wordBytes}
 use Rattle.model.specs.State.{freeRow, emptyHoldings}
-use Rattle.area.specs.Layout.{rowFrom, rowWords, freeRows, emptySlots, decoded, exactRows}
+use Rattle.area.specs.Layout.{rowFrom, rowWords, freeRows, emptySlots, decoded}
+use Rattle.area.specs.Inner.Exact.{exactRows}
 use Rattle.area.proofs.get_rows.Statement.{statement}
 use Rattle.area.proofs.get_rows.Tie as tie
 use Rattle.area.proofs.get_rows.Reads as reads

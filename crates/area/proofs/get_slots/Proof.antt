@@ -10,7 +10,8 @@ use Rattle.seq.specs.Below.{allBelow}
 use Rattle.seq.specs.Each.{eachBelow}
 use Rattle.words.specs.Bytes.{hasWords, spliced, joined, wordBytes}
 use Rattle.model.specs.State.{emptySlot, emptyHoldings}
-use Rattle.area.specs.Layout.{slotFrom, slotWords, freeRows, emptySlots, decoded, exactSlots}
+use Rattle.area.specs.Layout.{slotFrom, slotWords, freeRows, emptySlots, decoded}
+use Rattle.area.specs.Inner.Exact.{exactSlots}
 use Rattle.area.proofs.get_slots.Statement.{statement}
 use Rattle.area.proofs.get_slots.Tie as tie
 use Rattle.area.proofs.get_slots.Reads as reads

@@ -12,10 +12,10 @@ use borrow.Author.Tests.{lt-ltb}
 use Rattle.model.specs.declared.Call.the-variants.{Start}
 use Rattle.sabre.specs.Lent.{unfit}
 use borrow.Author.Needs.{needs}
-use Rattle.sabre.proofs.sabre_start.Statement.{statement}
-use Rattle.sabre.proofs.sabre_start.Tie as tie
-use Rattle.sabre.proofs.sabre_start.Reads as reads
-use Rattle.sabre.proofs.sabre_start.Lts as lts
+use Rattle.sabre.proofs.start.Statement.{statement}
+use Rattle.sabre.proofs.start.Tie as tie
+use Rattle.sabre.proofs.start.Reads as reads
+use Rattle.sabre.proofs.start.Lts as lts
 use Rattle.area.proofs.encode.Reads as encode-reads
 use Rattle.calls.proofs.start_refusal.Reads as start-refusal-reads
 use Rattle.model.proofs.fresh_state.Reads as fresh-state-reads
@@ -61,8 +61,8 @@ returns-3 c =
     let p = start-accepted (c .before .before .before .before .before .before .before .before .before .before .before .args .area .now) (c .before .before .before .before .before .before .before .before .before .before .before .args .slots) (c .before .before .before .before .before .before .before .before .before .before .before .args .delay) _ _ _ (omega arith) (c .before .before .before .before .before .before .before .before .start-refusal .result) (c .before .before .before .before .before .before .before .before .start-refusal .ensures) (c .before .before .before .before .before .before .before .if2 .left) (c .tell2 .ensures .0) (c .tell2 .ensures .1) (c .before .before .before .before .encode .ensures ∙ ap (λ (s : State). encoded s ++ drop 65536 (c .before .before .before .before .before .before .before .before .before .before .before .args .area .now)) (c .before .before .before .before .before .before .fresh-state .ensures)) in
     (p .returned, (p .told, p .left))
 
-pub sabre-start-spec : {M : Type 1} → statement M
-sabre-start-spec =
+pub start-spec : {M : Type 1} → statement M
+start-spec =
     tie.close
     (tie.spec
     refuse-requires

@@ -1,4 +1,4 @@
--- The holdings of some rows written over with zeros, in all 64 slots: docs/LAYOUT.md.
+-- For the code; proved equal to the bytes of the changed state, proofs/Amends.antt: the holdings of some rows written over with zeros, in all 64 slots.
 use mathlib.Core.Bool.{Bool, cond}
 use mathlib.Core.List.{List}
 use Prim.Native.Nat.{ℕ, zero, suc, _+_, _*_}

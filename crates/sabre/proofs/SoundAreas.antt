@@ -1,0 +1,69 @@
+-- What a sound area is, and the bytes of a sound state.
+use mathlib.Core.Path.{_≡_, refl, sym, ap, _∙_}
+use mathlib.Core.Bool.{Bool, true, false, _&&_}
+use mathlib.Core.List.{List, _++_}
+use Prim.Native.Nat.{ℕ, _<_, _≤_}
+use native.Mathlib.Omega.{arith}
+use borrow.Author.Tests.{leb-true, le-leb, lt-leb}
+use lib.Dec.{leb}
+use lib.ListN.{length, drop, length-append}
+use Rattle.seq.proofs.Tests.{and-true, both-true, true-false}
+use Rattle.model.specs.declared.State.{State}
+use Rattle.model.proofs.Ranges.{StateOk}
+use Rattle.rules.specs.Sound.{sound}
+use Rattle.area.specs.Layout.{encoded, decoded, exact}
+use Rattle.area.proofs.RoundTrip.{encoded-long, decode-encode, encode-exact, exact-area}
+use Rattle.sabre.specs.Lent.{soundArea}
+
+-- what the test says of an area
+pub record SoundArea (a : List ℕ) : Type 0 where
+  pub long : 65536 ≤ length a
+  pub exactly : exact a ≡ true
+  pub sound-state : sound (decoded a) ≡ true
+
+pub sound-area : (a : List ℕ) → soundArea a ≡ true → SoundArea a
+unfolding soundArea
+sound-area a e =
+    let p = and-true (leb 65536 (length a)) (exact a && sound (decoded a)) e in
+    let q = and-true (exact a) (sound (decoded a)) (p .1) in
+    record { long = leb-true 65536 (length a) (p .0); exactly = q .0; sound-state = q .1 }
+
+pub area-sound : (a : List ℕ) → 65536 ≤ length a → exact a ≡ true → sound (decoded a) ≡ true → soundArea a ≡ true
+unfolding soundArea
+area-sound a l e h = both-true (le-leb 65536 (length a) l) (both-true e h)
+
+pub sound-area-bytes : (a : List ℕ) → soundArea a ≡ true → encoded (decoded a) ++ drop 65536 a ≡ a
+sound-area-bytes a e = exact-area a (sound-area a e .exactly)
+
+pub encode-sound : (s : State) → StateOk s → (r : List ℕ) → sound s ≡ true → soundArea (encoded s ++ r) ≡ true
+encode-sound s k r h =
+    let l : 65536 ≤ length (encoded s ++ r) = rw (length-append (encoded s) r, encoded-long s) (omega arith) in
+    area-sound (encoded s ++ r) l (encode-exact s k r) (rw (decode-encode s k r) h)
+
+-- a short area
+pub short-unsound : (a : List ℕ) → length a < 65536 → soundArea a ≡ false
+unfolding soundArea
+short-unsound a h = rw (lt-leb 65536 (length a) h)
+
+and-false : (b : Bool) → b && false ≡ false
+and-false true = refl
+and-false false = refl
+
+-- what opening an area comes to: its length, its bytes and its state tested one after another
+abbrev pub Opened : List ℕ → Bool → State → Type 0
+Opened a b s = (b ≡ soundArea a) × (soundArea a ≡ true → s ≡ decoded a)
+
+module _ (a : List ℕ) (s : State) where
+  pub opened-short : length a < 65536 → Opened a false s
+  opened-short h =
+      let e : false ≡ soundArea a = sym (short-unsound a h) in
+      (e, λ z. true-false (sym z ∙ sym e))
+
+  module _ (e : s ≡ decoded a) (whole : Bool) (f : whole ≡ exact a) where
+    pub opened-whole : 65536 ≤ length a → whole ≡ true → (b : Bool) → b ≡ sound s → Opened a b s
+    unfolding soundArea
+    opened-whole l g b h = (h ∙ rw (le-leb 65536 (length a) l, ← f, g) (ap sound e), λ _. e)
+
+    pub opened-inexact : whole ≡ false → Opened a false s
+    unfolding soundArea
+    opened-inexact g = (sym (rw (← f, g) (and-false (leb 65536 (length a)))), λ _. e)
