@@ -1,3 +1,4 @@
+pub mod TagLaws
 pub mod CallLaws
 pub mod MarkLaws
 pub mod SlotLaws

@@ -29,7 +29,7 @@ use Rattle.model.proofs.ChangedLaws.{changed-dropped, changed-none, held-set}
 use Rattle.rules.specs.Calls.{unless, unpinnedAt}
 use Rattle.serve.specs.SlotHoldings.{holdingsOn}
 use Rattle.serve.proofs.SlotLaws.{held-by}
-use Rattle.calls.specs.Elements.{refusedReply}
+use Rattle.calls.specs.Elements.{sameReply, refusedReply}
 use Rattle.calls.proofs.CallLaws.{refused}
 
 module _ (s : State) (z : Sized s) where
@@ -40,6 +40,14 @@ module _ (s : State) (z : Sized s) where
   stay-after c rows a e =
       let t : changed s c ≡ withRows s rows = ap (changed s) e ∙ changed-none s z (s .clock) rows (s .slots) (replicate 32 false) (λ row _. replicate-at 32 row false) in
       λ j. record { state = t j; answer = a }
+
+  -- a call that changes nothing
+  pub same-reply : (r : Reply) (a : Answer) → r ≡ sameReply (s .clock) (s .rows) (s .slots) a → outcomeOf s r ≡ record { state = s; answer = a }
+  unfolding sameReply
+  same-reply r a e = ap (outcomeOf s) e ∙ stay-after (holdingsDropped (s .clock) (s .rows) (s .slots) (replicate 32 false)) (s .rows) a refl
+
+  pub same-after : (r : Reply) (a : Answer) (o : Outcome) → r ≡ sameReply (s .clock) (s .rows) (s .slots) a → a ≡ o .answer → o .state ≡ s → outcomeOf s r ≡ o
+  same-after r a o e f g = same-reply r a e ∙ (λ j. record { state = sym g j; answer = f j })
 
   -- a refused call
   pub refused-reply : (r : Reply) (n : ℕ) → r ≡ refusedReply (s .clock) (s .rows) (s .slots) n → outcomeOf s r ≡ record { state = s; answer = Refused n }

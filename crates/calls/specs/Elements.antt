@@ -37,6 +37,10 @@ accessRefusal c level page mode =
     ∷ (14, not (isRead (modeOf mode)) && not (mayAccess level page (modeOf mode)))
     ∷ [])
 
+-- a reply that changes nothing
+unfoldable pub sameReply : ℕ → List Row → List Slot → Answer → Reply
+sameReply clock rows slots answer = record { change = holdingsDropped clock rows slots (replicate 32 false); answer = answer }
+
 -- a refused call changes nothing
 unfoldable pub refusedReply : ℕ → List Row → List Slot → ℕ → Reply
 refusedReply clock rows slots number = record { change = holdingsDropped clock rows slots (replicate 32 false); answer = Refused number }
