@@ -1,6 +1,6 @@
 -- What each exit of an exported call comes to, and what a sound area gives to the call on its state.
 use mathlib.Core.Path.{_≡_, refl, _∙_, sym, ap}
-use mathlib.Core.Bool.{Bool, true, false, cond, not}
+use mathlib.Core.Bool.{Bool, true, false, cond, _||_, not}
 use mathlib.Core.List.{List, [], _∷_, _++_}
 use Prim.Native.Nat.{ℕ, zero, suc, _+_, _<_, _≤_, _^_}
 use native.Mathlib.Omega.{arith}
@@ -11,6 +11,9 @@ use Rattle.seq.proofs.Tests.{true-false}
 use mir.Val.{Val}
 use denote.Laws.{Is}
 use Rattle.model.proofs.Answer as Answer'
+use Rattle.model.proofs.Call as Call'
+use denote.Enum.Declared.{tagOf}
+use types.Run.{OneOf, miss}
 use Rattle.model.specs.declared.State.{State}
 use Rattle.model.specs.declared.Outcome.{Outcome}
 use Rattle.model.specs.declared.Reply.{Reply}
@@ -43,11 +46,12 @@ use Rattle.model.specs.declared.Answer.the-variants.{
 use Rattle.model.specs.State.{fresh}
 use Rattle.model.specs.Inner.Changed.{changed, outcomeOf}
 use Rattle.rules.specs.Sound.{sound}
+use Rattle.rules.specs.Content.{fields, isStart, isReading}
 use Rattle.rules.specs.Answers.{word, value, slotTold, backTold}
 use Rattle.rules.specs.Refusals.{startRefusal}
 use Rattle.rules.specs.Calls.{unless, started}
 use Rattle.model.specs.declared.Call.{Call}
-use Rattle.model.specs.declared.Call.the-variants.{Start}
+use Rattle.model.specs.declared.Call.the-variants.{Start, Begin, Request, Retry, Unpin, End, Tick, Look, View, Count}
 use Rattle.rules.specs.Run.{outcome}
 use Rattle.rules.proofs.Facts.SoundFacts.{Sound, facts}
 use Rattle.rules.proofs.Promises.Granting.{grant-ready, granted-answer}
@@ -72,6 +76,31 @@ module _ (a : List ℕ) (c : Call) where
       → r ≡ status (o .answer) → ns ≡ answerNumbers (o .answer) → b ≡ cond (isRefused (o .answer)) a (encoded (o .state) ++ drop 65536 a) → Promise a c r ns b
   unfolding answerOn areaAfter
   finished o r ns b u e p q t = record { returned = rw (u, ← e) p; told = rw (u, ← e) q; left = rw (u, ← e) t }
+
+-- which calls are no start: those of the other tags, and look, view and count
+pub not-start : (c : Call) → OneOf (1 ∷ 2 ∷ 3 ∷ 4 ∷ 5 ∷ 6 ∷ 7 ∷ 8 ∷ 9 ∷ []) (tagOf Call'.the-type c) → isStart c ≡ false
+not-start (Start slots delay) k = absurd (miss (1 ∷ 2 ∷ 3 ∷ 4 ∷ 5 ∷ 6 ∷ 7 ∷ 8 ∷ 9 ∷ []) 0 tt k)
+not-start (Begin level number deadline) k = refl
+not-start (Request level number page mode) k = refl
+not-start (Retry level number) k = refl
+not-start (Unpin level number page) k = refl
+not-start (End level number) k = refl
+not-start Tick k = refl
+not-start (Look level number) k = refl
+not-start (View level page) k = refl
+not-start (Count level) k = refl
+
+pub reading-no-start : (c : Call) → isReading c ≡ true → isStart c ≡ false
+reading-no-start c = go (fields c .kind)
+  where
+    go : (kind : ℕ) → (eqb kind 7 || eqb kind 8 || eqb kind 9) ≡ true → eqb kind 0 ≡ false
+    go zero e = true-false (sym e)
+    go (suc kind) e = ne-eqb (suc kind) 0 (λ s. omega (arith, s))
+
+-- the area of such a call is unfit where it is not sound
+pub unfit-by : (a : List ℕ) (c : Call) (b : Bool) → isStart c ≡ false → soundArea a ≡ b → unfit a c ≡ not b
+unfolding unfit
+unfit-by a c b n e = rw (n, e)
 
 -- a sound area's state is small enough for the call
 pub sound-state : (a : List ℕ) (s : State) → s ≡ decoded a → soundArea a ≡ true → Sound s

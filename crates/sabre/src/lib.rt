@@ -146,3 +146,166 @@ fn start(area: &mut [u8], slots: u32, delay: u32, answer: &mut [u64; 4]) -> u32
     tell(answer, Answer::Started)
 }
 
+// A call made on an area.
+pub fn make(area: &mut [u8], c: Call, answer: &mut [u64; 4]) -> u32
+    ensures returned { λ r. ⌜ r ≡ status (answerOn (now (area .entry)) c) ⌝ }
+    ensures told { λ _. ⌜ now (answer .exit) ≡ answerNumbers (answerOn (now (area .entry)) c) ⌝ }
+    ensures left { λ _. ⌜ now (area .exit) ≡ areaAfter (now (area .entry)) c ⌝ }
+{
+    if let Call::Start { slots, delay } = c {
+        return start(area, slots, delay, answer);
+    }
+    let mut sound = false;
+    let s = open(area, &mut sound);
+    if sound {
+        let r = calls::make(s, c);
+        return finish(area, answer, r);
+    }
+    refuse(answer)
+}
+
+// A look, view or count, which leave the area.
+fn ask(area: &[u8], c: Call, answer: &mut [u64; 4]) -> u32
+    requires { ⌜ isReading c ≡ true ⌝ }
+    ensures returned { λ r. ⌜ r ≡ status (answerOn (now (area .entry)) c) ⌝ }
+    ensures told { λ _. ⌜ now (answer .exit) ≡ answerNumbers (answerOn (now (area .entry)) c) ⌝ }
+{
+    let mut sound = false;
+    let s = open(area, &mut sound);
+    if sound {
+        let x = calls::ask(s, c);
+        return tell(answer, x);
+    }
+    refuse(answer)
+}
+
+#[no_mangle]
+pub extern "C" fn sabre_start(area: &mut [u8], slots: u32, delay: u32, answer: &mut [u64; 4]) -> u32
+    ensures returned { λ r. ⌜ r ≡ status (answerOn (now (area .entry)) (Start slots delay)) ⌝ }
+    ensures told { λ _. ⌜ now (answer .exit) ≡ answerNumbers (answerOn (now (area .entry)) (Start slots delay)) ⌝ }
+    ensures left { λ _. ⌜ now (area .exit) ≡ areaAfter (now (area .entry)) (Start slots delay) ⌝ }
+{
+    make(area, Call::Start { slots, delay }, answer)
+}
+
+#[no_mangle]
+pub extern "C" fn sabre_begin(
+    area: &mut [u8],
+    level: u32,
+    row: u32,
+    deadline: u32,
+    answer: &mut [u64; 4],
+) -> u32
+    ensures returned { λ r. ⌜ r ≡ status (answerOn (now (area .entry)) (Begin level row deadline)) ⌝ }
+    ensures told { λ _. ⌜ now (answer .exit) ≡ answerNumbers (answerOn (now (area .entry)) (Begin level row deadline)) ⌝ }
+    ensures left { λ _. ⌜ now (area .exit) ≡ areaAfter (now (area .entry)) (Begin level row deadline) ⌝ }
+{
+    make(
+        area,
+        Call::Begin {
+            level,
+            number: row,
+            deadline,
+        },
+        answer,
+    )
+}
+
+#[no_mangle]
+pub extern "C" fn sabre_request(
+    area: &mut [u8],
+    level: u32,
+    row: u32,
+    page: u32,
+    mode: u32,
+    answer: &mut [u64; 4],
+) -> u32
+    ensures returned { λ r. ⌜ r ≡ status (answerOn (now (area .entry)) (Request level row page mode)) ⌝ }
+    ensures told { λ _. ⌜ now (answer .exit) ≡ answerNumbers (answerOn (now (area .entry)) (Request level row page mode)) ⌝ }
+    ensures left { λ _. ⌜ now (area .exit) ≡ areaAfter (now (area .entry)) (Request level row page mode) ⌝ }
+{
+    make(
+        area,
+        Call::Request {
+            level,
+            number: row,
+            page,
+            mode,
+        },
+        answer,
+    )
+}
+
+#[no_mangle]
+pub extern "C" fn sabre_retry(area: &mut [u8], level: u32, row: u32, answer: &mut [u64; 4]) -> u32
+    ensures returned { λ r. ⌜ r ≡ status (answerOn (now (area .entry)) (Retry level row)) ⌝ }
+    ensures told { λ _. ⌜ now (answer .exit) ≡ answerNumbers (answerOn (now (area .entry)) (Retry level row)) ⌝ }
+    ensures left { λ _. ⌜ now (area .exit) ≡ areaAfter (now (area .entry)) (Retry level row) ⌝ }
+{
+    make(area, Call::Retry { level, number: row }, answer)
+}
+
+#[no_mangle]
+pub extern "C" fn sabre_unpin(
+    area: &mut [u8],
+    level: u32,
+    row: u32,
+    page: u32,
+    answer: &mut [u64; 4],
+) -> u32
+    ensures returned { λ r. ⌜ r ≡ status (answerOn (now (area .entry)) (Unpin level row page)) ⌝ }
+    ensures told { λ _. ⌜ now (answer .exit) ≡ answerNumbers (answerOn (now (area .entry)) (Unpin level row page)) ⌝ }
+    ensures left { λ _. ⌜ now (area .exit) ≡ areaAfter (now (area .entry)) (Unpin level row page) ⌝ }
+{
+    make(
+        area,
+        Call::Unpin {
+            level,
+            number: row,
+            page,
+        },
+        answer,
+    )
+}
+
+#[no_mangle]
+pub extern "C" fn sabre_end(area: &mut [u8], level: u32, row: u32, answer: &mut [u64; 4]) -> u32
+    ensures returned { λ r. ⌜ r ≡ status (answerOn (now (area .entry)) (End level row)) ⌝ }
+    ensures told { λ _. ⌜ now (answer .exit) ≡ answerNumbers (answerOn (now (area .entry)) (End level row)) ⌝ }
+    ensures left { λ _. ⌜ now (area .exit) ≡ areaAfter (now (area .entry)) (End level row) ⌝ }
+{
+    make(area, Call::End { level, number: row }, answer)
+}
+
+#[no_mangle]
+pub extern "C" fn sabre_tick(area: &mut [u8], answer: &mut [u64; 4]) -> u32
+    ensures returned { λ r. ⌜ r ≡ status (answerOn (now (area .entry)) Tick) ⌝ }
+    ensures told { λ _. ⌜ now (answer .exit) ≡ answerNumbers (answerOn (now (area .entry)) Tick) ⌝ }
+    ensures left { λ _. ⌜ now (area .exit) ≡ areaAfter (now (area .entry)) Tick ⌝ }
+{
+    make(area, Call::Tick, answer)
+}
+
+#[no_mangle]
+pub extern "C" fn sabre_look(area: &[u8], level: u32, row: u32, answer: &mut [u64; 4]) -> u32
+    ensures returned { λ r. ⌜ r ≡ status (answerOn (now (area .entry)) (Look level row)) ⌝ }
+    ensures told { λ _. ⌜ now (answer .exit) ≡ answerNumbers (answerOn (now (area .entry)) (Look level row)) ⌝ }
+{
+    ask(area, Call::Look { level, number: row }, answer)
+}
+
+#[no_mangle]
+pub extern "C" fn sabre_view(area: &[u8], level: u32, page: u32, answer: &mut [u64; 4]) -> u32
+    ensures returned { λ r. ⌜ r ≡ status (answerOn (now (area .entry)) (View level page)) ⌝ }
+    ensures told { λ _. ⌜ now (answer .exit) ≡ answerNumbers (answerOn (now (area .entry)) (View level page)) ⌝ }
+{
+    ask(area, Call::View { level, page }, answer)
+}
+
+#[no_mangle]
+pub extern "C" fn sabre_count(area: &[u8], level: u32, answer: &mut [u64; 4]) -> u32
+    ensures returned { λ r. ⌜ r ≡ status (answerOn (now (area .entry)) (Count level)) ⌝ }
+    ensures told { λ _. ⌜ now (answer .exit) ≡ answerNumbers (answerOn (now (area .entry)) (Count level)) ⌝ }
+{
+    ask(area, Call::Count { level }, answer)
+}
