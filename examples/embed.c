@@ -16,11 +16,6 @@
 #define RECORD 16
 #define NO_PAGE PAGES
 
-static const char *const words[] = {
-    "refused", "started", "begun", "ready", "fetch", "wait", "unpinned", "ended", "clock", "none",
-    "idle", "late", "taken", "unseen", "active", "read", "write", "dormant", "open"
-};
-
 static uint8_t area[SABRE_AREA_SIZE];
 static uint64_t answer[4];
 
@@ -35,24 +30,25 @@ static void fail(const char *text)
     exit(1);
 }
 
+/* A slot or a page, `-` for none. */
+static void print_or_dash(int number)
+{
+    if (number < 0) {
+        printf(" -");
+    } else {
+        printf(" %d", number);
+    }
+}
+
 /* One line: number, word, value, and for the server alone slot and page to write back. */
 static void print_answer(void)
 {
     static unsigned number = 0;
-    int i;
 
     number++;
-    if (answer[0] > SABRE_OPEN) {
-        fail("a word that this program does not know");
-    }
-    printf("%u %s %lu |", number, words[answer[0]], (unsigned long)answer[1]);
-    for (i = 2; i < 4; i++) {
-        if (answer[i] == 0) {
-            printf(" -");
-        } else {
-            printf(" %lu", (unsigned long)(answer[i] - 1));
-        }
-    }
+    printf("%u %s %lu |", number, sabre_word_text(answer[0]), (unsigned long)answer[1]);
+    print_or_dash(sabre_slot(answer));
+    print_or_dash(sabre_back(answer));
     printf("\n");
 }
 
@@ -78,12 +74,16 @@ static void expect_refusal(uint32_t status, enum sabre_refusal number)
 }
 
 /* The part of the server on ready and fetch; returns the slot of the page. */
-static uint32_t into_slot(uint32_t page)
+static int into_slot(uint32_t page)
 {
-    uint32_t slot = (uint32_t)answer[2] - 1;
+    int slot = sabre_slot(answer);
+    int back = sabre_back(answer);
 
-    if (answer[3] != 0) {
-        memcpy(disk[answer[3] - 1], slots[slot], RECORD);
+    if (slot < 0) {
+        fail("no slot is told");
+    }
+    if (back >= 0) {
+        memcpy(disk[back], slots[slot], RECORD);
     }
     if (page_in[slot] != page) {
         memcpy(slots[slot], disk[page], RECORD);
@@ -95,7 +95,7 @@ static uint32_t into_slot(uint32_t page)
 int main(void)
 {
     static uint8_t before[SABRE_AREA_SIZE];
-    uint32_t slot;
+    int slot;
     uint32_t status;
 
     strcpy(disk[7], "bag in stock");
@@ -105,6 +105,9 @@ int main(void)
     printf("call word value | slot back\n");
 
     expect(sabre_start(area, sizeof area, SLOTS, DELAY, answer), SABRE_STARTED, 0);
+    if (area[8] != SABRE_LAYOUT_VERSION) {
+        fail("the library has another layout than sabre.h");
+    }
 
     /* The look-back room reads page 7. */
     expect(sabre_begin(area, sizeof area, 3, 0, 100, answer), SABRE_BEGUN, 0);

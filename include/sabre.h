@@ -19,6 +19,7 @@
  *                open           the number of open slots
  *   answer[2]  slot + 1, for ready and fetch of request and retry; else 0
  *   answer[3]  page to write back + 1; 0 if there is none
+ * sabre_slot, sabre_back and sabre_word_text, at the end of this file, read it.
  * Word and value may go to the clearance that made the call, and to no other.
  * answer[2] and answer[3] depend on what higher clearances do. They are for the
  * server alone: never pass them, or anything of the area, on to a clearance.
@@ -51,6 +52,9 @@ extern "C" {
 
 /* The bytes of the state. */
 #define SABRE_AREA_SIZE 65536
+
+/* The version of the layout of docs/LAYOUT.md, which stands in an area from byte 8 on. */
+#define SABRE_LAYOUT_VERSION 1
 
 /* answer[0]. Other words may be added at the end. */
 enum sabre_word {
@@ -187,6 +191,29 @@ uint32_t sabre_view(const uint8_t *area, size_t len, uint32_t level, uint32_t pa
  * Answers open. Refusals 1, 4.
  */
 uint32_t sabre_count(const uint8_t *area, size_t len, uint32_t level, uint64_t answer[4]);
+
+/* The slot of an answer that a call has filled; -1 if there is none. For the server alone. */
+static inline int sabre_slot(const uint64_t answer[4])
+{
+    return answer[2] == 0 ? -1 : (int)(answer[2] - 1);
+}
+
+/* The page to write back of an answer that a call has filled; -1 if there is none. For the server alone. */
+static inline int sabre_back(const uint64_t answer[4])
+{
+    return answer[3] == 0 ? -1 : (int)(answer[3] - 1);
+}
+
+/* The text of a word, answer[0]; "unknown" for a number that is not of enum sabre_word. */
+static inline const char *sabre_word_text(uint64_t word)
+{
+    static const char *const texts[] = {
+        "refused", "started", "begun", "ready", "fetch", "wait", "unpinned", "ended", "clock", "none",
+        "idle", "late", "taken", "unseen", "active", "read", "write", "dormant", "open"
+    };
+
+    return word < sizeof texts / sizeof texts[0] ? texts[word] : "unknown";
+}
 
 #ifdef __cplusplus
 }
