@@ -67,11 +67,11 @@ unfolding decoded
 decode-state a s e1 e2 e3 e4 e5 e6 = λ i. record { size = e1 i; delay = e2 i; clock = e3 i; rows = e4 i; slots = e5 i; holdings = e6 i }
 
 -- the header of the state that an area names
-pub framed : (a : List ℕ) (size delay clock : ℕ) → size ≡ wordAt a 16 → delay ≡ low (wordAt a 24) → clock ≡ low (wordAt a 32)
-    → hasWords a 0 (mark ∷ version ∷ size ∷ delay ∷ clock ∷ []) && (hasWords a 40 (replicate 59 0) && hasWords a 55808 (replicate 1216 0))
-    ≡ hasWords a 0 (headerWords (decoded a)) && (hasWords a 40 (replicate 59 0) && hasWords a 55808 (replicate 1216 0))
+pub framed : (a : List ℕ) (size delay clock : ℕ) (f : Bool) → size ≡ wordAt a 16 → delay ≡ low (wordAt a 24) → clock ≡ low (wordAt a 32)
+    → f ≡ hasWords a 0 (mark ∷ version ∷ size ∷ delay ∷ clock ∷ []) && (hasWords a 40 (replicate 59 0) && hasWords a 55808 (replicate 1216 0))
+    → f ≡ hasWords a 0 (headerWords (decoded a)) && (hasWords a 40 (replicate 59 0) && hasWords a 55808 (replicate 1216 0))
 unfolding headerWords decoded
-framed a size delay clock e1 e2 e3 = rw (e1, e2, e3)
+framed a size delay clock f e1 e2 e3 e = rw (← e1, ← e2, ← e3) e
 
 -- six lists written one after another from the front
 pub six : (a a1 a2 a3 a4 a5 a6 p1 p2 p3 p4 p5 p6 : List ℕ) (n1 n2 n3 n4 n5 n6 : ℕ)

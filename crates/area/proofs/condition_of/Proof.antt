@@ -1,4 +1,3 @@
-use Rattle.seq.proofs.Tests.{tests}
 use Rattle.area.specs.Layout.{conditionOf, low}
 use mathlib.Core.Path.{_≡_}
 use Prim.Native.Nat.{ℕ}
@@ -29,18 +28,18 @@ taken n w m a b c d e = rw (ne-eqb n 0 a, ne-eqb n 1 b, ne-eqb n 2 c, ne-eqb n 3
 
 returns : tie.Need-returns
 unfolding conditionOf
-returns c = simp (tests, c .if1 .taken)
+returns c = simp (c .if1 .taken)
 
 returns-2 : tie.Need-returns-2
 unfolding conditionOf
-returns-2 c = simp (tests, c .if2 .taken, c .before .if1 .left)
+returns-2 c = simp (c .if2 .taken)
 
 low-requires : tie.Need-low-requires
 low-requires c κs = search needs
 
 returns-3 : tie.Need-returns-3
 unfolding conditionOf
-returns-3 c = simp (tests, c .low .ensures, c .before .if3 .taken, c .before .before .if2 .left, c .before .before .before .if1 .left)
+returns-3 c = simp (c .low .ensures, c .before .if3 .taken)
 
 low-requires-2 : tie.Need-low-requires-2
 low-requires-2 c κs = search needs

@@ -9,7 +9,7 @@ use Rattle.area.proofs.low.Reads as low-reads
 
 returns : tie.Need-returns
 unfolding contentOf
-returns c = simp (tests, c .if1 .taken)
+returns c = simp (c .if1 .taken)
 
 low-requires : tie.Need-low-requires
 low-requires c κs = search needs

@@ -1,4 +1,3 @@
-use Rattle.seq.proofs.Tests.{tests}
 use Rattle.area.specs.Layout.{holdingFrom}
 use borrow.Author.Needs.{needs}
 use Rattle.area.proofs.get_holding.Statement.{statement}
@@ -35,7 +34,7 @@ low-requires-2 c κs = search needs
 
 returns : tie.Need-returns
 unfolding holdingFrom
-returns c = simp (tests, c .low2 .ensures, c .before .low .ensures, c .before .before .pin-numbered .ensures, c .before .before .before .word3 .ensures, c .before .before .before .before .word2 .ensures, c .before .before .before .before .before .word .ensures)
+returns c = simp (c .low2 .ensures, c .before .low .ensures, c .before .before .pin-numbered .ensures, c .before .before .before .word3 .ensures, c .before .before .before .before .word2 .ensures, c .before .before .before .before .before .word .ensures)
 
 pub get-holding-spec : {M : Type 1} → statement M
 get-holding-spec =

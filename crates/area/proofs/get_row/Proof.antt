@@ -1,4 +1,3 @@
-use Rattle.seq.proofs.Tests.{tests}
 use Rattle.area.specs.Layout.{rowFrom}
 use borrow.Author.Needs.{needs}
 use Rattle.area.proofs.get_row.Statement.{statement}
@@ -38,7 +37,7 @@ low-requires c κs = search needs
 
 returns : tie.Need-returns
 unfolding rowFrom
-returns c = simp (tests, c .low .ensures, c .before .condition-of .ensures, c .before .before .word4 .ensures, c .before .before .before .word3 .ensures, c .before .before .before .before .word2 .ensures, c .before .before .before .before .before .word .ensures)
+returns c = simp (c .low .ensures, c .before .condition-of .ensures, c .before .before .word4 .ensures, c .before .before .before .word3 .ensures, c .before .before .before .before .word2 .ensures, c .before .before .before .before .before .word .ensures)
 
 pub get-row-spec : {M : Type 1} → statement M
 get-row-spec =

@@ -1,4 +1,3 @@
-use Rattle.seq.proofs.Tests.{tests}
 use Rattle.area.specs.Layout.{slotFrom}
 use borrow.Author.Needs.{needs}
 use Rattle.area.proofs.get_slot.Statement.{statement}
@@ -50,7 +49,7 @@ low-requires c κs = search needs
 
 returns : tie.Need-returns
 unfolding slotFrom
-returns c = simp (tests, c .low .ensures, c .before .content-of .ensures, c .before .before .word6 .ensures, c .before .before .before .word5 .ensures, c .before .before .before .before .word4 .ensures, c .before .before .before .before .before .word3 .ensures, c .before .before .before .before .before .before .word2 .ensures, c .before .before .before .before .before .before .before .word .ensures)
+returns c = simp (c .low .ensures, c .before .content-of .ensures, c .before .before .word6 .ensures, c .before .before .before .word5 .ensures, c .before .before .before .before .word4 .ensures, c .before .before .before .before .before .word3 .ensures, c .before .before .before .before .before .before .word2 .ensures, c .before .before .before .before .before .before .before .word .ensures)
 
 pub get-slot-spec : {M : Type 1} → statement M
 get-slot-spec =

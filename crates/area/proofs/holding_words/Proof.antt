@@ -1,4 +1,3 @@
-use Rattle.seq.proofs.Tests.{tests}
 use Rattle.area.specs.Layout.{holdingWords}
 use borrow.Author.Needs.{needs}
 use Rattle.area.proofs.holding_words.Statement.{statement}
@@ -21,7 +20,7 @@ cast-t6 c = search needs
 
 returns : tie.Need-returns
 unfolding holdingWords
-returns c = simp (tests, c .before .before .pin-strength .ensures)
+returns c = simp (c .before .before .pin-strength .ensures)
 
 pub holding-words-spec : {M : Type 1} → statement M
 holding-words-spec = tie.close (tie.spec pin-strength-requires cast-t4 cast-t5 cast-t6 returns)

@@ -5,7 +5,7 @@ use Rattle.area.proofs.mode_of.Reads as reads
 use Rattle.area.proofs.mode_of.Lts as lts
 
 returns : tie.Need-returns
-returns c = simp (tests, c .if1 .taken)
+returns c = simp (c .if1 .taken)
 
 returns-2 : tie.Need-returns-2
 returns-2 c = simp (tests, c .if1 .left)

@@ -7,15 +7,15 @@ use Rattle.area.proofs.pin_numbered.Lts as lts
 
 returns : tie.Need-returns
 unfolding pinNumbered
-returns c = simp (tests, c .if1 .taken)
+returns c = simp (c .if1 .taken)
 
 returns-2 : tie.Need-returns-2
 unfolding pinNumbered
-returns-2 c = simp (tests, c .if2 .taken, c .before .if1 .left)
+returns-2 c = simp (c .if2 .taken)
 
 returns-3 : tie.Need-returns-3
 unfolding pinNumbered
-returns-3 c = simp (tests, c .if3 .taken, c .before .if2 .left, c .before .before .if1 .left)
+returns-3 c = simp (c .if3 .taken)
 
 returns-4 : tie.Need-returns-4
 unfolding pinNumbered

@@ -1,4 +1,3 @@
-use Rattle.seq.proofs.Tests.{tests}
 use Rattle.area.specs.Layout.{rowWords}
 use borrow.Author.Needs.{needs}
 use Rattle.area.proofs.row_words.Statement.{statement}
@@ -40,23 +39,23 @@ cause-number-requires c κs = search needs
 
 returns : tie.Need-returns
 unfolding rowWords
-returns c = simp (tests, c .enum-told .given .1)
+returns c = simp (c .enum-told .given .1)
 
 returns-2 : tie.Need-returns-2
 unfolding rowWords
-returns-2 c = simp (tests, c .enum-told2 .given .1)
+returns-2 c = simp (c .enum-told2 .given .1)
 
 returns-3 : tie.Need-returns-3
 unfolding rowWords
-returns-3 c = simp (tests, c .before .c .given .1)
+returns-3 c = simp (c .before .c .given .1)
 
 returns-4 : tie.Need-returns-4
 unfolding rowWords
-returns-4 c = simp (tests, c .mode-number .ensures, c .before .before .c2 .given .1)
+returns-4 c = simp (c .mode-number .ensures, c .before .before .c2 .given .1)
 
 returns-5 : tie.Need-returns-5
 unfolding rowWords
-returns-5 c = simp (tests, c .cause-number .ensures, c .before .before .c3 .given .1)
+returns-5 c = simp (c .cause-number .ensures, c .before .before .c3 .given .1)
 
 pub row-words-spec : {M : Type 1} → statement M
 row-words-spec =

@@ -1,4 +1,3 @@
-use Rattle.seq.proofs.Tests.{tests}
 use Rattle.area.specs.Layout.{slotWords}
 use borrow.Author.Needs.{needs}
 use Rattle.area.proofs.slot_words.Statement.{statement}
@@ -27,11 +26,11 @@ cast-t11 c = search needs
 
 returns : tie.Need-returns
 unfolding slotWords
-returns c = simp (tests, c .enum-told .given .1)
+returns c = simp (c .enum-told .given .1)
 
 returns-2 : tie.Need-returns-2
 unfolding slotWords
-returns-2 c = simp (tests, c .bit .ensures, c .before .before .c .given .1)
+returns-2 c = simp (c .bit .ensures, c .before .before .c .given .1)
 
 pub slot-words-spec : {M : Type 1} → statement M
 slot-words-spec =
