@@ -7,7 +7,7 @@ use native.Mathlib.Omega.{arith}
 use borrow.Author.Tests.{leb-true, le-leb, lt-leb}
 use lib.Dec.{leb}
 use lib.ListN.{length, drop, length-append}
-use Rattle.seq.proofs.Tests.{and-true, both-true, true-false}
+use Rattle.seq.proofs.Tests.{and-true, both-true}
 use Rattle.model.specs.declared.State.{State}
 use Rattle.model.proofs.Ranges.{StateOk}
 use Rattle.rules.specs.Sound.{sound}
@@ -45,25 +45,15 @@ pub short-unsound : (a : List ℕ) → length a < 65536 → soundArea a ≡ fals
 unfolding soundArea
 short-unsound a h = rw (lt-leb 65536 (length a) h)
 
+-- an area that is not exact, and one whose state is not sound
 and-false : (b : Bool) → b && false ≡ false
 and-false true = refl
 and-false false = refl
 
--- what opening an area comes to: its length, its bytes and its state tested one after another
-abbrev pub Opened : List ℕ → Bool → State → Type 0
-Opened a b s = (b ≡ soundArea a) × (soundArea a ≡ true → s ≡ decoded a)
+pub inexact-unsound : (a : List ℕ) (whole : Bool) → whole ≡ exact a → whole ≡ false → soundArea a ≡ false
+unfolding soundArea
+inexact-unsound a whole f g = rw (← f, g) (and-false (leb 65536 (length a)))
 
-module _ (a : List ℕ) (s : State) where
-  pub opened-short : length a < 65536 → Opened a false s
-  opened-short h =
-      let e : false ≡ soundArea a = sym (short-unsound a h) in
-      (e, λ z. true-false (sym z ∙ sym e))
-
-  module _ (e : s ≡ decoded a) (whole : Bool) (f : whole ≡ exact a) where
-    pub opened-whole : 65536 ≤ length a → whole ≡ true → (b : Bool) → b ≡ sound s → Opened a b s
-    unfolding soundArea
-    opened-whole l g b h = (h ∙ rw (le-leb 65536 (length a) l, ← f, g) (ap sound e), λ _. e)
-
-    pub opened-inexact : whole ≡ false → Opened a false s
-    unfolding soundArea
-    opened-inexact g = (sym (rw (← f, g) (and-false (leb 65536 (length a)))), λ _. e)
+pub whole-area : (a : List ℕ) (s : State) (whole b : Bool) → 65536 ≤ length a → s ≡ decoded a → whole ≡ exact a → whole ≡ true → b ≡ sound s → soundArea a ≡ b
+unfolding soundArea
+whole-area a s whole b l e f g h = rw (le-leb 65536 (length a) l, ← f, g) (sym (h ∙ ap sound e))
