@@ -17,6 +17,7 @@ mod sabre;
 mod scenario;
 mod stack;
 mod states;
+mod stored;
 
 use std::io::{Read, Write};
 
@@ -37,7 +38,9 @@ host lengths [SEED]     short, long and unaligned areas
 host stack              the stack that each call needs
 host bench              the time that each call needs
 host record N SEED FILE N random records for the player in FILE, its output in FILE.out
-host play [FILE]        what the player prints for FILE, or for standard input";
+host play [FILE]        what the player prints for FILE, or for standard input
+host stored FILE..      what crates/sessions prints for its files
+host clauses FILE..     the clauses of sound that the areas of those files break";
 
 fn number(args: &[String], at: usize, default: u64) -> Result<u64, String> {
     match args.get(at) {
@@ -91,6 +94,8 @@ fn run(args: &[String]) -> Result<(), String> {
             _ => Err(USAGE.to_string()),
         },
         "play" => play(args.get(1)),
+        "stored" => stored::print(&args[1..]),
+        "clauses" => stored::clauses(&args[1..]),
         _ => Err(USAGE.to_string()),
     }
 }

@@ -1,7 +1,7 @@
 //! The player of document 01, played by the model, and random records for it.
 
 use crate::calls::*;
-use crate::model::{State, Tally};
+use crate::model::{self, State, Tally};
 use crate::random::Random;
 use crate::scenario::Scenario;
 
@@ -43,25 +43,30 @@ fn call_of(record: &[u8]) -> Option<Call> {
     })
 }
 
-/// What the player prints for these bytes on its input.
-pub fn play(input: &[u8]) -> String {
+/// The header and a line for each record, answered by `call`. Refusal 18 ends them.
+fn lines(input: &[u8], mut started: bool, mut call: impl FnMut(&Call) -> Outcome) -> String {
     let mut output = format!("{HEADER}\n");
-    let mut state: Option<State> = None;
     for (number, record) in input.chunks(RECORD).enumerate() {
-        let call = call_of(record)
-            .filter(|call| state.is_some() || matches!(call, Call::Start { .. }));
-        let Some(call) = call else {
-            output += &format!("{} {}\n", number + 1, Outcome::refused(18).line());
-            break;
-        };
-        let mut next = state.clone().unwrap_or(State::fresh(1, 1));
-        let outcome = next.call(&call, &mut Tally::default());
-        if outcome.status == 0 {
-            state = Some(next);
-        }
+        let taken = call_of(record).filter(|call| started || matches!(call, Call::Start { .. }));
+        let outcome = taken.as_ref().map_or(Outcome::refused(18), &mut call);
         output += &format!("{} {}\n", number + 1, outcome.line());
+        if taken.is_none() {
+            break;
+        }
+        started |= outcome.status == 0;
     }
     output
+}
+
+/// What the player prints for these bytes on its input.
+pub fn play(input: &[u8]) -> String {
+    let mut state = State::fresh(1, 1);
+    lines(input, false, |call| state.call(call, &mut Tally::default()))
+}
+
+/// What it would print with this area, which counts as started or not.
+pub fn play_on(area: &mut [u8], started: bool, input: &[u8]) -> String {
+    lines(input, started, |call| model::call(area, call, &mut Tally::default()))
 }
 
 /// The record of a call. Fields that its kind does not use come from `unused`. Nothing if a number

@@ -2,13 +2,6 @@ use Prim.Native.Nat.{_-_, _≤_}
 use borrow.Author.Needs.{needs}
 use Rattle.sessions.proofs.main.Statement.{statement}
 use Rattle.sessions.proofs.main.Tie as tie
-use Rattle.sessions.proofs.main.Reads as reads
-use Rattle.sessions.proofs.main.Lts as lts
-use Rattle.os.proofs.arg_count.Reads as arg-count-reads
-use Rattle.sessions.proofs.play_argument.Reads as play-argument-reads
-use Rattle.sessions.proofs.play_last_clock.Reads as play-last-clock-reads
-use Rattle.sessions.proofs.play_short.Reads as play-short-reads
-use Rattle.sessions.proofs.play_unsound.Reads as play-unsound-reads
 
 abbrev Inv-loop : tie.InvT-loop
 Inv-loop i₀ i-end i = 0 ≤ i
@@ -34,15 +27,6 @@ loop-less c = search needs
 loop-again : tie.Need-loop-again Inv-loop μ-loop
 loop-again c = search needs
 
-play-short-requires : tie.Need-play-short-requires Inv-loop μ-loop
-play-short-requires c κs = search needs
-
-play-unsound-requires : tie.Need-play-unsound-requires Inv-loop μ-loop
-play-unsound-requires c κs = search needs
-
-play-last-clock-requires : tie.Need-play-last-clock-requires Inv-loop μ-loop
-play-last-clock-requires c κs = search needs
-
 returns : tie.Need-returns Inv-loop μ-loop
 returns c = search needs
 
@@ -58,7 +42,4 @@ main-spec =
     add-i
     loop-less
     loop-again
-    play-short-requires
-    play-unsound-requires
-    play-last-clock-requires
     returns)
