@@ -1,6 +1,6 @@
 -- What each exit of an exported call comes to, and what a sound area gives to the call on its state.
 use mathlib.Core.Path.{_≡_, refl, _∙_, sym, ap}
-use mathlib.Core.Bool.{Bool, true, false, cond, not}
+use mathlib.Core.Bool.{Bool, true, false, cond, _||_, not}
 use mathlib.Core.List.{List, [], _∷_, _++_}
 use Prim.Native.Nat.{ℕ, zero, suc, _+_, _<_, _≤_, _^_}
 use native.Mathlib.Omega.{arith}
@@ -46,7 +46,7 @@ use Rattle.model.specs.declared.Answer.the-variants.{
 use Rattle.model.specs.State.{fresh}
 use Rattle.model.specs.Inner.Changed.{changed, outcomeOf}
 use Rattle.rules.specs.Sound.{sound}
-use Rattle.rules.specs.Content.{isStart}
+use Rattle.rules.specs.Content.{fields, isStart, isReading}
 use Rattle.rules.specs.Answers.{word, value, slotTold, backTold}
 use Rattle.rules.specs.Refusals.{startRefusal}
 use Rattle.rules.specs.Calls.{unless, started}
@@ -60,7 +60,6 @@ use Rattle.rules.proofs.Promises.WaitFetch.{granted-alone}
 use Rattle.area.specs.Layout.{encoded, decoded, exact}
 use Rattle.sabre.specs.Lent.{unfit, isRefused, answerOn, areaAfter, status, answerNumbers, soundArea}
 use Rattle.sabre.proofs.SoundAreas.{sound-area}
-use Rattle.sabre.specs.Inner.Reply.{Replied}
 
 -- what is promised of a call that returns r, tells ns and leaves b
 pub record Promise (a : List ℕ) (c : Call) (r : ℕ) (ns b : List ℕ) : Type 0 where
@@ -78,7 +77,7 @@ module _ (a : List ℕ) (c : Call) where
   unfolding answerOn areaAfter
   finished o r ns b u e p q t = record { returned = rw (u, ← e) p; told = rw (u, ← e) q; left = rw (u, ← e) t }
 
--- the calls of the other tags are no start
+-- which calls are no start: those of the other tags, and look, view and count
 pub not-start : (c : Call) → OneOf (1 ∷ 2 ∷ 3 ∷ 4 ∷ 5 ∷ 6 ∷ 7 ∷ 8 ∷ 9 ∷ []) (tagOf Call'.the-type c) → isStart c ≡ false
 not-start (Start slots delay) k = absurd (miss (1 ∷ 2 ∷ 3 ∷ 4 ∷ 5 ∷ 6 ∷ 7 ∷ 8 ∷ 9 ∷ []) 0 tt k)
 not-start (Begin level number deadline) k = refl
@@ -90,6 +89,13 @@ not-start Tick k = refl
 not-start (Look level number) k = refl
 not-start (View level page) k = refl
 not-start (Count level) k = refl
+
+pub reading-no-start : (c : Call) → isReading c ≡ true → isStart c ≡ false
+reading-no-start c = go (fields c .kind)
+  where
+    go : (kind : ℕ) → (eqb kind 7 || eqb kind 8 || eqb kind 9) ≡ true → eqb kind 0 ≡ false
+    go zero e = true-false (sym e)
+    go (suc kind) e = ne-eqb (suc kind) 0 (λ s. omega (arith, s))
 
 -- the area of such a call is unfit where it is not sound
 pub unfit-by : (a : List ℕ) (c : Call) (b : Bool) → isStart c ≡ false → soundArea a ≡ b → unfit a c ≡ not b
@@ -202,47 +208,33 @@ module _ (x : Answer) (a b : List ℕ) (n : ℕ) (e : n ≡ word x) where
   pub finish-refused : n ≡ 0 → a ≡ cond (isRefused x) a b
   finish-refused z = rw (sym e ∙ z)
 
-  pub finish-accepted : (n ≡ 0 → ⊥) → isRefused x ≡ false
-  finish-accepted z = ne-eqb (word x) 0 (λ f. z (e ∙ f))
-
   pub finish-left : (d : List ℕ) → (n ≡ 0 → ⊥) → d ≡ b → d ≡ cond (isRefused x) a b
-  finish-left d z g = rw (finish-accepted z) g
+  finish-left d z g = rw (ne-eqb (word x) 0 (λ f. z (e ∙ f))) g
 
--- ---- the reply to a call on an area
+-- the call on the state that decode gives
+module _ (a : List ℕ) (c : Call) (s : State) (e : s ≡ decoded a) where
+  pub answered-slot : (x : Answer) → soundArea a ≡ true → x ≡ outcome s c .answer → slotTold x ≤ 64
+  answered-slot x h f = rw f (fits-slot s (ap sound e ∙ sound-area a h .sound-state) c)
 
-module _ (a : List ℕ) (c : Call) (r : Reply) where
-  -- of an unfit area
-  pub unfit-replied : unfit a c ≡ true → r .answer ≡ Refused 1 → Replied a c r
-  unfolding answerOn word slotTold
-  unfit-replied u e = record {
-    answered = rw u e;
-    exactly = λ z. true-false (rw e at z);
-    next = λ z. true-false (rw e at z);
-    slot = rw e (omega arith);
-  }
+  -- a reply for which the area is exact and its slot is below 64
+  pub replied : (x : Reply) → soundArea a ≡ true → outcomeOf s x ≡ outcome s c → (exact a ≡ true) × (slotTold (x .answer) ≤ 64)
+  unfolding outcomeOf
+  replied x h f = (sound-area a h .exactly, answered-slot (x .answer) h (ap (λ (o : Outcome). o .answer) f))
 
-  -- of a sound area
-  pub sound-replied : (s : State) → s ≡ decoded a → isStart c ≡ false → soundArea a ≡ true → outcomeOf s r ≡ outcome s c → Replied a c r
-  unfolding answerOn outcomeOf
-  sound-replied s e n h f =
-      let g : outcomeOf (decoded a) r ≡ outcome (decoded a) c = ap (λ (t : State). outcomeOf t r) (sym e) ∙ f ∙ ap (λ (t : State). outcome t c) e in
-      let x : r .answer ≡ outcome (decoded a) c .answer = λ i. g i .answer in
-      record {
-        answered = rw (unfit-by a c true n h) x;
-        exactly = λ _. sound-area a h .exactly;
-        next = λ _ i. g i .state;
-        slot = rw x (fits-slot (decoded a) (sound-area a h .sound-state) c);
-      }
+  -- a call that only answers
+  pub answered : (x : Answer) (r : ℕ) (ns : List ℕ) → unfit a c ≡ false → x ≡ outcome s c .answer → r ≡ status x → ns ≡ answerNumbers x
+      → (r ≡ status (answerOn a c)) × (ns ≡ answerNumbers (answerOn a c))
+  unfolding answerOn
+  answered x r ns u f p q =
+      let g : x ≡ outcome (decoded a) c .answer = f ∙ ap (λ (t : State). outcome t c .answer) e in
+      (rw (u, ← g) p, rw (u, ← g) q)
 
-  -- what it comes to where it is told, and its change made if it is no refusal
-  pub promised : Replied a c r → (n : ℕ) (ns b : List ℕ) → n ≡ status (r .answer) → ns ≡ answerNumbers (r .answer)
-      → b ≡ cond (isRefused (r .answer)) a (encoded (changed (decoded a) (r .change)) ++ drop 65536 a) → Promise a c n ns b
-  unfolding areaAfter
-  promised x n ns b p q t = record { returned = p ∙ ap status (x .answered); told = q ∙ ap answerNumbers (x .answered); left = go (isRefused (r .answer)) refl }
-    where
-      go : (z : Bool) → isRefused (r .answer) ≡ z → b ≡ areaAfter a c
-      go true k = rw (← x .answered, k) (rw k at t)
-      go false k = rw (← x .answered, k, ← x .next k) (rw k at t)
+  -- a call that answers what it changes
+  pub amended : (x : Reply) (r : ℕ) (ns b : List ℕ) → unfit a c ≡ false → outcomeOf s x ≡ outcome s c → r ≡ status (x .answer) → ns ≡ answerNumbers (x .answer)
+      → b ≡ cond (isRefused (x .answer)) a (encoded (changed (decoded a) (x .change)) ++ drop 65536 a) → Promise a c r ns b
+  unfolding outcomeOf
+  amended x r ns b u f p q t =
+      finished a c (outcomeOf (decoded a) x) r ns b u (ap (λ (t : State). outcomeOf t x) (sym e) ∙ f ∙ ap (λ (t : State). outcome t c) e) p q t
 
 -- a start that is refused by its numbers, and one that is accepted
 module _ (a : List ℕ) (slots delay r : ℕ) (ns b : List ℕ) (l : 65536 ≤ length a) where

@@ -45,15 +45,16 @@ pub short-unsound : (a : List ℕ) → length a < 65536 → soundArea a ≡ fals
 unfolding soundArea
 short-unsound a h = rw (lt-leb 65536 (length a) h)
 
--- an area that is not exact, and one whose state is not sound
 and-false : (b : Bool) → b && false ≡ false
 and-false true = refl
 and-false false = refl
 
-pub inexact-unsound : (a : List ℕ) (whole : Bool) → whole ≡ exact a → whole ≡ false → soundArea a ≡ false
-unfolding soundArea
-inexact-unsound a whole f g = rw (← f, g) (and-false (leb 65536 (length a)))
+-- what opening a long area comes to: its bytes and its state tested one after another
+module _ (a : List ℕ) (s : State) (e : s ≡ decoded a) (whole : Bool) (f : whole ≡ exact a) where
+  pub opened-whole : 65536 ≤ length a → whole ≡ true → (b : Bool) → b ≡ sound s → b ≡ soundArea a
+  unfolding soundArea
+  opened-whole l g b h = h ∙ rw (le-leb 65536 (length a) l, ← f, g) (ap sound e)
 
-pub whole-area : (a : List ℕ) (s : State) (whole b : Bool) → 65536 ≤ length a → s ≡ decoded a → whole ≡ exact a → whole ≡ true → b ≡ sound s → soundArea a ≡ b
-unfolding soundArea
-whole-area a s whole b l e f g h = rw (le-leb 65536 (length a) l, ← f, g) (sym (h ∙ ap sound e))
+  pub opened-inexact : whole ≡ false → false ≡ soundArea a
+  unfolding soundArea
+  opened-inexact g = sym (rw (← f, g) (and-false (leb 65536 (length a))))

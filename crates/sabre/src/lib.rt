@@ -4,24 +4,20 @@ use model::Answer;
 use model::Back;
 use model::Call;
 use model::Cause;
-use model::Condition;
-use model::Content;
 use model::Reply;
-use model::Row;
-use model::Slot;
+use model::State;
 ghost use mathlib.Core.Path.{_≡_};
-ghost use mathlib.Core.Bool.{true, false, cond};
+ghost use mathlib.Core.Bool.{true, cond};
 ghost use mathlib.Core.List.{[], _∷_, _++_};
 ghost use Prim.Native.Nat.{_≤_};
 ghost use lib.ListN.{length, drop};
-ghost use Rattle.rules.specs.Content.{isStart};
+ghost use Rattle.rules.specs.Content.{isReading};
 ghost use Rattle.rules.specs.Answers.{causeWord, pageBack, slotTold};
 ghost use Rattle.model.specs.declared.Answer.the-variants.{Refused};
 ghost use Rattle.model.specs.declared.Call.the-variants.{Start, Begin, Request, Retry, Unpin, End, Tick, Look, View, Count};
 ghost use Rattle.model.specs.Inner.Changed.{changed};
 ghost use Rattle.area.specs.Layout.{encoded, decoded, exact};
-ghost use Rattle.sabre.specs.Lent.{isRefused, answerOn, areaAfter, status, answerNumbers};
-ghost use Rattle.sabre.specs.Inner.Reply.{Replied};
+ghost use Rattle.sabre.specs.Lent.{soundArea, isRefused, answerOn, areaAfter, status, answerNumbers};
 
 fn cause_word(cause: Cause) -> u64
     ensures { λ r. ⌜ r ≡ causeWord cause ⌝ }
@@ -92,50 +88,31 @@ fn tell(answer: &mut [u64; 4], x: Answer) -> u32
     0
 }
 
-// The reply of a call that the area is unfit for, refusal 1. Its change is not made.
-fn unfit_reply() -> Reply
-    ensures { λ r. ⌜ r .answer ≡ Refused 1 ⌝ }
+// Refusal 1.
+fn refuse(answer: &mut [u64; 4]) -> u32
+    ensures { λ r. ⌜ (r ≡ status (Refused 1)) × (now (answer .exit) ≡ answerNumbers (Refused 1)) ⌝ }
 {
-    let change = model::drop_holdings(
-        0,
-        [Row {
-            condition: Condition::Free,
-            deadline: 0,
-        }; 32],
-        [Slot {
-            content: Content::Empty,
-            touch: 0,
-        }; 64],
-        [false; 32],
-    );
-    Reply {
-        change,
-        answer: Answer::Refused(1),
-    }
+    tell(answer, Answer::Refused(1))
 }
 
-// The reply to a call on an area. The area is opened here: it must be long enough, exactly the bytes of a state, and that state sound.
-fn reply(area: &[u8], c: Call) -> Reply
-    requires { ⌜ isStart c ≡ false ⌝ }
-    ensures { λ r. ⌜ Replied (now (area .entry)) c r ⌝ }
+// Opens an area of at least 65,536 bytes: the state that it names, and whether the area is sound.
+fn open(area: &[u8], sound: &mut bool) -> State
+    requires { ⌜ 65536 ≤ length (now area) ⌝ }
+    ensures { λ r. ⌜ (r ≡ decoded (now (area .entry))) × (now (sound .exit) ≡ soundArea (now (area .entry))) ⌝ }
 {
-    if area.len() < 65536 {
-        return unfit_reply();
-    }
     let mut whole = false;
     let s = area::decode(area, &mut whole);
     if whole {
-        if sound::is_sound(s) {
-            return calls::make(s, c);
-        }
-        return unfit_reply();
+        *sound = sound::is_sound(s);
+        return s;
     }
-    unfit_reply()
+    *sound = false;
+    s
 }
 
 // The answer told and, where the call is accepted, what it changes written over the area.
 fn finish(area: &mut [u8], answer: &mut [u64; 4], r: Reply) -> u32
-    requires { ⌜ (isRefused (r .answer) ≡ false → exact (now area) ≡ true) × (slotTold (r .answer) ≤ 64) ⌝ }
+    requires { ⌜ (exact (now area) ≡ true) × (slotTold (r .answer) ≤ 64) ⌝ }
     ensures { λ n. ⌜ (n ≡ status (r .answer)) × (now (answer .exit) ≡ answerNumbers (r .answer)) × (now (area .exit) ≡ cond (isRefused (r .answer)) (now (area .entry)) (encoded (changed (decoded (now (area .entry))) (r .change)) ++ drop 65536 (now (area .entry)))) ⌝ }
 {
     let x = r.answer;
@@ -155,7 +132,7 @@ fn start(area: &mut [u8], slots: u32, delay: u32, answer: &mut [u64; 4]) -> u32
     ensures left { λ _. ⌜ now (area .exit) ≡ areaAfter (now (area .entry)) (Start slots delay) ⌝ }
 {
     if area.len() < 65536 {
-        return tell(answer, Answer::Refused(1));
+        return refuse(answer);
     }
     let number = calls::start_refusal(slots, delay);
     if number != 0 {
@@ -175,19 +152,34 @@ pub fn make(area: &mut [u8], c: Call, answer: &mut [u64; 4]) -> u32
     if let Call::Start { slots, delay } = c {
         return start(area, slots, delay, answer);
     }
-    let r = reply(area, c);
-    finish(area, answer, r)
+    if area.len() < 65536 {
+        return refuse(answer);
+    }
+    let mut sound = false;
+    let s = open(area, &mut sound);
+    if sound {
+        let r = calls::make(s, c);
+        return finish(area, answer, r);
+    }
+    refuse(answer)
 }
 
-// The answer of a call alone: look, view and count, which leave the area as it is.
+// A look, view or count, which leave the area.
 fn ask(area: &[u8], c: Call, answer: &mut [u64; 4]) -> u32
-    requires { ⌜ isStart c ≡ false ⌝ }
+    requires { ⌜ isReading c ≡ true ⌝ }
     ensures returned { λ r. ⌜ r ≡ status (answerOn (now (area .entry)) c) ⌝ }
     ensures told { λ _. ⌜ now (answer .exit) ≡ answerNumbers (answerOn (now (area .entry)) c) ⌝ }
 {
-    let r = reply(area, c);
-    let x = r.answer;
-    tell(answer, x)
+    if area.len() < 65536 {
+        return refuse(answer);
+    }
+    let mut sound = false;
+    let s = open(area, &mut sound);
+    if sound {
+        let x = calls::ask(s, c);
+        return tell(answer, x);
+    }
+    refuse(answer)
 }
 
 #[no_mangle]

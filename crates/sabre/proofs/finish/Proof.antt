@@ -1,6 +1,5 @@
-use mathlib.Core.List.{[]}
 use borrow.Author.Needs.{needs}
-use Rattle.sabre.proofs.CallLaws.{told-word, finish-refused, finish-accepted, finish-left}
+use Rattle.sabre.proofs.CallLaws.{told-word, finish-refused, finish-left}
 use Rattle.sabre.proofs.finish.Statement.{statement}
 use Rattle.sabre.proofs.finish.Tie as tie
 use Rattle.sabre.proofs.finish.Reads as reads
@@ -18,7 +17,7 @@ returns : tie.Need-returns
 returns c = (c .before .before .tell .ensures .0, c .before .before .tell .ensures .1, finish-refused (c .before .before .before .before .before .args .r .answer) _ _ _ (told-word _ _ (c .before .before .tell .ensures .1)) (c .if1 .taken))
 
 amend-requires : tie.Need-amend-requires
-amend-requires c κs = c .before .before .before .before .before .before .before .pre .0 (finish-accepted (c .before .before .before .before .before .before .before .args .r .answer) [] [] _ (told-word _ _ (c .before .before .before .before .tell .ensures .1)) (c .before .before .if1 .left))
+amend-requires c κs = search needs
 
 same-length : tie.Need-same-length
 same-length c = search needs

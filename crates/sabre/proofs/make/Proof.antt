@@ -1,11 +1,16 @@
 use borrow.Author.Needs.{needs}
-use Rattle.sabre.proofs.CallLaws.{not-start, promised}
+use mathlib.Core.Path.{_∙_, sym}
+use mathlib.Core.Bool.{true, false}
+use Rattle.sabre.proofs.SoundAreas.{short-unsound}
+use Rattle.sabre.proofs.CallLaws.{not-start, unfit-by, sound-state, fits-clock, replied, amended, refused-1}
 use Rattle.sabre.proofs.make.Statement.{statement}
 use Rattle.sabre.proofs.make.Tie as tie
 use Rattle.sabre.proofs.make.Reads as reads
 use Rattle.sabre.proofs.make.Lts as lts
+use Rattle.calls.proofs.make.Reads as make-reads
 use Rattle.sabre.proofs.finish.Reads as finish-reads
-use Rattle.sabre.proofs.reply.Reads as reply-reads
+use Rattle.sabre.proofs.open.Reads as open-reads
+use Rattle.sabre.proofs.refuse.Reads as refuse-reads
 use Rattle.sabre.proofs.start.Reads as start-reads
 
 enum-known-c : tie.Need-enum-known-c
@@ -20,18 +25,50 @@ same-length c = search needs
 returns : tie.Need-returns
 returns c = rw (c .before .before .before .before .before .before .c .given .1) (c .before .before .start .ensures)
 
-reply-requires : tie.Need-reply-requires
-reply-requires c κs = not-start (c .before .before .before .args .c) (c .before .match .keys2)
+refuse-requires : tie.Need-refuse-requires
+refuse-requires c κs = search needs
+
+returns-2 : tie.Need-returns-2
+returns-2 c =
+    let n = not-start (c .before .before .before .before .before .args .c) (c .before .before .before .match .keys2) in
+    let u = unfit-by (c .before .before .before .before .before .args .area .now) (c .before .before .before .before .before .args .c) false n (short-unsound (c .before .before .before .before .before .args .area .now) (c .before .before .if1 .taken)) in
+    let p = refused-1 (c .before .before .before .before .before .args .area .now) (c .before .before .before .before .before .args .c) _ _ u (c .refuse .ensures .0) (c .refuse .ensures .1) in
+    (p .returned, (p .told, p .left))
+
+open-requires : tie.Need-open-requires
+open-requires c κs = search needs
+
+make-requires : tie.Need-make-requires
+make-requires c κs =
+    let h = sym (c .before .«open» .ensures .1) ∙ c .if2 .taken in
+    let f = fits-clock _ (sound-state (c .before .before .before .before .before .before .before .args .area .now) _ (c .before .«open» .ensures .0) h) in
+    (not-start (c .before .before .before .before .before .before .before .args .c) (c .before .before .before .before .before .match .keys2), f .0, f .1)
 
 finish-requires : tie.Need-finish-requires
-finish-requires c κs = search needs
+finish-requires c κs =
+    replied (c .before .before .before .before .before .before .before .before .before .before .args .area .now) (c .before .before .before .before .before .before .before .before .before .before .args .c) _ (c .before .before .before .before .«open» .ensures .0) _ (sym (c .before .before .before .before .«open» .ensures .1) ∙ c .before .before .before .if2 .taken) (c .before .before .make .ensures)
 
 same-length-2 : tie.Need-same-length-2
 same-length-2 c = search needs
 
-returns-2 : tie.Need-returns-2
-returns-2 c =
-    let p = promised (c .before .before .before .before .before .before .before .before .before .args .area .now) (c .before .before .before .before .before .before .before .before .before .args .c) _ (c .before .before .before .before .before .reply .ensures) _ _ _ (c .before .before .finish .ensures .0) (c .before .before .finish .ensures .1) (c .before .before .finish .ensures .2) in
+returns-3 : tie.Need-returns-3
+returns-3 c =
+    let n = not-start (c .before .before .before .before .before .before .before .before .before .before .before .before .before .args .c) (c .before .before .before .before .before .before .before .before .before .before .before .match .keys2) in
+    let u = unfit-by (c .before .before .before .before .before .before .before .before .before .before .before .before .before .args .area .now) (c .before .before .before .before .before .before .before .before .before .before .before .before .before .args .c) true n (sym (c .before .before .before .before .before .before .before .«open» .ensures .1) ∙ c .before .before .before .before .before .before .if2 .taken) in
+    let p = amended (c .before .before .before .before .before .before .before .before .before .before .before .before .before .args .area .now) (c .before .before .before .before .before .before .before .before .before .before .before .before .before .args .c) _ (c .before .before .before .before .before .before .before .«open» .ensures .0) _ _ _ _ u (c .before .before .before .before .before .make .ensures) (c .before .before .finish .ensures .0) (c .before .before .finish .ensures .1) (c .before .before .finish .ensures .2) in
+    (p .returned, (p .told, p .left))
+
+refuse-requires-2 : tie.Need-refuse-requires-2
+refuse-requires-2 c κs = search needs
+
+same-length-3 : tie.Need-same-length-3
+same-length-3 c = search needs
+
+returns-4 : tie.Need-returns-4
+returns-4 c =
+    let n = not-start (c .before .before .before .before .before .before .before .before .before .args .c) (c .before .before .before .before .before .before .before .match .keys2) in
+    let u = unfit-by (c .before .before .before .before .before .before .before .before .before .args .area .now) (c .before .before .before .before .before .before .before .before .before .args .c) false n (sym (c .before .before .before .«open» .ensures .1) ∙ c .before .before .if2 .left) in
+    let p = refused-1 (c .before .before .before .before .before .before .before .before .before .args .area .now) (c .before .before .before .before .before .before .before .before .before .args .c) _ _ u (c .refuse2 .ensures .0) (c .refuse2 .ensures .1) in
     (p .returned, (p .told, p .left))
 
 pub make-spec : {M : Type 1} → statement M
@@ -42,7 +79,13 @@ make-spec =
     start-requires
     same-length
     returns
-    reply-requires
+    refuse-requires
+    returns-2
+    open-requires
+    make-requires
     finish-requires
     same-length-2
-    returns-2)
+    returns-3
+    refuse-requires-2
+    same-length-3
+    returns-4)

@@ -19,28 +19,28 @@ use Rattle.sabre.proofs.start.Lts as lts
 use Rattle.area.proofs.encode.Reads as encode-reads
 use Rattle.calls.proofs.start_refusal.Reads as start-refusal-reads
 use Rattle.model.proofs.fresh_state.Reads as fresh-state-reads
+use Rattle.sabre.proofs.refuse.Reads as refuse-reads
 use Rattle.sabre.proofs.tell.Reads as tell-reads
 
-tell-requires : tie.Need-tell-requires
-unfolding slotTold
-tell-requires c κs = omega arith
+refuse-requires : tie.Need-refuse-requires
+refuse-requires c κs = search needs
 
 returns : tie.Need-returns
 unfolding unfit
 returns c =
-    let p = refused-1 (c .before .before .before .before .args .area .now) (Start (c .before .before .before .before .args .slots) (c .before .before .before .before .args .delay)) _ _ (lt-ltb (length (c .before .before .before .before .args .area .now)) 65536 (c .before .before .if1 .taken)) (c .tell .ensures .0) (c .tell .ensures .1) in
+    let p = refused-1 (c .before .before .before .before .args .area .now) (Start (c .before .before .before .before .args .slots) (c .before .before .before .before .args .delay)) _ _ (lt-ltb (length (c .before .before .before .before .args .area .now)) 65536 (c .before .before .if1 .taken)) (c .refuse .ensures .0) (c .refuse .ensures .1) in
     (p .returned, (p .told, p .left))
 
 start-refusal-requires : tie.Need-start-refusal-requires
 start-refusal-requires c κs = search needs
 
-tell-requires-2 : tie.Need-tell-requires-2
+tell-requires : tie.Need-tell-requires
 unfolding slotTold
-tell-requires-2 c κs = omega arith
+tell-requires c κs = omega arith
 
 returns-2 : tie.Need-returns-2
 returns-2 c =
-    let p = start-refused (c .before .before .before .before .before .before .args .area .now) (c .before .before .before .before .before .before .args .slots) (c .before .before .before .before .before .before .args .delay) _ _ _ (omega arith) (c .before .before .before .start-refusal .result) (c .before .before .before .start-refusal .ensures) (c .before .before .if2 .taken) (c .tell2 .ensures .0) (c .tell2 .ensures .1) refl in
+    let p = start-refused (c .before .before .before .before .before .before .args .area .now) (c .before .before .before .before .before .before .args .slots) (c .before .before .before .before .before .before .args .delay) _ _ _ (omega arith) (c .before .before .before .start-refusal .result) (c .before .before .before .start-refusal .ensures) (c .before .before .if2 .taken) (c .tell .ensures .0) (c .tell .ensures .1) refl in
     (p .returned, (p .told, p .left))
 
 fresh-state-requires : tie.Need-fresh-state-requires
@@ -49,29 +49,29 @@ fresh-state-requires c κs = search needs
 encode-requires : tie.Need-encode-requires
 encode-requires c κs = search needs
 
-tell-requires-3 : tie.Need-tell-requires-3
+tell-requires-2 : tie.Need-tell-requires-2
 unfolding slotTold
-tell-requires-3 c κs = omega arith
+tell-requires-2 c κs = omega arith
 
 same-length : tie.Need-same-length
 same-length c = search needs
 
 returns-3 : tie.Need-returns-3
 returns-3 c =
-    let p = start-accepted (c .before .before .before .before .before .before .before .before .before .before .before .args .area .now) (c .before .before .before .before .before .before .before .before .before .before .before .args .slots) (c .before .before .before .before .before .before .before .before .before .before .before .args .delay) _ _ _ (omega arith) (c .before .before .before .before .before .before .before .before .start-refusal .result) (c .before .before .before .before .before .before .before .before .start-refusal .ensures) (c .before .before .before .before .before .before .before .if2 .left) (c .tell3 .ensures .0) (c .tell3 .ensures .1) (c .before .before .before .before .encode .ensures ∙ ap (λ (s : State). encoded s ++ drop 65536 (c .before .before .before .before .before .before .before .before .before .before .before .args .area .now)) (c .before .before .before .before .before .before .fresh-state .ensures)) in
+    let p = start-accepted (c .before .before .before .before .before .before .before .before .before .before .before .args .area .now) (c .before .before .before .before .before .before .before .before .before .before .before .args .slots) (c .before .before .before .before .before .before .before .before .before .before .before .args .delay) _ _ _ (omega arith) (c .before .before .before .before .before .before .before .before .start-refusal .result) (c .before .before .before .before .before .before .before .before .start-refusal .ensures) (c .before .before .before .before .before .before .before .if2 .left) (c .tell2 .ensures .0) (c .tell2 .ensures .1) (c .before .before .before .before .encode .ensures ∙ ap (λ (s : State). encoded s ++ drop 65536 (c .before .before .before .before .before .before .before .before .before .before .before .args .area .now)) (c .before .before .before .before .before .before .fresh-state .ensures)) in
     (p .returned, (p .told, p .left))
 
 pub start-spec : {M : Type 1} → statement M
 start-spec =
     tie.close
     (tie.spec
-    tell-requires
+    refuse-requires
     returns
     start-refusal-requires
-    tell-requires-2
+    tell-requires
     returns-2
     fresh-state-requires
     encode-requires
-    tell-requires-3
+    tell-requires-2
     same-length
     returns-3)
