@@ -14,7 +14,7 @@ use Rattle.model.specs.declared.Row.{Row}
 use Rattle.model.specs.declared.Slot.{Slot}
 use Rattle.model.specs.declared.Holding.{Holding}
 use Rattle.model.specs.declared.State.{State}
-use Rattle.model.specs.State.{withHoldings}
+use Rattle.model.specs.State.{emptyHoldings, fresh, withHoldings}
 use Rattle.area.specs.Layout.{mark, version, low, headerWords, decoded, encoded, exact}
 use Rattle.area.specs.Inner.Exact.{exactRows, exactSlots, exactHoldings}
 use Rattle.area.proofs.Elements.{header-wide}
@@ -59,6 +59,20 @@ holdings-next s₀ s l m k x e f = rw (e, f)
 
 pub tests-next : (p : ℕ → Bool) (k : ℕ) (e₀ e t r : Bool) → e ≡ e₀ && allBelow k p → t ≡ p k → r ≡ e && t → r ≡ e₀ && allBelow (k + 1) p
 tests-next p k e₀ e t r a b c = rw (all-more p k, ← b) (rw a at c ∙ and-assoc e₀ (allBelow k p) t)
+
+-- the fresh state that decode begins with
+module _ (s : State) (size delay : ℕ) (e : s ≡ fresh size delay) where
+  pub fresh-size : s .size ≡ size
+  unfolding fresh
+  fresh-size = λ i. e i .size
+
+  pub fresh-delay : s .delay ≡ delay
+  unfolding fresh
+  fresh-delay = λ i. e i .delay
+
+  pub fresh-holdings : s .holdings ≡ emptyHoldings
+  unfolding fresh
+  fresh-holdings = λ i. e i .holdings
 
 -- the state that decode builds
 pub decode-state : (a : List ℕ) (s : State) → s .size ≡ wordAt a 16 → s .delay ≡ low (wordAt a 24) → s .clock ≡ low (wordAt a 32)

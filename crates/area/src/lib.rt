@@ -316,15 +316,10 @@ pub fn decode(a: &[u8], whole: &mut bool) -> State
     let mut same = seq::both(frame, seq::both(r.exact, s.exact));
     let rows = r.rows;
     let slots = s.slots;
-    let holdings = model::empty_holdings();
-    let mut state = State {
-        size,
-        delay,
-        clock,
-        rows,
-        slots,
-        holdings,
-    };
+    let mut state = model::fresh_state(size, delay);
+    state.clock = clock;
+    state.rows = rows;
+    state.slots = slots;
     for k in 0..2048usize {
         let at = 6656 + k * 24;
         let x = get_holding(a, at);

@@ -11,7 +11,7 @@ use Rattle.model.specs.State.{withHoldings, emptyHolding, emptyHoldings}
 use Rattle.area.specs.Layout.{low, exact, decoded, holdingFrom, holdingWords}
 use Rattle.area.specs.Inner.Exact.{exactHoldings}
 use Rattle.area.proofs.LoopLaws.{empty-holdings-long, read-turn, read-all, read-test}
-use Rattle.area.proofs.AreaSteps.{decode-state, exact-tests, holdings-still, holdings-next, tests-next, framed}
+use Rattle.area.proofs.AreaSteps.{fresh-size, fresh-delay, fresh-holdings, decode-state, exact-tests, holdings-still, holdings-next, tests-next, framed}
 use Rattle.area.proofs.decode.Statement.{statement}
 use Rattle.area.proofs.decode.Tie as tie
 use Rattle.area.proofs.decode.Reads as reads
@@ -23,7 +23,7 @@ use Rattle.area.proofs.get_slots.Reads as get-slots-reads
 use Rattle.area.proofs.holding_words.Reads as holding-words-reads
 use Rattle.area.proofs.is_frame.Reads as is-frame-reads
 use Rattle.area.proofs.low.Reads as low-reads
-use Rattle.model.proofs.empty_holdings.Reads as empty-holdings-reads
+use Rattle.model.proofs.fresh_state.Reads as fresh-state-reads
 use Rattle.words.proofs.has_words.Reads as has-words-reads
 use Rattle.words.proofs.word.Reads as word-reads
 
@@ -75,12 +75,12 @@ both-requires c κs = omega arith
 both-requires-2 : tie.Need-both-requires-2 Inv-loop μ-loop
 both-requires-2 c κs = omega arith
 
-empty-holdings-requires : tie.Need-empty-holdings-requires Inv-loop μ-loop
-empty-holdings-requires c κs = omega arith
+fresh-state-requires : tie.Need-fresh-state-requires Inv-loop μ-loop
+fresh-state-requires c κs = omega arith
 
 loop-holds : tie.Need-loop-holds Inv-loop μ-loop
 unfolding allBelow
-loop-holds c = (omega arith, holdings-still _ _ (c .empty-holdings .ensures ∙ each-below-none (λ j _. holdingFrom (c .before .before .before .before .before .before .before .before .before .before .before .before .before .before .args .a .now) (6656 + j * 24)) emptyHoldings), sym (and-true _))
+loop-holds c = (omega arith, holdings-still _ _ (fresh-holdings _ _ _ (c .fresh-state .ensures) ∙ each-below-none (λ j _. holdingFrom (c .before .before .before .before .before .before .before .before .before .before .before .before .before .before .args .a .now) (6656 + j * 24)) emptyHoldings), sym (and-true _))
 
 mul-at : tie.Need-mul-at Inv-loop μ-loop
 mul-at c = omega arith
@@ -98,7 +98,7 @@ slice-aggregate-has-words : tie.Need-slice-aggregate-has-words Inv-loop μ-loop
 slice-aggregate-has-words c = omega arith
 
 has-words-requires : tie.Need-has-words-requires Inv-loop μ-loop
-has-words-requires c κs = omega arith
+has-words-requires c κs = omega (arith, c .before .before .before .before .before .before .before .before .before .before .before .before .before .before .before .before .before .before .before .pre)
 
 both-requires-3 : tie.Need-both-requires-3 Inv-loop μ-loop
 both-requires-3 c κs = omega arith
@@ -118,7 +118,7 @@ loop-less c = omega arith
 loop-again : tie.Need-loop-again Inv-loop μ-loop
 loop-again c = (
   omega arith,
-  holdings-next (record { size = c .before .before .before .before .before .before .before .before .before .before .before .before .before .before .before .before .before .before .before .word .result; delay = c .before .before .before .before .before .before .before .before .before .before .before .before .before .before .before .before .before .low .result; clock = c .before .before .before .before .before .before .before .before .before .before .before .before .before .before .before .low2 .result; rows = c .before .before .before .before .before .before .before .before .before .before .before .before .before .before .get-rows .result .rows; slots = c .before .before .before .before .before .before .before .before .before .before .before .before .before .get-slots .result .slots; holdings = c .before .before .before .before .before .before .before .empty-holdings .result }) (c .before .before .before .before .before .before .loop .state) _ _ (c .before .before .before .before .before .before .loop .k) _ (c .before .before .before .before .before .before .loop .inv .1) (read-turn (λ j. holdingFrom (c .before .before .before .before .before .before .before .before .before .before .before .before .before .before .before .before .before .before .before .before .before .args .a .now) (6656 + j * 24)) emptyHoldings emptyHolding 2048 empty-holdings-long (c .before .before .before .before .before .before .loop .k) _ _ (omega arith) refl (c .before .before .before .before .get-holding .ensures)),
+  holdings-next (record { size = c .before .before .before .before .before .before .before .fresh-state .result .size; delay = c .before .before .before .before .before .before .before .fresh-state .result .delay; clock = c .before .before .before .before .before .before .before .before .before .before .before .before .before .before .before .low2 .result; rows = c .before .before .before .before .before .before .before .before .before .before .before .before .before .before .get-rows .result .rows; slots = c .before .before .before .before .before .before .before .before .before .before .before .before .before .get-slots .result .slots; holdings = c .before .before .before .before .before .before .before .fresh-state .result .holdings }) (c .before .before .before .before .before .before .loop .state) _ _ (c .before .before .before .before .before .before .loop .k) _ (c .before .before .before .before .before .before .loop .inv .1) (read-turn (λ j. holdingFrom (c .before .before .before .before .before .before .before .before .before .before .before .before .before .before .before .before .before .before .before .before .before .args .a .now) (6656 + j * 24)) emptyHoldings emptyHolding 2048 empty-holdings-long (c .before .before .before .before .before .before .loop .k) _ _ (omega arith) refl (c .before .before .before .before .get-holding .ensures)),
   tests-next (λ j. hasWords (c .before .before .before .before .before .before .before .before .before .before .before .before .before .before .before .before .before .before .before .before .before .args .a .now) (6656 + j * 24) (holdingWords (holdingFrom (c .before .before .before .before .before .before .before .before .before .before .before .before .before .before .before .before .before .before .before .before .before .args .a .now) (6656 + j * 24)))) (c .before .before .before .before .before .before .loop .k) (c .before .before .before .before .before .before .before .before .before .before .both2 .result) (c .before .before .before .before .before .before .loop .same) _ _ (c .before .before .before .before .before .before .loop .inv .2)
       (read-test holdingWords (c .before .before .before .before .before .before .before .before .before .before .before .before .before .before .before .before .before .before .before .before .before .args .a .now) (6656 + c .before .before .before .before .before .before .loop .k * 24) _ (c .before .before .before .before .get-holding .result) _ (c .before .before .before .holding-words .result) (c .before .has-words .ensures) (c .before .before .before .holding-words .ensures) (c .before .before .before .before .get-holding .ensures))
       (c .both3 .ensures),
@@ -127,7 +127,7 @@ loop-again c = (
 returns : tie.Need-returns Inv-loop μ-loop
 returns c =
     let e : c .before .loop .k ≡ 2048 = omega arith in
-    let s = c .before .loop .inv .1 ∙ decode-state (c .before .before .before .before .before .before .before .before .before .before .before .before .before .before .before .before .args .a .now) _ (c .before .before .before .before .before .before .before .before .before .before .before .before .before .before .word .ensures) (c .before .before .before .before .before .before .before .before .before .before .before .before .low .ensures ∙ ap low (c .before .before .before .before .before .before .before .before .before .before .before .before .before .word2 .ensures)) (c .before .before .before .before .before .before .before .before .before .before .low2 .ensures ∙ ap low (c .before .before .before .before .before .before .before .before .before .before .before .word3 .ensures)) (c .before .before .before .before .before .before .before .before .before .get-rows .ensures .0) (c .before .before .before .before .before .before .before .before .get-slots .ensures .0) (read-all (λ j. holdingFrom (c .before .before .before .before .before .before .before .before .before .before .before .before .before .before .before .before .args .a .now) (6656 + j * 24)) emptyHoldings emptyHolding 2048 empty-holdings-long (c .before .loop .k) _ e refl ∙ all-read (c .before .before .before .before .before .before .before .before .before .before .before .before .before .before .before .before .args .a .now)) in
+    let s = c .before .loop .inv .1 ∙ decode-state (c .before .before .before .before .before .before .before .before .before .before .before .before .before .before .before .before .args .a .now) _ (fresh-size _ _ _ (c .before .before .fresh-state .ensures) ∙ c .before .before .before .before .before .before .before .before .before .before .before .before .before .before .word .ensures) (fresh-delay _ _ _ (c .before .before .fresh-state .ensures) ∙ c .before .before .before .before .before .before .before .before .before .before .before .before .low .ensures ∙ ap low (c .before .before .before .before .before .before .before .before .before .before .before .before .before .word2 .ensures)) (c .before .before .before .before .before .before .before .before .before .before .low2 .ensures ∙ ap low (c .before .before .before .before .before .before .before .before .before .before .before .word3 .ensures)) (c .before .before .before .before .before .before .before .before .before .get-rows .ensures .0) (c .before .before .before .before .before .before .before .before .get-slots .ensures .0) (read-all (λ j. holdingFrom (c .before .before .before .before .before .before .before .before .before .before .before .before .before .before .before .before .args .a .now) (6656 + j * 24)) emptyHoldings emptyHolding 2048 empty-holdings-long (c .before .loop .k) _ e refl ∙ all-read (c .before .before .before .before .before .before .before .before .before .before .before .before .before .before .before .before .args .a .now)) in
     let t = exact-tests (c .before .before .before .before .before .before .before .before .before .before .before .before .before .before .before .before .args .a .now) _ _ _ _ _ _ _ (λ i. omega (arith, c .before .before .before .before .before .before .before .before .before .before .before .before .before .before .before .shared-slice-known .given i)) (omega arith) (framed (c .before .before .before .before .before .before .before .before .before .before .before .before .before .before .before .before .args .a .now) _ _ _ _ (c .before .before .before .before .before .before .before .before .before .before .before .before .before .before .word .ensures) (c .before .before .before .before .before .before .before .before .before .before .before .before .low .ensures ∙ ap low (c .before .before .before .before .before .before .before .before .before .before .before .before .before .word2 .ensures)) (c .before .before .before .before .before .before .before .before .before .before .low2 .ensures ∙ ap low (c .before .before .before .before .before .before .before .before .before .before .before .word3 .ensures)) (c .before .before .before .before .before .before .before .is-frame .ensures)) (c .before .before .before .before .before .before .before .before .before .get-rows .ensures .1) (c .before .before .before .before .before .before .before .before .get-slots .ensures .1) (all-exact (c .before .before .before .before .before .before .before .before .before .before .before .before .before .before .before .before .args .a .now)) (c .before .before .before .before .before .before .both .ensures) (c .before .before .before .before .before .both2 .ensures) (c .before .loop .inv .2 ∙ rw e) in
     (s, t)
 
@@ -147,7 +147,7 @@ decode-spec =
     is-frame-requires
     both-requires
     both-requires-2
-    empty-holdings-requires
+    fresh-state-requires
     loop-holds
     mul-at
     add-at
