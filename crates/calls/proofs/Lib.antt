@@ -1,5 +1,6 @@
-pub mod TagLaws
-pub mod CallLaws
+pub mod RefusalLaws
+pub mod ReplyLaws
+pub mod UnpinLaws
 pub mod MarkLaws
 pub mod SlotLaws
-pub mod ReplyLaws
+pub mod TagLaws

@@ -1,4 +1,4 @@
--- What the replies of the calls come to: those that are refused, those in which some rows lose all their holdings or none does, and an unpin's.
+-- What the replies of the calls come to: those that are refused, and those in which some rows lose all their holdings or none does.
 use mathlib.Core.Path.{_≡_, refl, sym, _∙_, ap}
 use mathlib.Core.Bool.{Bool, false, cond}
 use mathlib.Core.List.{List}
@@ -13,6 +13,9 @@ use Rattle.seq.proofs.EachLaws.{replicate-at, each-length, each-still}
 use Rattle.model.specs.declared.Answer.{Answer}
 use Rattle.model.specs.declared.Answer.the-variants.{Refused}
 use Rattle.model.specs.declared.Cause.{Cause}
+use Rattle.model.specs.declared.Condition.{Condition}
+use Rattle.model.specs.declared.Condition.the-variants.{Waiting}
+use Rattle.model.specs.declared.Mode.{Mode}
 use Rattle.model.specs.declared.Pin.the-variants.{Unpinned}
 use Rattle.model.specs.declared.Row.{Row}
 use Rattle.model.specs.declared.Slot.{Slot}
@@ -21,42 +24,33 @@ use Rattle.model.specs.declared.Change.{Change}
 use Rattle.model.specs.declared.Reply.{Reply}
 use Rattle.model.specs.declared.Outcome.{Outcome}
 use Rattle.model.specs.declared.State.{State}
-use Rattle.model.specs.State.{emptyHolding, slotAt, holdingAt, withClock, withRows, putSlot, putHolding}
+use Rattle.model.specs.State.{emptyHolding, rowAt, withClock, withRows}
+use Rattle.model.specs.Words.{isPin, pins}
 use Rattle.model.specs.Changes.{written, dirtied, released, killed, killedRow}
 use Rattle.model.specs.Inner.Changed.{marked, holdingAfter, changed, outcomeOf, holdingsDropped}
 use Rattle.model.proofs.StateLaws.{Sized}
 use Rattle.model.proofs.ChangedLaws.{changed-dropped, changed-none, held-set}
-use Rattle.rules.specs.Calls.{unless, unpinnedAt}
-use Rattle.serve.specs.SlotHoldings.{holdingsOn}
+use Rattle.rules.specs.Calls.{unless, served, servedAgain}
+use Rattle.serve.specs.Inner.SlotHoldings.{holdingsOn}
 use Rattle.serve.proofs.SlotLaws.{held-by}
-use Rattle.calls.specs.Elements.{sameReply, refusedReply}
-use Rattle.calls.proofs.CallLaws.{refused}
+use Rattle.calls.specs.Inner.Parts.{holdingsKept}
+use Rattle.calls.proofs.RefusalLaws.{refused}
 
 module _ (s : State) (z : Sized s) where
-  -- no row loses its holdings
-  pub stay-after : (c : Change) (rows : List Row) (a : Answer) → c ≡ holdingsDropped (s .clock) rows (s .slots) (replicate 32 false)
-      → outcomeOf s (record { change = c; answer = a }) ≡ record { state = withRows s rows; answer = a }
-  unfolding outcomeOf
-  stay-after c rows a e =
-      let t : changed s c ≡ withRows s rows = ap (changed s) e ∙ changed-none s z (s .clock) rows (s .slots) (replicate 32 false) (λ row _. replicate-at 32 row false) in
-      λ j. record { state = t j; answer = a }
+  -- no holding changes
+  pub kept-after : (r : Reply) (rows : List Row) (a : Answer) → r ≡ holdingsKept (s .clock) rows (s .slots) a → outcomeOf s r ≡ record { state = withRows s rows; answer = a }
+  unfolding holdingsKept outcomeOf
+  kept-after r rows a e =
+      ap (outcomeOf s) e
+      ∙ (λ j. record { state = changed-none s z (s .clock) rows (s .slots) (replicate 32 false) (λ row _. replicate-at 32 row false) j; answer = a })
 
-  -- a call that changes nothing
-  pub same-reply : (r : Reply) (a : Answer) → r ≡ sameReply (s .clock) (s .rows) (s .slots) a → outcomeOf s r ≡ record { state = s; answer = a }
-  unfolding sameReply
-  same-reply r a e = ap (outcomeOf s) e ∙ stay-after (holdingsDropped (s .clock) (s .rows) (s .slots) (replicate 32 false)) (s .rows) a refl
+  -- the rows do not change either
+  pub same-after : (r : Reply) (a : Answer) (o : Outcome) → r ≡ holdingsKept (s .clock) (s .rows) (s .slots) a → a ≡ o .answer → o .state ≡ s → outcomeOf s r ≡ o
+  same-after r a o e f g = kept-after r (s .rows) a e ∙ (λ j. record { state = sym g j; answer = f j })
 
-  pub same-after : (r : Reply) (a : Answer) (o : Outcome) → r ≡ sameReply (s .clock) (s .rows) (s .slots) a → a ≡ o .answer → o .state ≡ s → outcomeOf s r ≡ o
-  same-after r a o e f g = same-reply r a e ∙ (λ j. record { state = sym g j; answer = f j })
-
-  -- a refused call
-  pub refused-reply : (r : Reply) (n : ℕ) → r ≡ refusedReply (s .clock) (s .rows) (s .slots) n → outcomeOf s r ≡ record { state = s; answer = Refused n }
-  unfolding refusedReply
-  refused-reply r n e = ap (outcomeOf s) e ∙ stay-after (holdingsDropped (s .clock) (s .rows) (s .slots) (replicate 32 false)) (s .rows) (Refused n) refl
-
-  -- n: the number that the code found, m: that of the definition
-  pub refused-after : (r : Reply) (n m : ℕ) (o : Outcome) → r ≡ refusedReply (s .clock) (s .rows) (s .slots) n → n ≡ m → 0 < n → outcomeOf s r ≡ unless m s o
-  refused-after r n m o e f h = refused-reply r n e ∙ refused n m s o f h
+  -- a refused call: n is the number that the code found, m that of the definition
+  pub refused-after : (r : Reply) (n m : ℕ) (o : Outcome) → r ≡ holdingsKept (s .clock) (s .rows) (s .slots) (Refused n) → n ≡ m → 0 < n → outcomeOf s r ≡ unless m s o
+  refused-after r n m o e f h = kept-after r (s .rows) (Refused n) e ∙ refused n m s o f h
 
   -- some rows do
   pub drop-after : (c : Change) (clock : ℕ) (rows : List Row) (slots : List Slot) (gone : List Bool) (a : Answer) → c ≡ holdingsDropped clock rows slots gone
@@ -82,45 +76,6 @@ module _ (s : State) (z : Sized s) where
   unfolding killed released
   rows-killed clock rows live gone cause e = ap (withRows (released (marked gone) (withClock s clock))) e
 
-  -- unpin
-  module _ (row slot : ℕ) (b : row < 32) (d : slot < 64) where
-    kept : Change
-    kept = record { clock = s .clock; rows = s .rows; slots = s .slots; gone = replicate 32 false; slot = slot; held = holdingsOn s slot }
-
-    all-kept : each (holdingAfter kept) (s .holdings) ≡ s .holdings
-    unfolding holdingAfter kept
-    all-kept = each-still (holdingAfter kept) (s .holdings) emptyHolding (λ k m. elim (ℕ-discrete (k / 32) slot) [
-      | yes p ↦
-          let here : slot * 32 + k % 32 ≡ k = omega arith in
-          rw (eq-eqb (k / 32) slot p, held-by s slot (k % 32) (omega arith), here)
-      | no p ↦ rw (ne-eqb (k / 32) slot p, replicate-at 32 (k % 32) false)
-    ])
-
-    on-length : length (holdingsOn s slot) ≡ 32
-    unfolding holdingsOn
-    on-length = each-length _ (replicate 32 emptyHolding) ∙ length-replicate 32 emptyHolding
-
-    set-changed : (held : List Holding) (y : Slot) (h : Holding) → held ≡ holdingsOn s slot
-        → changed s (record { clock = s .clock; rows = s .rows; slots = set (s .slots) slot y; gone = replicate 32 false; slot = slot; held = set held row h }) ≡ putHolding (putSlot s slot y) slot row h
-    unfolding changed kept
-    set-changed held y h e =
-        let c : Change = record { clock = s .clock; rows = s .rows; slots = set (s .slots) slot y; gone = replicate 32 false; slot = slot; held = set held row h } in
-        let t : each (holdingAfter c) (s .holdings) ≡ set (s .holdings) (slot * 32 + row) h =
-        sym (held-set s z kept c row h d b on-length refl refl (ap (λ (l : List Holding). set l row h) e)) ∙ ap (λ (l : List Holding). set l (slot * 32 + row) h) all-kept in
-        λ j. record { size = s .size; delay = s .delay; clock = s .clock; rows = s .rows; slots = set (s .slots) slot y; holdings = t j }
-
-    pub unpin-changed : (held : List Holding) (w : Bool) (y : Slot) → held ≡ holdingsOn s slot → w ≡ written (s .clock) (getD held row emptyHolding)
-        → y ≡ cond w (dirtied (slotAt s slot)) (slotAt s slot)
-        → changed s (record {
-          clock = s .clock;
-          rows = s .rows;
-          slots = set (s .slots) slot y;
-          gone = replicate 32 false;
-          slot = slot;
-          held = set held row (record { pin = Unpinned; arrival = getD held row emptyHolding .arrival; touch = getD held row emptyHolding .touch });
-        }) ≡ unpinnedAt s row slot
-    unfolding unpinnedAt
-    unpin-changed held w y e f g =
-        let there : getD held row emptyHolding ≡ holdingAt s slot row = ap (λ (l : List Holding). getD l row emptyHolding) e ∙ held-by s slot row b in
-        set-changed held y (record { pin = Unpinned; arrival = getD held row emptyHolding .arrival; touch = getD held row emptyHolding .touch }) e
-        ∙ rw (g, f, there)
+-- retry: a waiting row's stored request; r, c: its row and its condition, as the code found them
+pub again : (s : State) (r row page : ℕ) (mode : Mode) (c : Condition) → r ≡ row → c ≡ rowAt s r .condition → c ≡ Waiting page mode → served s r page mode ≡ servedAgain (rowAt s row .condition) s row
+again s r row page mode c e f g = let h : rowAt s row .condition ≡ Waiting page mode = cc in rw (h, e)

@@ -17,11 +17,11 @@ use Rattle.model.specs.declared.Pin.the-variants.{Absent}
 use Rattle.model.specs.declared.State.{State}
 use Rattle.model.specs.State.{slotAt, holdingAt}
 use Rattle.model.specs.Words.{arrivalIn, hasPage, strength, seenHolder, seen, isOpen, strongestPin, pageSlot}
-use Rattle.rules.specs.Calls.{viewedPin}
-use Rattle.serve.specs.Elements.{seenTest}
-use Rattle.serve.specs.SlotHoldings.{holdingsOn, heldBy, seenIn, leastIn, seesDormantIn}
+use Rattle.rules.specs.Calls.{viewedPin, viewedIn}
+use Rattle.serve.specs.Inner.SlotHoldings.{seenTest}
+use Rattle.serve.specs.Inner.SlotHoldings.{holdingsOn, heldBy, seenIn, leastIn, seesDormantIn}
 use Rattle.serve.proofs.SlotLaws.{held-by, seen-in, least-in, dormant-in}
-use Rattle.calls.specs.Elements.{strongestIn, viewedAt}
+use Rattle.calls.specs.Inner.Parts.{strongestIn}
 
 -- a page's slot is one of those started with
 pub found-below : (s : State) (page slot : ℕ) (f : Found) → s .size ≤ 64 → f ≡ pageSlot (s .slots) (s .size) page → f ≡ At slot → slot < 64
@@ -54,11 +54,11 @@ module _ (s : State) (level slot : ℕ) where
     seen-is : seen s level slot ≡ sees
     seen-is = sym (e ∙ ap (λ (h : List Holding). seenIn h level) on ∙ seen-in s slot level)
 
-    pub view-pin : (p : Pin) (least : ℕ) (a : Answer) → sees ≡ true → p ≡ strongestIn held level → least ≡ leastIn held level → a ≡ viewedPin p least → a ≡ viewedAt s level slot
+    pub view-pin : (p : Pin) (least : ℕ) (a : Answer) → sees ≡ true → p ≡ strongestIn held level → least ≡ leastIn held level → a ≡ viewedPin p least → a ≡ viewedIn (At slot) s level
     view-pin p least a t f g q = rw (seen-is ∙ t) (q ∙ rw (f, g, on, strongest-in, least-in s slot level))
 
-    pub view-dormant : (b : Bool) (arrival : ℕ) → sees ≡ false → b ≡ seesDormantIn held (slotAt s slot) level → b ≡ true → arrival ≡ arrivalIn (slotAt s slot .content) → PageDormant arrival ≡ viewedAt s level slot
+    pub view-dormant : (b : Bool) (arrival : ℕ) → sees ≡ false → b ≡ seesDormantIn held (slotAt s slot) level → b ≡ true → arrival ≡ arrivalIn (slotAt s slot .content) → PageDormant arrival ≡ viewedIn (At slot) s level
     view-dormant b arrival t f g q = rw (seen-is ∙ t, sym (dormant-in s slot level) ∙ sym (f ∙ ap (λ (h : List Holding). seesDormantIn h (slotAt s slot) level) on) ∙ g, q)
 
-    pub view-none : (b : Bool) → sees ≡ false → b ≡ seesDormantIn held (slotAt s slot) level → b ≡ false → PageUnseen ≡ viewedAt s level slot
+    pub view-none : (b : Bool) → sees ≡ false → b ≡ seesDormantIn held (slotAt s slot) level → b ≡ false → PageUnseen ≡ viewedIn (At slot) s level
     view-none b t f g = rw (seen-is ∙ t, sym (dormant-in s slot level) ∙ sym (f ∙ ap (λ (h : List Holding). seesDormantIn h (slotAt s slot) level) on) ∙ g)

@@ -1,18 +1,25 @@
--- What the variant of a call says of it, where the code has one arm for several.
+-- What the variant of a call or a condition says of it, where the code has one arm for several.
 use mathlib.Core.Path.{_≡_, refl, sym}
-use mathlib.Core.Bool.{true, false}
+use mathlib.Core.Bool.{true, false, not}
 use mathlib.Core.List.{List, [], _∷_}
-use Prim.Native.Nat.{ℕ}
+use Prim.Native.Nat.{ℕ, _≤_}
+use native.Mathlib.Omega.{arith}
 use denote.Enum.Declared.{tagOf}
 use types.Run.{OneOf, miss}
 use Rattle.seq.proofs.Tests.{true-false}
 use Rattle.model.specs.declared.Call.{Call}
 use Rattle.model.specs.declared.Call.the-variants.{Start, Begin, Request, Retry, Unpin, End, Tick, Look, View, Count}
 use Rattle.model.proofs.Call.{the-type}
+use Rattle.model.specs.declared.Condition.{Condition}
+use Rattle.model.specs.declared.Condition.the-variants.{Free, Idle, Fetching, Waiting, Killed}
+use Rattle.model.specs.declared.Row.{Row}
 use Rattle.model.specs.declared.State.{State}
+use Rattle.model.proofs.Condition.{the-type as condition-type}
 use Rattle.rules.specs.Content.{isStart, isReading}
+use Rattle.rules.specs.Refusals.{firstToApply, isFree, isKilled, isWaiting}
+use Rattle.rules.specs.Calls.{delivered, deliveredRow}
 use Rattle.rules.specs.Run.{outcome}
-use Rattle.rules.proofs.Hidden.Hidden.{looked-still, viewed-still, counted-still}
+use Rattle.rules.proofs.Leaves.CallEffects.{reading-still}
 
 -- the call is of one of the variants
 abbrev pub Of : List ℕ → Call → Type 0
@@ -34,9 +41,9 @@ it-reads s (Retry level number) k e = absurd (miss asking 3 tt k)
 it-reads s (Unpin level number page) k e = absurd (miss asking 4 tt k)
 it-reads s (End level number) k e = absurd (miss asking 5 tt k)
 it-reads s Tick k e = absurd (miss asking 6 tt k)
-it-reads s (Look level number) k e = (refl, looked-still s level number)
-it-reads s (View level page) k e = (refl, viewed-still s level page)
-it-reads s (Count level) k e = (refl, counted-still s level)
+it-reads s (Look level number) k e = (refl, reading-still s (Look level number) refl)
+it-reads s (View level page) k e = (refl, reading-still s (View level page) refl)
+it-reads s (Count level) k e = (refl, reading-still s (Count level) refl)
 
 pub reads-not : (c : Call) → Of other c → isReading c ≡ true → ⊥
 reads-not (Start slots delay) k e = true-false (sym e)
@@ -49,3 +56,23 @@ reads-not Tick k e = true-false (sym e)
 reads-not (Look level number) k e = miss other 7 tt k
 reads-not (View level page) k e = miss other 8 tt k
 reads-not (Count level) k e = miss other 9 tt k
+
+-- a row that a retry is not refused for is waiting
+pub it-waits : (c : Condition) (n : ℕ) → OneOf (0 ∷ 1 ∷ 2 ∷ 4 ∷ []) (tagOf condition-type c) → n ≡ firstToApply ((9, isFree c) ∷ (10, isKilled c) ∷ (16, not (isWaiting c)) ∷ []) → n ≤ 0 → ⊥
+it-waits Free n k e l = omega arith
+it-waits Idle n k e l = omega arith
+it-waits (Fetching due) n k e l = omega arith
+it-waits (Waiting page mode) n k e l = miss (0 ∷ 1 ∷ 2 ∷ 4 ∷ []) 3 tt k
+it-waits (Killed cause) n k e l = omega arith
+
+-- a row that is not fetching stays as it is in a tick
+pub it-stays : (clock : ℕ) (x : Row) → OneOf (0 ∷ 1 ∷ 3 ∷ 4 ∷ []) (tagOf condition-type (x .condition)) → x ≡ deliveredRow clock x
+unfolding deliveredRow
+it-stays clock x k = λ j. record { condition = go (x .condition) k j; deadline = x .deadline }
+  where
+    go : (c : Condition) → OneOf (0 ∷ 1 ∷ 3 ∷ 4 ∷ []) (tagOf condition-type c) → c ≡ delivered clock c
+    go Free k = refl
+    go Idle k = refl
+    go (Fetching due) k = absurd (miss (0 ∷ 1 ∷ 3 ∷ 4 ∷ []) 2 tt k)
+    go (Waiting page mode) k = refl
+    go (Killed cause) k = refl

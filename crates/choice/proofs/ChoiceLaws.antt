@@ -1,151 +1,140 @@
 -- The steps by summaries are the steps of document 01.
-use mathlib.Core.Path.{_≡_, refl, _∙_, ap}
+use mathlib.Core.Path.{_≡_, refl, sym, _∙_, ap}
+use mathlib.Core.List.{List}
 use mathlib.Core.Bool.{Bool, true, false, _&&_, not}
 use Prim.Native.Nat.{ℕ, _<_, _≤_}
 use native.Mathlib.Omega.{arith}
 use borrow.Author.Tests.{eqb-true}
 use lib.Dec.{ltb, eqb}
-use lib.ListN.{getD}
+use lib.ListN.{getD, replicate, length-replicate}
 use Rattle.seq.specs.Below.{pickBelow, atFound}
-use Rattle.seq.specs.Order.{lexLess}
 use Rattle.seq.specs.declared.Found.{Found}
 use Rattle.seq.specs.declared.Found.the-variants.{At, Nowhere}
-use Rattle.seq.proofs.Tests.{and-when}
-use Rattle.seq.proofs.PickLaws.{pick-same, pick-is}
-use Rattle.seq.proofs.BuildLaws.{build-at}
+use Rattle.seq.proofs.Tests.{and-true, and-when, parts}
+use Rattle.seq.proofs.PickLaws.{pick-same, picked-same}
+use Rattle.seq.proofs.EachLaws.{each-below-reached}
 use Rattle.model.specs.declared.State.{State}
 use Rattle.model.specs.Parties.{levelOf}
 use Rattle.model.specs.State.{slotAt}
-use Rattle.model.specs.Words.{pageIn, pins, dormant}
+use Rattle.model.specs.Words.{isFilled, pins, seen, dormant, outranks, bestHolder, latestTouch}
+use Rattle.model.proofs.SeenLaws.{seen-held}
 use Rattle.rules.specs.Choice.{stepA, beforeDormant, stepB, holderLevel, heldAbove, highestLevel, pinnedAt, inC, inD, heldAtOwnLevel, seenPin, inE, inF, beforeHeld, stepHeld, chosen}
 use Rattle.choice.specs.declared.Summary.{Summary}
 use Rattle.choice.specs.declared.Step.{Step}
-use Rattle.choice.specs.declared.Step.the-variants.{C, D, E, F}
-use Rattle.choice.specs.Search.{never}
-use Rattle.choice.specs.Summary.{
-  holdersBelow,
-  summaryWith,
-  summaryOf,
-  noSummary,
-  summariesOf,
-  emptyIn,
-  dormantIn,
-  aboveIn,
-  inStep,
-  dormantBefore,
-  higher,
-  heldBefore,
-  pickFrom,
-  topFrom,
-  heldFrom,
-  chosenFrom,
-}
-use Rattle.choice.proofs.BestLaws.{level-is, latest-is, pinned-is, above-is, beside-is, pin-is, worse-is}
+use Rattle.choice.specs.declared.Step.the-variants.{A, B, M, C, D, E, F}
+use Rattle.choice.specs.Inner.Summary.{latestBelow, pinnedBelow, holdersAt, holdersBelow, summaryWith, summaryOf, noSummary, summariesOf}
+use Rattle.choice.specs.Inner.Search.{inStep, dormantBefore, heldBefore, stepBefore, stepFrom, topFrom, chosenFrom}
+use Rattle.choice.proofs.BestLaws.{holders-at, held-best, held-is, above-is, beside-is, seen-pin}
 
 module _ (s : State) (me : ℕ) (most : s .size ≤ 64) where
-  summary-at : (i : ℕ) → i < 64 → getD (summariesOf s me) i noSummary ≡ summaryOf s me i
+  summary-at : (i : ℕ) → i < s .size → getD (summariesOf s me) i noSummary ≡ summaryOf s me i
   unfolding summariesOf
-  summary-at i h = build-at (summaryOf s me) 64 noSummary i noSummary h
+  summary-at i h = each-below-reached (λ slot _. summaryOf s me slot) (replicate 64 noSummary) (s .size) i noSummary h (rw (length-replicate 64 noSummary) (omega arith))
 
   -- a search over the summaries is one over the slots
-  from-summaries : (some : Summary → Bool) (before : Summary → Summary → Bool) (p : ℕ → Bool) (q : ℕ → ℕ → Bool)
-      → ((i : ℕ) → some (summaryOf s me i) ≡ p i) → ((i j : ℕ) → before (summaryOf s me i) (summaryOf s me j) ≡ q i j)
-      → pickFrom (summariesOf s me) (s .size) some before ≡ pickBelow (s .size) p q
-  unfolding pickFrom
-  from-summaries some before p q f g =
-      pick-same (λ i. some (getD (summariesOf s me) i noSummary)) p (λ i j. before (getD (summariesOf s me) i noSummary) (getD (summariesOf s me) j noSummary)) q (s .size)
-      (λ i h. ap some (summary-at i (omega arith)) ∙ f i)
-      (λ i j h k _ _.
-      ap (λ (x : Summary). before x (getD (summariesOf s me) j noSummary)) (summary-at i (omega arith))
-      ∙ ap (before (summaryOf s me i)) (summary-at j (omega arith)) ∙ g i j)
+  same-step : (step : Step) (top : ℕ) (p : ℕ → Bool) (q : ℕ → ℕ → Bool) → ((i : ℕ) → inStep step top (summaryOf s me i) ≡ p i)
+      → ((i j : ℕ) → p i ≡ true → p j ≡ true → stepBefore step (summaryOf s me i) (summaryOf s me j) ≡ q i j)
+      → stepFrom (summariesOf s me) (s .size) step top ≡ pickBelow (s .size) p q
+  unfolding stepFrom
+  same-step step top p q f g =
+      pick-same _ p _ q (s .size) test
+      (λ i j h k u v. rw (summary-at i h, summary-at j k) (g i j (sym (test i h) ∙ u) (sym (test j k) ∙ v)))
+    where
+      test : (i : ℕ) → i < s .size → inStep step top (getD (summariesOf s me) i noSummary) ≡ p i
+      test i h = ap (inStep step top) (summary-at i h) ∙ f i
 
-  same-a : pickFrom (summariesOf s me) (s .size) emptyIn never ≡ stepA s
-  unfolding stepA emptyIn summaryOf summaryWith
-  same-a = from-summaries emptyIn never _ (λ i j. false) (λ i. refl) (λ i j. refl)
+  same-a : stepFrom (summariesOf s me) (s .size) A 0 ≡ stepA s
+  unfolding stepA summaryOf summaryWith
+  same-a = same-step A 0 _ (λ i j. false) (λ i. refl) (λ i j _ _. refl)
 
-  same-b : pickFrom (summariesOf s me) (s .size) dormantIn dormantBefore ≡ stepB s
-  unfolding stepB dormantIn dormantBefore summaryOf summaryWith holdersBelow dormant beforeDormant
-  same-b = from-summaries dormantIn dormantBefore (dormant s) (beforeDormant s) (λ i. refl) (λ i j. refl)
-
-  same-level : (i : ℕ) → levelOf (summaryOf s me i .holders .best) ≡ holderLevel s i
-  unfolding summaryOf summaryWith holdersBelow
-  same-level i = level-is s i
+  same-b : stepFrom (summariesOf s me) (s .size) B 0 ≡ stepB s
+  unfolding stepB summaryOf summaryWith holdersBelow bestHolder dormant dormantBefore beforeDormant
+  same-b = same-step B 0 (dormant s) (beforeDormant s) (λ i. ap (λ (x : Bool). isFilled (slotAt s i .content) && not x) (held-is s i (bestHolder s i) refl)) (λ i j _ _. refl)
 
   same-above : (i : ℕ) → summaryOf s me i .above ≡ heldAbove s me i
-  unfolding summaryOf summaryWith
-  same-above i = above-is s i me
+  unfolding summaryOf summaryWith holdersBelow bestHolder
+  same-above i = above-is s i me (bestHolder s i) refl
 
   same-beside : (i : ℕ) → summaryOf s me i .beside ≡ heldAtOwnLevel s me i
-  unfolding summaryOf summaryWith
-  same-beside i = beside-is s i me
+  unfolding summaryOf summaryWith holdersBelow bestHolder
+  same-beside i = beside-is s i me (bestHolder s i) refl
+
+  same-level : (i : ℕ) → summaryOf s me i .holders .rank .level ≡ holderLevel s i
+  unfolding summaryOf summaryWith holdersBelow bestHolder holderLevel
+  same-level i = go (bestHolder s i)
+    where
+      go : (f : Found) → holdersAt s i 32 f .rank .level ≡ atFound f levelOf 0
+      go Nowhere = refl
+      go (At b) = refl
 
   same-top : topFrom (summariesOf s me) (s .size) ≡ highestLevel s me
-  unfolding topFrom highestLevel higher
-  same-top =
-      ap (λ (f : Found). atFound f (λ i. levelOf (getD (summariesOf s me) i noSummary .holders .best)) 0)
-      (from-summaries aboveIn higher (heldAbove s me) (λ i j. ltb (holderLevel s j) (holderLevel s i)) same-above
-      (λ i j. ap (λ (a : ℕ). ltb a (levelOf (summaryOf s me i .holders .best))) (same-level j) ∙ ap (ltb (holderLevel s j)) (same-level i)))
-      ∙ go (pickBelow (s .size) (heldAbove s me) (λ i j. ltb (holderLevel s j) (holderLevel s i))) refl
-    where
-      go : (f : Found) → pickBelow (s .size) (heldAbove s me) (λ i j. ltb (holderLevel s j) (holderLevel s i)) ≡ f
-          → atFound f (λ i. levelOf (getD (summariesOf s me) i noSummary .holders .best)) 0 ≡ atFound f (holderLevel s) 0
-      go Nowhere e = refl
-      go (At i) e =
-          let h = pick-is (heldAbove s me) (λ i j. ltb (holderLevel s j) (holderLevel s i)) (s .size) i e .0 in
-          ap (λ (x : Summary). levelOf (x .holders .best)) (summary-at i (omega arith)) ∙ same-level i
+  unfolding topFrom highestLevel stepFrom
+  same-top = picked-same _ (heldAbove s me) _ (λ i j. ltb (holderLevel s j) (holderLevel s i)) _ (holderLevel s) 0 (s .size)
+      (λ i h. rw (summary-at i h) (same-above i))
+      (λ i j h k _ _. rw (summary-at i h, summary-at j k, same-level i, same-level j))
+      (λ i h _. rw (summary-at i h) (same-level i))
 
-  -- where two numbers are equal, what is asked of the one is asked of the other
-  at-equal : (a : Bool) (x y : ℕ) (f : ℕ → Bool) → a && eqb x y && f x ≡ a && eqb x y && f y
-  at-equal a x y f = go (eqb x y) refl
-    where
-      none : (b : Bool) → b && false && f x ≡ b && false && f y
-      none true = refl
-      none false = refl
+  -- a slot in a step from c to f is held; its summary is by its best holder
+  above-best : (i : ℕ) → heldAbove s me i ≡ true → (b : ℕ) × (bestHolder s i ≡ At b)
+  unfolding heldAbove
+  above-best i e = held-best s i (search parts)
 
-      go : (e : Bool) → eqb x y ≡ e → a && eqb x y && f x ≡ a && eqb x y && f y
-      go true e = ap (λ (z : ℕ). a && eqb x y && f z) (eqb-true x y e)
-      go false e = rw e (none a)
+  beside-best : (i : ℕ) → heldAtOwnLevel s me i ≡ true → (b : ℕ) × (bestHolder s i ≡ At b)
+  unfolding heldAtOwnLevel
+  beside-best i e = held-best s i (seen-held s (levelOf me) i (and-true (seen s (levelOf me) i) _ e .0))
 
-  same-pinned : (i : ℕ) → summaryOf s me i .holders .pinned ≡ pinnedAt s (holderLevel s i) i
-  unfolding summaryOf summaryWith
-  same-pinned i = pinned-is s i
+  same-before : (i j : ℕ) → (a : ℕ) × (bestHolder s i ≡ At a) → (b : ℕ) × (bestHolder s j ≡ At b) → heldBefore (summaryOf s me i) (summaryOf s me j) ≡ beforeHeld s i j
+  unfolding heldBefore beforeHeld summaryOf summaryWith outranks holderLevel latestBelow latestTouch
+  same-before i j (a, e) (b, w) = rw (holders-at s i (At a) e, holders-at s j (At b) w, e, w)
 
-  same-before : (i j : ℕ) → heldBefore (summaryOf s me i) (summaryOf s me j) ≡ beforeHeld s i j
-  unfolding heldBefore beforeHeld summaryOf summaryWith
-  same-before i j =
-      worse-is s i j (lexLess (holdersBelow s i 32 .latest) (holdersBelow s j 32 .latest) (ltb (pageIn (slotAt s i .content)) (pageIn (slotAt s j .content))))
-      ∙ rw (latest-is s i, latest-is s j)
+  same-pinned : (i : ℕ) → (a : ℕ) × (bestHolder s i ≡ At a) → summaryOf s me i .holders .pinned ≡ pinnedAt s (holderLevel s i) i
+  unfolding summaryOf summaryWith holderLevel pinnedBelow pinnedAt
+  same-pinned i (a, e) = rw (holders-at s i (At a) e, e)
 
-  same-step : (step : Step) (p : ℕ → Bool) → ((i : ℕ) → inStep step (highestLevel s me) (summaryOf s me i) ≡ p i)
-      → heldFrom (summariesOf s me) (s .size) step (topFrom (summariesOf s me) (s .size)) ≡ stepHeld s p
-  unfolding heldFrom stepHeld
-  same-step step p f = rw same-top (from-summaries (inStep step (highestLevel s me)) heldBefore p (beforeHeld s) f same-before)
+  -- where the best holder's level is M, and where it is the requester's
+  pinned-top : (i : ℕ) → heldAbove s me i && eqb (holderLevel s i) (highestLevel s me) ≡ true → summaryOf s me i .holders .pinned ≡ pinnedAt s (highestLevel s me) i
+  pinned-top i e =
+      let x = and-true (heldAbove s me i) _ e in
+      same-pinned i (above-best i (x .0)) ∙ ap (λ (level : ℕ). pinnedAt s level i) (eqb-true (holderLevel s i) (highestLevel s me) (x .1))
+
+  pinned-own : (i : ℕ) → heldAtOwnLevel s me i ≡ true → summaryOf s me i .holders .pinned ≡ seenPin s (levelOf me) i
+  unfolding summaryOf summaryWith pinnedBelow pinnedAt
+  pinned-own i e = let x = beside-best i e in rw (holders-at s i (At (x .0)) (x .1)) (seen-pin s i me (x .0) (x .1) e)
 
   same-c : (i : ℕ) → inStep C (highestLevel s me) (summaryOf s me i) ≡ inC s me i
   unfolding inC
-  same-c i =
-      rw (same-above i, same-level i, same-pinned i)
-      (at-equal (heldAbove s me i) (holderLevel s i) (highestLevel s me) (λ level. not (pinnedAt s level i)))
+  same-c i = rw (same-above i, same-level i) (and-when _ _ _ (λ h. ap not (pinned-top i h)))
 
   same-d : (i : ℕ) → inStep D (highestLevel s me) (summaryOf s me i) ≡ inD s me i
   unfolding inD
-  same-d i =
-      rw (same-above i, same-level i, same-pinned i)
-      (at-equal (heldAbove s me i) (holderLevel s i) (highestLevel s me) (λ level. pinnedAt s level i))
-
-  same-pin : (i : ℕ) → heldAtOwnLevel s me i ≡ true → summaryOf s me i .holders .pinned ≡ seenPin s (levelOf me) i
-  unfolding summaryOf summaryWith
-  same-pin i = pin-is s i me
+  same-d i = rw (same-above i, same-level i) (and-when _ _ _ (pinned-top i))
 
   same-e : (i : ℕ) → inStep E (highestLevel s me) (summaryOf s me i) ≡ inE s me i
   unfolding inE
-  same-e i = rw (same-beside i) (and-when (heldAtOwnLevel s me i) _ _ (λ h. ap not (same-pin i h)))
+  same-e i = rw (same-beside i) (and-when _ _ _ (λ h. ap not (pinned-own i h)))
 
   same-f : (i : ℕ) → inStep F (highestLevel s me) (summaryOf s me i) ≡ inF s me i
   unfolding inF summaryOf summaryWith
-  same-f i = rw (beside-is s i me) (ap (λ (x : Bool). x && not (pins s i me)) (and-when (heldAtOwnLevel s me i) _ _ (pin-is s i me)))
+  same-f i = rw (same-beside i) (ap (λ (x : Bool). x && not (pins s i me)) (and-when _ _ _ (pinned-own i)))
+
+  -- a step from c to f
+  same-held : (step : Step) (p : ℕ → Bool) → ((i : ℕ) → inStep step (highestLevel s me) (summaryOf s me i) ≡ p i)
+      → ((i : ℕ) → p i ≡ true → (b : ℕ) × (bestHolder s i ≡ At b)) → ((x y : Summary) → stepBefore step x y ≡ heldBefore x y)
+      → stepFrom (summariesOf s me) (s .size) step (topFrom (summariesOf s me) (s .size)) ≡ stepHeld s p
+  unfolding stepHeld
+  same-held step p f g o = rw same-top (same-step step (highestLevel s me) p (beforeHeld s) f (λ i j u v. o (summaryOf s me i) (summaryOf s me j) ∙ same-before i j (g i u) (g j v)))
 
   -- the choice by summaries is the choice
-  pub choice-made : chosenFrom (summariesOf s me) (s .size) ≡ chosen s me
-  unfolding chosenFrom chosen
-  choice-made = rw (same-a, same-b, same-step C (inC s me) same-c, same-step D (inD s me) same-d, same-step E (inE s me) same-e, same-step F (inF s me) same-f)
+  same-choice : chosenFrom (summariesOf s me) (s .size) ≡ chosen s me
+  unfolding chosenFrom chosen inC inD inE inF
+  same-choice = rw (
+    same-a,
+    same-b,
+    same-held C (inC s me) same-c (λ i e. above-best i (search parts depth 20)) (λ x y. refl),
+    same-held D (inD s me) same-d (λ i e. above-best i (search parts depth 20)) (λ x y. refl),
+    same-held E (inE s me) same-e (λ i e. beside-best i (search parts depth 20)) (λ x y. refl),
+    same-held F (inF s me) same-f (λ i e. beside-best i (search parts depth 20)) (λ x y. refl),
+  )
+
+  pub choice-made : (m : List Summary) (f : Found) → m ≡ summariesOf s me → f ≡ chosenFrom m (s .size) → f ≡ chosen s me
+  choice-made m f e q = q ∙ ap (λ (l : List Summary). chosenFrom l (s .size)) e ∙ same-choice

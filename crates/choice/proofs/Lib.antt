@@ -1,4 +1,4 @@
 pub mod SummaryLaws
 pub mod BestLaws
-pub mod ScanLaws
+pub mod SearchLaws
 pub mod ChoiceLaws

@@ -1,2 +1,2 @@
-pub mod Search
-pub mod Summary
+-- for the code
+pub mod Inner

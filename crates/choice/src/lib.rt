@@ -1,17 +1,34 @@
 // The search for a page and the choice of a slot, steps a to g of document 01, on a state by value.
 use model::Content;
 use model::Holding;
+use model::Rank;
+use model::Row;
 use model::Slot;
 use model::State;
 use seq::Found;
 ghost use mathlib.Core.Path.{_≡_};
-ghost use mathlib.Core.Bool.{cond, not};
-ghost use Prim.Native.Nat.{_<_, _≤_};
-ghost use Rattle.seq.specs.Below.{considered};
+ghost use Prim.Native.Nat.{_<_, _≤_, max};
+ghost use Rattle.seq.specs.Below.{considered, atFound};
 ghost use Rattle.model.specs.Words.{isFilled, pageIn, dirtyIn, lowestIn, hasPage, pageSlot};
-ghost use Rattle.choice.specs.Search.{never};
-ghost use Rattle.choice.specs.Summary.{largerOf, noHolders, joinedLevel, holdersWith, aboveBy, besideBy, noSummary, summaryWith, summariesOf, emptyIn, dormantIn, inStep, dormantBefore, higher, worseIn, heldBefore, placeWith, foundAt, pickFrom, topFrom, heldFrom, chosenFrom};
-ghost use Rattle.rules.specs.Choice.{dirtyNumber, chosen};
+ghost use Rattle.rules.specs.Choice.{dirtyNumber, orElse, chosen};
+ghost use Rattle.choice.specs.Inner.Summary.{ranksOf, noHolders, joinedLevel, holdersWith, summaryWith, summariesOf};
+ghost use Rattle.choice.specs.Inner.Search.{inStep, dormantBefore, higher, heldBefore, orderOf, stepBefore, stepFrom, topFrom};
+
+// One slot more in a search: a slot that passes is taken where none was found before, or where it comes before that one.
+fn consider(passes: bool, f: Found, i: usize, before: bool) -> Found
+    ensures { λ r. ⌜ r ≡ considered passes f i (λ slot other. before) ⌝ }
+{
+    if passes {
+        let Found::At(j) = f else {
+            return Found::At(i);
+        };
+        if before {
+            return Found::At(i);
+        }
+        return Found::At(j);
+    }
+    f
+}
 
 fn has_page(page: u32, c: Content) -> bool
     ensures { λ r. ⌜ r ≡ hasPage page c ⌝ }
@@ -27,19 +44,6 @@ fn has_page(page: u32, c: Content) -> bool
     }
 }
 
-// The first of the slots that pass: one found before stays.
-fn first_found(passes: bool, f: Found, i: usize) -> Found
-    ensures { λ r. ⌜ r ≡ considered passes f i never ⌝ }
-{
-    if passes {
-        let Found::At(j) = f else {
-            return Found::At(i);
-        };
-        return Found::At(j);
-    }
-    f
-}
-
 // The slot that has a page, or nowhere.
 pub fn find_page(slots: [Slot; 64], size: usize, page: u32) -> Found
     requires { ⌜ size ≤ 64 ⌝ }
@@ -49,16 +53,16 @@ pub fn find_page(slots: [Slot; 64], size: usize, page: u32) -> Found
     for i in 0..size {
         let x = slots[i];
         let c = x.content;
-        f = first_found(has_page(page, c), f, i);
+        f = consider(has_page(page, c), f, i, false);
     }
     f
 }
 
-// The holders of a slot: whether there is one; the best of them and its deadline; the latest touch by holders of its level; whether a row of that
-// level pins the slot.
+// The holders of a slot: whether there is one; the best of them and its rank; the latest touch by holders of its level; whether a row of that level
+// pins the slot.
 pub struct Holders {
     pub best: usize,
-    pub deadline: u32,
+    pub rank: Rank,
     pub latest: u32,
     pub held: bool,
     pub pinned: bool,
@@ -78,25 +82,57 @@ pub struct Summary {
     pub own: bool,
 }
 
-// The steps c to f.
+// What a search over the slots is for: a step, or M, the level of steps c and d.
 pub enum Step {
+    A,
+    B,
+    M,
     C,
     D,
     E,
     F,
 }
 
-fn negated(a: bool) -> bool
-    ensures { λ r. ⌜ r ≡ not a ⌝ }
+// How the slots of a step are ordered: by slot number, as dormant slots, by the level of the best holder, as held slots.
+pub enum Order {
+    Number,
+    Dormant,
+    Level,
+    Held,
+}
+
+fn order_of(step: Step) -> Order
+    ensures { λ r. ⌜ r ≡ orderOf step ⌝ }
 {
-    if a {
-        return false;
+    match step {
+        Step::A => Order::Number,
+        Step::B => Order::Dormant,
+        Step::M => Order::Level,
+        Step::C => Order::Held,
+        Step::D => Order::Held,
+        Step::E => Order::Held,
+        Step::F => Order::Held,
     }
-    true
+}
+
+// The ranks of all rows.
+pub fn ranks(rows: [Row; 32]) -> [Rank; 32]
+    ensures { λ r. ⌜ r ≡ ranksOf rows ⌝ }
+{
+    let mut out = [Rank {
+        level: 0,
+        deadline: 0,
+        number: 0,
+    }; 32];
+    for r in 0..32usize {
+        let x = rows[r];
+        out[r] = model::rank_of(r, x.deadline);
+    }
+    out
 }
 
 fn larger(a: u32, b: u32) -> u32
-    ensures { λ r. ⌜ r ≡ largerOf a b ⌝ }
+    ensures { λ r. ⌜ r ≡ max a b ⌝ }
 {
     if a < b {
         return b;
@@ -104,17 +140,18 @@ fn larger(a: u32, b: u32) -> u32
     a
 }
 
-// A row of the best holder's level joins the holders; better: it is better than the best one.
-fn join_level(better: bool, w: Holders, row: usize, deadline: u32, touch: u32, pin: bool) -> Holders
-    ensures { λ r. ⌜ r ≡ joinedLevel better w row deadline touch pin ⌝ }
+// A row of the best holder's level joins the holders.
+fn join_level(w: Holders, row: usize, rank: Rank, touch: u32, pin: bool) -> Holders
+    ensures { λ r. ⌜ r ≡ joinedLevel w row rank touch pin ⌝ }
 {
+    let v = w.rank;
     let latest = larger(w.latest, touch);
-    let pinned = seq::either(w.pinned, pin);
-    if better {
+    let pinned = w.pinned | pin;
+    if model::is_better(rank, v) {
         return Holders {
             held: true,
             best: row,
-            deadline,
+            rank,
             latest,
             pinned,
         };
@@ -122,32 +159,30 @@ fn join_level(better: bool, w: Holders, row: usize, deadline: u32, touch: u32, p
     Holders {
         held: true,
         best: w.best,
-        deadline: w.deadline,
+        rank: v,
         latest,
         pinned,
     }
 }
 
 // One row more among the holders of a slot. Rows come in rising order, so a holder that is not of the best one's level is of a higher one.
-fn holders_with(w: Holders, row: usize, deadline: u32, h: Holding) -> Holders
-    ensures { λ r. ⌜ r ≡ holdersWith w row deadline h ⌝ }
+fn holders_with(w: Holders, row: usize, rank: Rank, h: Holding) -> Holders
+    ensures { λ r. ⌜ r ≡ holdersWith w row rank h ⌝ }
 {
     let p = h.pin;
+    let v = w.rank;
     if model::is_held(p) {
         let pin = model::is_pin(p);
         if w.held {
-            if row / 8 == w.best / 8 {
-                let x = model::rank_of(row, deadline);
-                let y = model::rank_of(w.best, w.deadline);
-                let better = model::is_better(x, y);
-                return join_level(better, w, row, deadline, h.touch, pin);
+            if rank.level == v.level {
+                return join_level(w, row, rank, h.touch, pin);
             }
             return w;
         }
         return Holders {
             held: true,
             best: row,
-            deadline,
+            rank,
             latest: h.touch,
             pinned: pin,
         };
@@ -155,7 +190,7 @@ fn holders_with(w: Holders, row: usize, deadline: u32, h: Holding) -> Holders
     w
 }
 
-fn is_filled(c: Content) -> bool
+pub fn is_filled(c: Content) -> bool
     ensures { λ r. ⌜ r ≡ isFilled c ⌝ }
 {
     match c {
@@ -211,35 +246,12 @@ fn dirty_in(c: Content) -> bool
     }
 }
 
-// The best holder is above the requester's level.
-fn is_above(w: Holders, level: usize) -> bool
-    ensures { λ r. ⌜ r ≡ aboveBy w level ⌝ }
-{
-    if w.held {
-        return level < w.best / 8;
-    }
-    false
-}
-
-// The best holder is of the requester's level, and not better than the requester.
-fn is_beside(w: Holders, me: usize, mine: u32) -> bool
-    ensures { λ r. ⌜ r ≡ besideBy w me mine ⌝ }
-{
-    if w.held {
-        if w.best / 8 == me / 8 {
-            let x = model::rank_of(w.best, w.deadline);
-            let y = model::rank_of(me, mine);
-            return negated(model::is_better(x, y));
-        }
-        return false;
-    }
-    false
-}
-
-fn summary_with(x: Slot, w: Holders, own: bool, me: usize, mine: u32) -> Summary
-    ensures { λ r. ⌜ r ≡ summaryWith x w own me mine ⌝ }
+fn summary_with(x: Slot, w: Holders, own: bool, requester: Rank) -> Summary
+    ensures { λ r. ⌜ r ≡ summaryWith x w own requester ⌝ }
 {
     let c = x.content;
+    let v = w.rank;
+    let better = model::is_better(v, requester);
     Summary {
         filled: is_filled(c),
         page: page_in(c),
@@ -247,8 +259,8 @@ fn summary_with(x: Slot, w: Holders, own: bool, me: usize, mine: u32) -> Summary
         lowest: lowest_in(c),
         touch: x.touch,
         holders: w,
-        above: is_above(w, me / 8),
-        beside: is_beside(w, me, mine),
+        above: w.held & (requester.level < v.level),
+        beside: w.held & (v.level == requester.level) & !better,
         own,
     }
 }
@@ -259,50 +271,43 @@ fn no_holders() -> Holders
     Holders {
         held: false,
         best: 0,
-        deadline: 0,
+        rank: Rank {
+            level: 0,
+            deadline: 0,
+            number: 0,
+        },
         latest: 0,
         pinned: false,
     }
 }
 
-fn no_summary() -> Summary
-    ensures { λ r. ⌜ r ≡ noSummary ⌝ }
-{
-    Summary {
-        filled: false,
-        page: 0,
-        dirty: false,
-        lowest: 0,
-        touch: 0,
-        holders: no_holders(),
-        above: false,
-        beside: false,
-        own: false,
-    }
-}
-
-// The summaries of all slots for a requester, in one pass over the holdings.
+// The summaries of the slots for a requester, in one pass over the holdings.
 fn summaries(s: State, me: usize) -> [Summary; 64]
-    requires { ⌜ me < 32 ⌝ }
+    requires { ⌜ (s .size ≤ 64) × (me < 32) ⌝ }
     ensures { λ r. ⌜ r ≡ summariesOf s me ⌝ }
 {
-    let asking = s.rows[me];
-    let mine = asking.deadline;
-    let none = no_summary();
+    let n = s.size;
+    let rows = s.rows;
+    let rank = ranks(rows);
+    let requester = rank[me];
+    let empty = Slot {
+        content: Content::Empty,
+        touch: 0,
+    };
+    let none = summary_with(empty, no_holders(), false, requester);
     let mut out = [none; 64];
-    for i in 0..64usize {
+    for i in 0..n {
         let mut w = no_holders();
         for r in 0..32usize {
             let h = s.holdings[i * 32 + r];
-            let x = s.rows[r];
-            let d = x.deadline;
-            w = holders_with(w, r, d, h);
+            let x = rank[r];
+            w = holders_with(w, r, x, h);
         }
         let g = s.holdings[i * 32 + me];
         let p = g.pin;
         let own = model::is_pin(p);
         let slot = s.slots[i];
-        out[i] = summary_with(slot, w, own, me, mine);
+        out[i] = summary_with(slot, w, own, requester);
     }
     out
 }
@@ -317,34 +322,21 @@ fn dirty_number(dirty: bool) -> u32
     0
 }
 
-// Two numbers compared, and where they are equal what comes next.
-fn ordered(equal: bool, less: bool, next: bool) -> bool
-    ensures { λ r. ⌜ r ≡ cond equal next less ⌝ }
-{
-    if equal {
-        return next;
-    }
-    less
-}
-
-fn is_dormant(x: Summary) -> bool
-    ensures { λ r. ⌜ r ≡ dormantIn x ⌝ }
-{
-    let w = x.holders;
-    seq::both(x.filled, negated(w.held))
-}
-
 // The slot is in the step.
 fn is_in(step: Step, top: usize, x: Summary) -> bool
     ensures { λ r. ⌜ r ≡ inStep step top x ⌝ }
 {
     let w = x.holders;
-    let above = seq::both(x.above, w.best / 8 == top);
+    let v = w.rank;
+    let above = x.above & (v.level == top);
     match step {
-        Step::C => seq::both(above, negated(w.pinned)),
-        Step::D => seq::both(above, w.pinned),
-        Step::E => seq::both(x.beside, negated(w.pinned)),
-        Step::F => seq::both(seq::both(x.beside, w.pinned), negated(x.own)),
+        Step::A => !x.filled,
+        Step::B => x.filled & !w.held,
+        Step::M => x.above,
+        Step::C => above & !w.pinned,
+        Step::D => above & w.pinned,
+        Step::E => x.beside & !w.pinned,
+        Step::F => x.beside & w.pinned & !x.own,
     }
 }
 
@@ -352,10 +344,15 @@ fn is_in(step: Step, top: usize, x: Summary) -> bool
 fn is_dormant_before(x: Summary, y: Summary) -> bool
     ensures { λ r. ⌜ r ≡ dormantBefore x y ⌝ }
 {
+    if x.lowest != y.lowest {
+        return x.lowest < y.lowest;
+    }
     let clean = dirty_number(x.dirty);
     let other = dirty_number(y.dirty);
-    let next = ordered(clean == other, clean < other, x.touch < y.touch);
-    ordered(x.lowest == y.lowest, x.lowest < y.lowest, next)
+    if clean != other {
+        return clean < other;
+    }
+    x.touch < y.touch
 }
 
 // The best holder of the first slot is of a higher level.
@@ -364,22 +361,9 @@ fn is_higher(x: Summary, y: Summary) -> bool
 {
     let v = x.holders;
     let w = y.holders;
-    w.best / 8 < v.best / 8
-}
-
-// The first best holder has the worse priority; next where they are one row.
-fn is_worse(v: Holders, w: Holders, next: bool) -> bool
-    ensures { λ r. ⌜ r ≡ worseIn v w next ⌝ }
-{
-    if seq::both(v.held, w.held) {
-        if v.best == w.best {
-            return next;
-        }
-        let x = model::rank_of(w.best, w.deadline);
-        let y = model::rank_of(v.best, v.deadline);
-        return model::is_better(x, y);
-    }
-    next
+    let p = v.rank;
+    let q = w.rank;
+    q.level < p.level
 }
 
 // Of two held slots the first is taken before the second.
@@ -388,67 +372,66 @@ fn is_held_before(x: Summary, y: Summary) -> bool
 {
     let v = x.holders;
     let w = y.holders;
-    let next = ordered(v.latest == w.latest, v.latest < w.latest, x.page < y.page);
-    is_worse(v, w, next)
-}
-
-// One slot more in a search: the place of the best so far. some: one was found before; first: this slot comes before that one.
-fn place_with(passes: bool, some: bool, first: bool, at: usize, i: usize) -> usize
-    ensures { λ r. ⌜ r ≡ placeWith passes some first at i ⌝ }
-{
-    if passes {
-        if some {
-            if first {
-                return i;
-            }
-            return at;
-        }
-        return i;
+    if v.best != w.best {
+        let p = v.rank;
+        let q = w.rank;
+        return model::is_better(q, p);
     }
-    at
-}
-
-fn found_at(some: bool, at: usize) -> Found
-    ensures { λ r. ⌜ r ≡ foundAt some at ⌝ }
-{
-    if some {
-        return Found::At(at);
+    if v.latest != w.latest {
+        return v.latest < w.latest;
     }
-    Found::Nowhere
+    x.page < y.page
 }
 
-// Step a.
-fn first_empty(m: [Summary; 64], n: usize) -> Found
+// Of two slots in a step the first comes before the second, whatever their slot numbers.
+fn is_before(step: Step, x: Summary, y: Summary) -> bool
+    ensures { λ r. ⌜ r ≡ stepBefore step x y ⌝ }
+{
+    let order = order_of(step);
+    match order {
+        Order::Number => false,
+        Order::Dormant => is_dormant_before(x, y),
+        Order::Level => is_higher(x, y),
+        Order::Held => is_held_before(x, y),
+    }
+}
+
+// One slot more in a search: its summary x, and the summary y of the slot found before.
+fn with_slot(step: Step, top: usize, f: Found, i: usize, x: Summary, y: Summary) -> Found
+    ensures { λ r. ⌜ r ≡ considered (inStep step top x) f i (λ slot other. stepBefore step x y) ⌝ }
+{
+    if is_in(step, top, x) {
+        return consider(true, f, i, is_before(step, x, y));
+    }
+    f
+}
+
+// The place that was found, or 0.
+fn place_of(f: Found) -> usize
+    ensures { λ r. ⌜ r ≡ atFound f (λ i. i) 0 ⌝ }
+{
+    match f {
+        Found::Nowhere => 0,
+        Found::At(i) => i,
+    }
+}
+
+// What was found before, or else the slot of a step.
+fn search(found: Found, m: [Summary; 64], n: usize, step: Step, top: usize) -> Found
     requires { ⌜ n ≤ 64 ⌝ }
-    ensures { λ r. ⌜ r ≡ pickFrom m n emptyIn never ⌝ }
+    ensures { λ r. ⌜ r ≡ orElse found (stepFrom m n step top) ⌝ }
 {
-    let mut some = false;
-    let mut at: usize = 0;
+    if let Found::At(i) = found {
+        return Found::At(i);
+    }
+    let mut f = Found::Nowhere;
     for i in 0..n {
         let x = m[i];
-        let passes = negated(x.filled);
-        at = place_with(passes, some, false, at, i);
-        some = seq::either(some, passes);
+        let j = place_of(f);
+        let y = m[j];
+        f = with_slot(step, top, f, i, x, y);
     }
-    found_at(some, at)
-}
-
-// Step b.
-fn first_dormant(m: [Summary; 64], n: usize) -> Found
-    requires { ⌜ n ≤ 64 ⌝ }
-    ensures { λ r. ⌜ r ≡ pickFrom m n dormantIn dormantBefore ⌝ }
-{
-    let mut some = false;
-    let mut at: usize = 0;
-    for i in 0..n {
-        let x = m[i];
-        let y = m[at];
-        let passes = is_dormant(x);
-        let first = is_dormant_before(x, y);
-        at = place_with(passes, some, first, at, i);
-        some = seq::either(some, passes);
-    }
-    found_at(some, at)
+    f
 }
 
 // The highest level of a best holder among the slots held only above the requester's level.
@@ -456,69 +439,13 @@ fn top_level(m: [Summary; 64], n: usize) -> usize
     requires { ⌜ n ≤ 64 ⌝ }
     ensures { λ r. ⌜ r ≡ topFrom m n ⌝ }
 {
-    let mut some = false;
-    let mut at: usize = 0;
-    for i in 0..n {
-        let x = m[i];
-        let y = m[at];
-        let passes = x.above;
-        let first = is_higher(x, y);
-        at = place_with(passes, some, first, at, i);
-        some = seq::either(some, passes);
-    }
-    let top = m[at];
-    let w = top.holders;
-    if some {
-        return w.best / 8;
-    }
-    0
-}
-
-// A step of c to f.
-fn first_held(m: [Summary; 64], n: usize, step: Step, top: usize) -> Found
-    requires { ⌜ n ≤ 64 ⌝ }
-    ensures { λ r. ⌜ r ≡ heldFrom m n step top ⌝ }
-{
-    let mut some = false;
-    let mut at: usize = 0;
-    for i in 0..n {
-        let x = m[i];
-        let y = m[at];
-        let passes = is_in(step, top, x);
-        let first = is_held_before(x, y);
-        at = place_with(passes, some, first, at, i);
-        some = seq::either(some, passes);
-    }
-    found_at(some, at)
-}
-
-// The first step that applies.
-fn choose_from(m: [Summary; 64], n: usize) -> Found
-    requires { ⌜ n ≤ 64 ⌝ }
-    ensures { λ r. ⌜ r ≡ chosenFrom m n ⌝ }
-{
-    let a = first_empty(m, n);
-    if let Found::At(i) = a {
-        return Found::At(i);
-    }
-    let b = first_dormant(m, n);
-    if let Found::At(i) = b {
-        return Found::At(i);
-    }
-    let top = top_level(m, n);
-    let c = first_held(m, n, Step::C, top);
-    if let Found::At(i) = c {
-        return Found::At(i);
-    }
-    let d = first_held(m, n, Step::D, top);
-    if let Found::At(i) = d {
-        return Found::At(i);
-    }
-    let e = first_held(m, n, Step::E, top);
-    if let Found::At(i) = e {
-        return Found::At(i);
-    }
-    first_held(m, n, Step::F, top)
+    let Found::At(i) = search(Found::Nowhere, m, n, Step::M, 0) else {
+        return 0;
+    };
+    let x = m[i];
+    let w = x.holders;
+    let v = w.rank;
+    v.level
 }
 
 // The slot that a requester takes for a page that is in no slot, or nowhere.
@@ -528,5 +455,14 @@ pub fn choose(s: State, row: usize) -> Found
 {
     let n = s.size;
     let m = summaries(s, row);
-    choose_from(m, n)
+    let a = search(Found::Nowhere, m, n, Step::A, 0);
+    let b = search(a, m, n, Step::B, 0);
+    if let Found::At(i) = b {
+        return Found::At(i);
+    }
+    let top = top_level(m, n);
+    let c = search(b, m, n, Step::C, top);
+    let d = search(c, m, n, Step::D, top);
+    let e = search(d, m, n, Step::E, top);
+    search(e, m, n, Step::F, top)
 }

@@ -1,11 +1,13 @@
 -- Which areas a call accepts, and what holds of them.
 use mathlib.Core.Path.{_≡_, refl, sym, _∙_, ap}
-use mathlib.Core.Bool.{Bool, true, false, cond, not}
+use mathlib.Core.Bool.{Bool, true, false, cond, _&&_, _||_, not}
 use mathlib.Core.List.{List}
 use Prim.Native.Nat.{ℕ, zero, suc, _<_, _≤_}
-use borrow.Author.Tests.{ltb-false, le-ltb, lt-ltb, lt-leb, not-false}
+use native.Mathlib.Omega.{arith}
+use borrow.Author.Tests.{ltb-true, ltb-false, le-ltb, lt-ltb, not-false}
+use lib.Dec.{ltb}
 use lib.ListN.{length}
-use Rattle.seq.proofs.Tests.{true-false}
+use Rattle.seq.proofs.Tests.{true-false, not-true-false, cond-same}
 use Rattle.model.specs.declared.Answer.the-variants.{Refused}
 use Rattle.model.specs.Parties.{rowOf}
 use Rattle.model.specs.State.{rowAt}
@@ -14,54 +16,60 @@ use Rattle.rules.specs.Refusals.{lookRefusal}
 use Rattle.rules.specs.Calls.{unless, looked, lookedAt}
 use Rattle.model.specs.declared.Call.{Call}
 use Rattle.model.specs.declared.Call.the-variants.{Start, Begin, Request, Retry, Unpin, End, Tick, Look, View, Count}
+use Rattle.rules.specs.Content.{isStart}
 use Rattle.rules.specs.Run.{outcome}
 use Rattle.rules.proofs.Leaves.RefusalFacts.{Named, look-taken}
 use Rattle.area.specs.Layout.{decoded}
 use Rattle.sabre.specs.Lent.{unfit, answerOn, isRefused, soundArea}
-use Rattle.demands.specs.Runs.{isStart}
 use Rattle.sabre.proofs.SoundAreas.{sound-area}
 
--- a call other than start accepts the sound areas alone
-pub unfit-other : (a : List ℕ) (c : Call) → isStart c ≡ false → unfit a c ≡ not (soundArea a)
+-- refusal 1: a start looks at the length alone, every other call accepts the sound areas alone
+pub unfit-is : (a : List ℕ) (c : Call) → unfit a c ≡ cond (isStart c) (ltb (length a) 65536) (not (soundArea a))
 unfolding unfit
-unfit-other a (Start slots delay) h = true-false h
-unfit-other a (Begin level number deadline) h = refl
-unfit-other a (Request level number page mode) h = refl
-unfit-other a (Retry level number) h = refl
-unfit-other a (Unpin level number page) h = refl
-unfit-other a (End level number) h = refl
-unfit-other a Tick h = refl
-unfit-other a (Look level number) h = refl
-unfit-other a (View level page) h = refl
-unfit-other a (Count level) h = refl
+unfit-is a (Start slots delay) = refl
+unfit-is a (Begin level number deadline) = refl
+unfit-is a (Request level number page mode) = refl
+unfit-is a (Retry level number) = refl
+unfit-is a (Unpin level number page) = refl
+unfit-is a (End level number) = refl
+unfit-is a Tick = refl
+unfit-is a (Look level number) = refl
+unfit-is a (View level page) = refl
+unfit-is a (Count level) = refl
 
--- a start, or another call
-pub start-or-other : (P : Call → Type 0) (c : Call) → ((slots delay : ℕ) → P (Start slots delay)) → (isStart c ≡ false → P c) → P c
-start-or-other P (Start slots delay) f g = f slots delay
-start-or-other P (Begin level number deadline) f g = g refl
-start-or-other P (Request level number page mode) f g = g refl
-start-or-other P (Retry level number) f g = g refl
-start-or-other P (Unpin level number page) f g = g refl
-start-or-other P (End level number) f g = g refl
-start-or-other P Tick f g = g refl
-start-or-other P (Look level number) f g = g refl
-start-or-other P (View level page) f g = g refl
-start-or-other P (Count level) f g = g refl
+pub unfit-start : (a : List ℕ) (slots delay : ℕ) → unfit a (Start slots delay) ≡ ltb (length a) 65536
+unfit-start a slots delay = unfit-is a (Start slots delay)
+
+pub unfit-other : (a : List ℕ) (c : Call) → isStart c ≡ false → unfit a c ≡ not (soundArea a)
+unfit-other a c o = unfit-is a c ∙ rw o
+
+-- a short area is unsound
+short-unsound : (a : List ℕ) → length a < 65536 → soundArea a ≡ false
+short-unsound a h = not-true-false (soundArea a) (λ e. omega (arith, sound-area a e .long))
 
 -- a short area is fit for no call, a sound one for every call
 pub short-unfit : (a : List ℕ) (c : Call) → length a < 65536 → unfit a c ≡ true
-unfolding unfit soundArea
-short-unfit a c h = start-or-other (λ d. unfit a d ≡ true) c (λ slots delay. lt-ltb (length a) 65536 h) (λ o. unfit-other a c o ∙ rw (lt-leb 65536 (length a) h))
+short-unfit a c h = rw (unfit-is a c, lt-ltb (length a) 65536 h, short-unsound a h) (cond-same (isStart c) true)
 
 pub sound-fit : (a : List ℕ) (c : Call) → soundArea a ≡ true → unfit a c ≡ false
-unfolding unfit
-sound-fit a c e = start-or-other (λ d. unfit a d ≡ false) c (λ slots delay. le-ltb (length a) 65536 (sound-area a e .long)) (λ o. unfit-other a c o ∙ rw e)
+sound-fit a c e = rw (unfit-is a c, le-ltb (length a) 65536 (sound-area a e .long), e) (cond-same (isStart c) false)
 
 pub fit-long : (a : List ℕ) (c : Call) → unfit a c ≡ false → 65536 ≤ length a
-unfolding unfit
-fit-long a c = start-or-other (λ d. unfit a d ≡ false → 65536 ≤ length a) c
-    (λ slots delay. ltb-false (length a) 65536)
-    (λ o e. sound-area a (not-false (soundArea a) (sym (unfit-other a c o) ∙ e)) .long)
+fit-long a c e = go (isStart c) (rw (unfit-is a c) at e)
+  where
+    go : (b : Bool) → cond b (ltb (length a) 65536) (not (soundArea a)) ≡ false → 65536 ≤ length a
+    go true k = ltb-false (length a) 65536 k
+    go false k = sound-area a (not-false (soundArea a) k) .long
+
+-- the same in the words of document 01's table
+pub unfit-table : (a : List ℕ) (c : Call) → unfit a c ≡ ltb (length a) 65536 || (not (isStart c) && not (soundArea a))
+unfit-table a c = unfit-is a c ∙ go (ltb (length a) 65536) (isStart c) refl
+  where
+    go : (b x : Bool) → ltb (length a) 65536 ≡ b → cond x b (not (soundArea a)) ≡ b || (not x && not (soundArea a))
+    go true true e = refl
+    go true false e = rw (short-unsound a (ltb-true (length a) 65536 e))
+    go false true e = refl
+    go false false e = refl
 
 -- a call that is not refused was given an area that is fit for it
 pub accepted-fit : (a : List ℕ) (c : Call) → isRefused (answerOn a c) ≡ false → unfit a c ≡ false

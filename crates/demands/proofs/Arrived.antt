@@ -1,28 +1,27 @@
 -- Demand 2 over lent areas: nobody is told that a page is ready before it has arrived; what wait and fetch say.
 use mathlib.Core.Path.{_≡_, refl, sym, _∙_}
-use mathlib.Core.Bool.{true, false, _&&_}
+use mathlib.Core.Bool.{Bool, true, false, _||_}
 use mathlib.Core.List.{List}
 use mathlib.Core.Logic.{_⊎_}
 use Prim.Native.Nat.{ℕ, _<_, _≤_}
 use native.Mathlib.Omega.{arith}
 use borrow.Author.Tests.{eqb-true}
 use lib.Dec.{eqb}
-use Rattle.seq.proofs.Tests.{true-false, and-true, or-true-right, not-true-false}
+use Rattle.seq.proofs.Tests.{true-false, and-left, and-right, parts, or-true-right, not-true-false}
 use Rattle.model.specs.declared.Answer.{Answer}
 use Rattle.model.specs.declared.Answer.the-variants.{Ready, Fetch, Wait, RowIdle, RowFetching}
 use Rattle.model.specs.declared.Back.{Back}
 use Rattle.model.specs.declared.Condition.{Condition}
 use Rattle.model.specs.declared.Condition.the-variants.{Free, Idle, Fetching, Waiting, Killed}
 use Rattle.model.specs.declared.Mode.{Mode}
-use Rattle.model.specs.declared.State.{State}
 use Rattle.model.specs.Parties.{rowOf}
 use Rattle.model.specs.State.{rowAt, holdingAt}
 use Rattle.model.specs.Words.{holds}
-use Rattle.rules.specs.Answers.{word, mayUse, told}
+use Rattle.rules.specs.Answers.{word, isReady, isIdle, mayUse, told}
 use Rattle.rules.specs.Calls.{looked}
 use Rattle.model.specs.declared.Call.{Call}
-use Rattle.model.specs.declared.Call.the-variants.{Start, Begin, Request, Retry, Unpin, End, Tick, Look, View, Count}
-use Rattle.rules.specs.Content.{Fits}
+use Rattle.model.specs.declared.Call.the-variants.{Tick, Look}
+use Rattle.rules.specs.Content.{fields, namesRow, Fits}
 use Rattle.rules.specs.Requests.{Asks, Names}
 use Rattle.rules.specs.Arrivals.{AllArrived, PinnedAndArrived}
 use Rattle.rules.specs.Waits.{Outranked, NoSlot}
@@ -31,9 +30,9 @@ use Rattle.rules.proofs.Promises.Arrived as States
 use Rattle.rules.proofs.Promises.MayUse as Uses
 use Rattle.area.specs.Layout.{decoded}
 use Rattle.sabre.specs.Lent.{answerOn, isRefused, areaAfter, soundArea}
-use Rattle.demands.specs.Runs.{wordOn, isPendingOn, isIdleOn, isDeliveryOn}
+use Rattle.demands.specs.Runs.{readyOn, turnsIdleOn, isDeliveryOn}
 use Rattle.demands.proofs.Areas.{accepted-sound, sound-answer, look-answer, look-named}
-use Rattle.demands.proofs.Refusals.{look-leaves}
+use Rattle.demands.proofs.Refusals.{reading-leaves}
 use Rattle.demands.proofs.Steps.{other-sound, step-on}
 use Rattle.sabre.proofs.SoundAreas.{sound-area}
 
@@ -63,49 +62,41 @@ ready-arrived a c f slot back e =
     rw (x .1) (States.ready-arrived (decoded a) (sound-area a z .sound-state) c slot back (sym (x .0) ∙ e))
 
 -- a look answers idle only where every page that the row holds has arrived
-pub look-idle : (a : List ℕ) (level number : ℕ) → isIdleOn a level number ≡ true → AllArrived (decoded a) (rowOf level number)
+pub look-idle : (a : List ℕ) (level number : ℕ) → isIdle (answerOn a (Look level number)) ≡ true → AllArrived (decoded a) (rowOf level number)
 unfolding mayUse
 look-idle a level number e =
-    let u : mayUse (answerOn a (Look level number)) ≡ true = or-true-right (eqb (wordOn a (Look level number)) 3) (isIdleOn a level number) e in
+    let u : mayUse (answerOn a (Look level number)) ≡ true = or-true-right (isReady (answerOn a (Look level number))) (isIdle (answerOn a (Look level number))) e in
     let n = look-named a level number (use-accepted (answerOn a (Look level number)) u) in
     let l = n .level-is in
     let m = n .number-is in
     let x = may-use-arrived a (Look level number) (omega arith) u in
-    rw (← x .1) (rw (look-leaves a level number) at (x .2))
+    rw (← x .1 .row-is) (rw (reading-leaves a (Look level number) refl) at (x .2))
 
 -- ---- deliveries
 
-ready-used : (x : Answer) → eqb (word x) 3 ≡ true → mayUse x ≡ true
+ready-used : (x : Answer) → isReady x ≡ true → mayUse x ≡ true
 unfolding mayUse
 ready-used x e = rw e
 
-for-row : (s : State) (row level number l n : ℕ) → row ≡ rowOf level number → eqb level l && eqb number n ≡ true → AllArrived s row → AllArrived s (rowOf l n)
-for-row s row level number l n e p h =
-    let q = and-true (eqb level l) (eqb number n) p in
-    let w : rowOf l n ≡ row = omega (arith, eqb-true level l (q .0), eqb-true number n (q .1)) in
-    rw w h
+either-way : {P : Type 0} (a b : Bool) → a || b ≡ true → (a ≡ true → P) → (b ≡ true → P) → P
+either-way true b e f g = f refl
+either-way false b e f g = g e
 
 -- On any area: after a delivery every page that the row holds has arrived.
 pub delivery-arrived : (a : List ℕ) (c : Call) → Fits c → (level number : ℕ) → isDeliveryOn a c level number ≡ true → AllArrived (decoded (areaAfter a c)) (rowOf level number)
 unfolding isDeliveryOn
-delivery-arrived a (Start slots delay) f l n e = true-false (sym e)
-delivery-arrived a (Begin level number deadline) f l n e = true-false (sym e)
-delivery-arrived a (Request level number page mode) f l n e =
-    let c = Request level number page mode in
-    let p = and-true (eqb level l && eqb number n) (eqb (wordOn a c) 3) e in
-    let x = may-use-arrived a c f (ready-used (answerOn a c) (p .1)) in
-    for-row (decoded (areaAfter a c)) (x .0) level number l n (x .1) (p .0) (x .2)
-delivery-arrived a (Retry level number) f l n e =
-    let c = Retry level number in
-    let p = and-true (eqb level l && eqb number n) (eqb (wordOn a c) 3) e in
-    let x = may-use-arrived a c f (ready-used (answerOn a c) (p .1)) in
-    for-row (decoded (areaAfter a c)) (x .0) level number l n (x .1) (p .0) (x .2)
-delivery-arrived a (Unpin level number page) f l n e = true-false (sym e)
-delivery-arrived a (End level number) f l n e = true-false (sym e)
-delivery-arrived a Tick f l n e = look-idle (areaAfter a Tick) l n (and-true (isPendingOn a l n) (isIdleOn (areaAfter a Tick) l n) e .1)
-delivery-arrived a (Look level number) f l n e = true-false (sym e)
-delivery-arrived a (View level page) f l n e = true-false (sym e)
-delivery-arrived a (Count level) f l n e = true-false (sym e)
+delivery-arrived a c f level number e =
+    either-way (readyOn a c level number) (turnsIdleOn a c level number) e
+    (λ h. asked (search parts depth 20) (search parts depth 20))
+    (λ h. look-idle (areaAfter a c) level number (search parts depth 20))
+  where
+    asked : namesRow level number c ≡ true → isReady (answerOn a c) ≡ true → AllArrived (decoded (areaAfter a c)) (rowOf level number)
+    asked n r =
+        let x = may-use-arrived a c f (ready-used (answerOn a c) r) in
+        let l = eqb-true (fields c .level) level (and-left (eqb (fields c .level) level) (eqb (fields c .number) number) n) in
+        let m = eqb-true (fields c .number) number (and-right (eqb (fields c .level) level) (eqb (fields c .number) number) n) in
+        let w : rowOf level number ≡ x .0 = omega (arith, x .1 .row-is) in
+        rw w (x .2)
 
 -- ---- wait and fetch
 
@@ -143,7 +134,7 @@ tick-due a level number due e k =
     let m = look-named a level number (rw e) in
     let l = m .level-is in
     let n = m .number-is in
-    let x = step-on a Tick z tt in
+    let x = step-on a Tick z (omega arith) in
     let p = fetching (rowAt (decoded a) (rowOf level number) .condition) (sym (look-answer a level number z l n) ∙ e) in
     let q = idle (rowAt (decoded (areaAfter a Tick)) (rowOf level number) .condition) (sym (look-answer (areaAfter a Tick) level number (x .2) l n) ∙ k) in
     rw (x .1) (States.tick-arrived (decoded a) (sound-area a z .sound-state) (rowOf level number) due (m .row-is) p (rw (x .1) at q) .0)

@@ -1,58 +1,55 @@
 -- Demand 3 over lent areas: what a clearance is told, the ticks of its deliveries and the slots it finds open depend on its kept calls alone.
-use mathlib.Core.Path.{_≡_, sym, _∙_, ap}
+use mathlib.Core.Path.{_≡_, refl, sym, _∙_, ap}
 use mathlib.Core.Bool.{true, cond}
-use mathlib.Core.List.{List}
 use Prim.Native.Nat.{ℕ, _≤_}
-use native.Mathlib.Omega.{arith}
 use lib.Dec.{eqb}
 use Rattle.model.specs.declared.Answer.{Answer}
-use Rattle.model.specs.declared.Answer.the-variants.{Started}
-use Rattle.model.specs.declared.State.{State}
 use Rattle.model.specs.State.{fresh}
-use Rattle.model.specs.Parties.{rowOf}
 use Rattle.rules.specs.Answers.{Told, told}
-use Rattle.model.specs.declared.Call.{Call}
-use Rattle.model.specs.declared.Call.the-variants.{Start}
-use Rattle.rules.specs.Run.{outcome, after}
 use Rattle.rules.specs.Secrecy.{keptCalls}
-use Rattle.rules.proofs.TwoRuns.Blind as States
-use Rattle.sabre.specs.Lent.{answerOn, areaAfter, status}
-use Rattle.demands.specs.Runs.{AllFit, areaAfterAll, notStartedAgain, ToldAlike}
-use Rattle.demands.proofs.Areas.{sound-answer}
+use Rattle.rules.proofs.Leaves.ContentLaws.{question-kept}
+use Rattle.rules.proofs.Stays.StaysFresh.{fresh-sound}
+use Rattle.rules.proofs.Similar.{similar-refl}
+use Rattle.area.specs.Layout.{decoded}
+use Rattle.sabre.specs.Lent.{status, soundArea}
+use Rattle.demands.specs.Runs.{Run, startedArea, FromFreshStart, Demand3}
 use Rattle.demands.proofs.Steps.{start-only, start-on}
-use Rattle.demands.proofs.RunStates.{Follows, follows}
+use Rattle.demands.proofs.TwoRuns.{Near, near-told, beside-kept}
 
--- a run from an accepted start on follows the run from the fresh state on
-from-start : (slots delay : ℕ) (a : List ℕ) (cs : List Call) → answerOn a (Start slots delay) ≡ Started → AllFit cs → Follows (areaAfter a (Start slots delay)) (fresh slots delay) cs
-from-start slots delay a cs e f =
-    let t = start-only a slots delay e in
-    let x = start-on a slots delay (t .0) (t .1 .slots-least) (t .1 .slots-most) (t .1 .delay-least) (t .1 .delay-most) in
-    follows cs (areaAfter a (Start slots delay)) (fresh slots delay) (x .1) (x .2) f
+-- the area that a run's start leaves
+started-area : (r : Run) → FromFreshStart r → (decoded (startedArea r) ≡ fresh (r .slots) (r .delay)) × (soundArea (startedArea r) ≡ true)
+started-area r f =
+    let t = start-only (r .area) (r .slots) (r .delay) (f .started) in
+    let x = start-on (r .area) (r .slots) (r .delay) (t .0) (t .1 .slots-least) (t .1 .slots-most) (t .1 .delay-least) (t .1 .delay-most) in
+    (x .1, x .2)
 
--- a question on the area that a run leaves
-question : (a : List ℕ) (s : State) (cs : List Call) → Follows a s cs → (c : Call) → told (answerOn (areaAfterAll a cs) c) ≡ told (outcome (after s cs) c .answer)
-question a s cs h c = rw (sound-answer (areaAfterAll a cs) c (h .sound), h .state)
-
--- For any clearance L and any two areas, whatever they held before, started with equal slots and equal delay,
--- and any two lists of calls, neither started again: if the ticks and the calls made by L and below agree in order and content,
--- L and below are told alike.
-pub blind : (L : ℕ) → L ≤ 3
-    → (slots delay : ℕ) (a b : List ℕ) → answerOn a (Start slots delay) ≡ Started → answerOn b (Start slots delay) ≡ Started
-    → (cs ds : List Call) → AllFit cs → AllFit ds
-    → notStartedAgain (areaAfter a (Start slots delay)) cs ≡ true → notStartedAgain (areaAfter b (Start slots delay)) ds ≡ true
-    → keptCalls L cs ≡ keptCalls L ds
-    → ToldAlike L (areaAfter a (Start slots delay)) cs (areaAfter b (Start slots delay)) ds
-blind L l slots delay a b p q cs ds f g m n e =
-    let t = start-only a slots delay p .1 in
-    let x = from-start slots delay a cs p f in
-    let y = from-start slots delay b ds q g in
-    let z = States.blind L slots delay cs ds l (t .slots-least) (t .slots-most) (t .delay-least) (t .delay-most) (x .starts m) (y .starts n) e in
+-- two fresh starts with equal slots and equal delay
+started-near : (L : ℕ) (most : L ≤ 3) (r q : Run) → FromFreshStart r → FromFreshStart q → r .slots ≡ q .slots → r .delay ≡ q .delay → Near L most (startedArea r) (startedArea q)
+started-near L most r q f g s d =
+    let x = started-area r f in
+    let y = started-area q g in
+    let t = start-only (r .area) (r .slots) (r .delay) (f .started) .1 in
     record {
-      answers = x .answers L ∙ z .0 ∙ sym (y .answers L);
-      delivered = λ level number u v.
-          x .delivered level number (omega arith) v ∙ z .1 (rowOf level number) (omega arith) (omega arith) ∙ sym (y .delivered level number (omega arith) v);
+      first = x .1;
+      second = y .1;
+      states = rw (x .0, y .0, ← s, ← d) (similar-refl L most (fresh (r .slots) (r .delay)) (fresh-sound (r .slots) (r .delay) (t .slots-least) (t .slots-most) (t .delay-least) (t .delay-most)));
+    }
+
+-- Demand 3 holds, that is noninterference: the run of the kept calls alone stands between the two runs.
+pub blind : Demand3
+blind L r q e =
+    let most = e .clearance in
+    let f = e .first in
+    let g = e .second in
+    let ks = keptCalls L (r .calls) in
+    let x = beside-kept L most (r .calls) ks refl (startedArea r) (startedArea r) (started-near L most r r f f refl refl) (f .fit) (f .not-again) in
+    let y = beside-kept L most (q .calls) ks (e .same-kept) (startedArea q) (startedArea r) (started-near L most q r g f (sym (e .same-slots)) (sym (e .same-delay))) (g .fit) (g .not-again) in
+    record {
+      answers = x .answers ∙ sym (y .answers);
+      delivered = λ level number l _. x .delivered level number l ∙ sym (y .delivered level number l);
       afterwards = λ c k.
-          question (areaAfter a (Start slots delay)) (fresh slots delay) cs x c ∙ z .2 c k ∙ sym (question (areaAfter b (Start slots delay)) (fresh slots delay) ds y c);
+          let m = question-kept L c k in
+          near-told L most _ _ (x .areas) c m ∙ sym (near-told L most _ _ (y .areas) c m);
     }
 
 -- what a call returns is part of what is told

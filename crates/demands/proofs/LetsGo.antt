@@ -1,11 +1,10 @@
 -- Demand 2 over lent areas: a row that is killed or free holds nothing; a holding goes only so, or with its slot; what was written is dirty or reported.
 use mathlib.Core.Path.{_≡_, refl, sym, _∙_}
-use mathlib.Core.Bool.{true, false, not}
-use mathlib.Core.List.{List, [], _∷_}
+use mathlib.Core.Bool.{true, false}
+use mathlib.Core.List.{List}
 use mathlib.Core.Logic.{_⊎_}
 use Prim.Native.Nat.{ℕ, _+_, _<_, _≤_}
-use lib.Dec.{eqb}
-use Rattle.seq.proofs.Tests.{true-false, and-true, not-true-false}
+use Rattle.seq.proofs.Tests.{true-false, not-true-false}
 use Rattle.model.specs.declared.Answer.{Answer}
 use Rattle.model.specs.declared.Answer.the-variants.{RowFree, RowKilled}
 use Rattle.model.specs.declared.Cause.{Cause}
@@ -17,21 +16,18 @@ use Rattle.model.specs.Parties.{rowOf}
 use Rattle.model.specs.State.{emptyHolding, rowAt, slotAt, holdingAt}
 use Rattle.model.specs.Words.{isLive, pageIn, dirtyIn, isWrite, holds}
 use Rattle.rules.specs.Sound.{sound}
-use Rattle.rules.specs.Answers.{word, backTold}
+use Rattle.rules.specs.Answers.{word, isStarted, backTold}
 use Rattle.rules.specs.Calls.{looked}
 use Rattle.model.specs.declared.Call.{Call}
 use Rattle.model.specs.declared.Call.the-variants.{Look}
 use Rattle.rules.specs.Content.{Fits}
 use Rattle.rules.specs.Slots.{Refilled, Dirty}
 use Rattle.rules.proofs.Facts.SoundFacts.{facts}
-use Rattle.rules.proofs.TwoRuns.StateRuns.{startsRefused}
 use Rattle.rules.proofs.Promises.LetsGo as States
 use Rattle.area.specs.Layout.{decoded}
 use Rattle.sabre.specs.Lent.{answerOn, isRefused, areaAfter, soundArea}
-use Rattle.demands.specs.Runs.{wordOn, notStartedAgain}
 use Rattle.demands.proofs.Areas.{accepted-sound, sound-answer, look-answer, look-named}
 use Rattle.demands.proofs.Steps.{step-on}
-use Rattle.demands.proofs.RunStates.{first-start}
 use Rattle.sabre.proofs.SoundAreas.{sound-area}
 
 -- ---- rows
@@ -96,22 +92,19 @@ module _ (a : List ℕ) (z : soundArea a ≡ true) (c : Call) (fits : Fits c) wh
   drops-only slot row b r =
       rw (step-on a c z fits .1) (States.drops-only (decoded a) (sound-area a z .sound-state) c slot row b r)
 
-  module _ (again : notStartedAgain a (c ∷ []) ≡ true) (slot : ℕ) (b : slot < 64) where
-    refused : startsRefused (c ∷ []) ≡ true
-    unfolding notStartedAgain startsRefused
-    refused = first-start (decoded a) c [] (rw (← sound-answer a c z) (and-true (not (eqb (wordOn a c) 1)) true again .0)) refl
-
+  -- by every call but an accepted start
+  module _ (again : isStarted (answerOn a c) ≡ false) (slot : ℕ) (b : slot < 64) where
     -- a dirty page stays dirty in its slot, or is reported for write-back
-    pub dirty-kept : dirtyIn (slotAt (decoded a) slot .content) ≡ true
+    pub dirty-not-lost : dirtyIn (slotAt (decoded a) slot .content) ≡ true
         → Dirty (decoded (areaAfter a c)) slot (pageIn (slotAt (decoded a) slot .content)) ⊎ (backTold (answerOn a c) ≡ pageIn (slotAt (decoded a) slot .content) + 1)
-    dirty-kept =
+    dirty-not-lost =
         let x = step-on a c z fits in
-        rw (x .0, x .1) (States.dirty-kept (decoded a) (sound-area a z .sound-state) c refused slot b)
+        rw (x .0, x .1) (States.dirty-not-lost (decoded a) (sound-area a z .sound-state) c (rw (sound-answer a c z) at again) slot b)
 
     -- when a write pin goes and its arrival ≤ clock, the slot becomes dirty, or the page is reported for write-back
-    pub write-kept : (row : ℕ) → row < 32 → isWrite (holdingAt (decoded a) slot row .pin) ≡ true → holdingAt (decoded a) slot row .arrival ≤ decoded (areaAfter a c) .clock
+    pub write-not-lost : (row : ℕ) → row < 32 → isWrite (holdingAt (decoded a) slot row .pin) ≡ true → holdingAt (decoded a) slot row .arrival ≤ decoded (areaAfter a c) .clock
         → isWrite (holdingAt (decoded (areaAfter a c)) slot row .pin) ≡ false
         → Dirty (decoded (areaAfter a c)) slot (pageIn (slotAt (decoded a) slot .content)) ⊎ (backTold (answerOn a c) ≡ pageIn (slotAt (decoded a) slot .content) + 1)
-    write-kept row r =
+    write-not-lost row r =
         let x = step-on a c z fits in
-        rw (x .0, x .1) (States.write-kept (decoded a) (sound-area a z .sound-state) c refused slot b row r)
+        rw (x .0, x .1) (States.write-not-lost (decoded a) (sound-area a z .sound-state) c (rw (sound-answer a c z) at again) slot b row r)

@@ -5,9 +5,11 @@ pub mod Refusals
 pub mod Smallest
 -- demand 2
 pub mod Steps
+pub mod Deadlines
+pub mod SessionHolds
 pub mod OneSlot
 pub mod Arrived
 pub mod LetsGo
 -- demand 3
-pub mod RunStates
+pub mod TwoRuns
 pub mod Blind

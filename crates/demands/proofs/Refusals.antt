@@ -1,22 +1,33 @@
--- Demand 1 over lent areas: which areas are refused, what a refused call and a question leave, and that no call touches a byte past 65,536.
-use mathlib.Core.Path.{_≡_, refl, _∙_}
+-- Demand 1 over lent areas: which areas are refused, what a refused call and a question leave, and that no call touches or reads a byte past 65,536.
+use mathlib.Core.Path.{_≡_, refl, sym, _∙_, ap}
 use mathlib.Core.Bool.{Bool, true, false, cond}
 use mathlib.Core.List.{List, _++_}
-use Prim.Native.Nat.{ℕ, _<_}
+use Prim.Native.Nat.{ℕ, zero, suc, _<_, _≤_}
 use native.Mathlib.Omega.{arith}
-use lib.ListN.{length, drop, length-append, length-drop}
-use lib.Seq.{drop-at}
-use Rattle.model.specs.declared.Answer.the-variants.{Refused}
+use borrow.Author.Tests.{not-false, eqb-true, le-ltb}
+use lib.ListN.{length, take, drop, length-append, length-drop, take-append-drop}
+use lib.Seq.{take-at, drop-at}
+use Rattle.seq.proofs.Tests.{true-false, not-true-false, same-truth}
+use Rattle.model.specs.declared.Answer.the-variants.{Refused, Started}
 use Rattle.model.specs.declared.Call.{Call}
-use Rattle.model.specs.declared.Call.the-variants.{Look, View, Count}
+use Rattle.model.specs.declared.Call.the-variants.{Start}
+use Rattle.model.specs.declared.Outcome.{Outcome}
+use Rattle.model.specs.declared.State.{State}
+use Rattle.model.specs.State.{fresh}
+use Rattle.rules.specs.Answers.{word}
+use Rattle.rules.specs.Calls.{unless, started}
+use Rattle.rules.specs.Refusals.{startRefusal}
+use Rattle.rules.specs.Content.{fields, isStart, isReading}
 use Rattle.rules.specs.Run.{outcome}
-use Rattle.rules.proofs.Hidden.Hidden.{looked-still, viewed-still, counted-still}
+use Rattle.rules.proofs.Leaves.ContentLaws.{start-is}
+use Rattle.rules.proofs.Leaves.CallEffects.{reading-still}
+use Rattle.rules.proofs.Promises.Widths.{sound-ok}
 use Rattle.area.specs.Layout.{encoded, decoded}
-use Rattle.area.proofs.RoundTrip.{encoded-long}
-use Rattle.sabre.specs.Lent.{answerOn, isRefused, areaAfter, soundArea}
-use Rattle.demands.specs.Runs.{isStart}
-use Rattle.demands.proofs.Areas.{unfit-other, short-unfit, fit-long, accepted-fit, accepted-sound}
-use Rattle.sabre.proofs.SoundAreas.{sound-area-bytes}
+use Rattle.area.proofs.Elements.{decoded-deadline}
+use Rattle.area.proofs.RoundTrip.{encoded-long, decode-encode}
+use Rattle.sabre.specs.Lent.{unfit, answerOn, isRefused, areaAfter, soundArea}
+use Rattle.demands.proofs.Areas.{unfit-is, unfit-other, short-unfit, fit-long, fit-answer, accepted-fit, accepted-sound}
+use Rattle.sabre.proofs.SoundAreas.{encode-sound, sound-area, sound-area-bytes}
 
 -- an area under 65,536 bytes is refused by number 1, whatever the call
 pub short-refused : (a : List ℕ) (c : Call) → length a < 65536 → answerOn a c ≡ Refused 1
@@ -54,24 +65,82 @@ same-length a c = go (isRefused (answerOn a c)) refl
         let s = outcome (decoded a) c .state in
         length-append (encoded s) (drop 65536 a) ∙ omega (arith, encoded-long s, length-drop 65536 a)
 
--- a call that changes nothing of the state leaves every byte
-still-leaves : (a : List ℕ) (c : Call) → isStart c ≡ false → outcome (decoded a) c .state ≡ decoded a → areaAfter a c ≡ a
+-- look, view and count leave every byte
+pub reading-leaves : (a : List ℕ) (c : Call) → isReading c ≡ true → areaAfter a c ≡ a
 unfolding areaAfter
-still-leaves a c o e = go (isRefused (answerOn a c)) refl
+reading-leaves a c r = go (isRefused (answerOn a c)) refl
   where
+    other : isStart c ≡ false
+    other = not-true-false (isStart c) (λ s. true-false (sym (rw (eqb-true (fields c .kind) 0 s) at r)))
+
     go : (b : Bool) → isRefused (answerOn a c) ≡ b → cond b a (encoded (outcome (decoded a) c .state) ++ drop 65536 a) ≡ a
     go true q = refl
-    go false q = rw e (sound-area-bytes a (accepted-sound a c o q))
+    go false q = rw (reading-still (decoded a) c r) (sound-area-bytes a (accepted-sound a c other q))
 
--- look, view and count change nothing
-pub look-leaves : (a : List ℕ) (level number : ℕ) → areaAfter a (Look level number) ≡ a
-unfolding outcome
-look-leaves a level number = still-leaves a (Look level number) refl (looked-still (decoded a) level number)
+-- ---- bytes past 65,536 are never read
 
-pub view-leaves : (a : List ℕ) (level page : ℕ) → areaAfter a (View level page) ≡ a
-unfolding outcome
-view-leaves a level page = still-leaves a (View level page) refl (viewed-still (decoded a) level page)
+-- an area with the first 65,536 bytes of a sound one is sound and names the same state
+same-state : (a b : List ℕ) → take 65536 a ≡ take 65536 b → soundArea a ≡ true → (soundArea b ≡ true) × (decoded b ≡ decoded a)
+same-state a b e z =
+    let s = decoded a in
+    let h = sound-area a z .sound-state in
+    let ok = sound-ok s h (decoded-deadline a) in
+    let x : take 65536 a ≡ encoded s = ap (take 65536) (sym (sound-area-bytes a z)) ∙ take-at (encoded s) (drop 65536 a) 65536 (encoded-long s) in
+    let y : encoded s ++ drop 65536 b ≡ b = rw (← x, e) (take-append-drop 65536 b) in
+    (rw y at (encode-sound s ok (drop 65536 b) h), rw y at (decode-encode s ok (drop 65536 b)))
 
-pub count-leaves : (a : List ℕ) (level : ℕ) → areaAfter a (Count level) ≡ a
-unfolding outcome
-count-leaves a level = still-leaves a (Count level) refl (counted-still (decoded a) level)
+-- what a start answers, and what it leaves where it is accepted, is the same for every state
+start-any : (s t : State) (slots delay : ℕ)
+    → (outcome s (Start slots delay) .answer ≡ outcome t (Start slots delay) .answer)
+    × (isRefused (outcome s (Start slots delay) .answer) ≡ false → outcome s (Start slots delay) .state ≡ outcome t (Start slots delay) .state)
+unfolding outcome started word
+start-any s t slots delay = go (startRefusal slots delay)
+  where
+    new : Outcome
+    new = record { state = fresh slots delay; answer = Started }
+
+    go : (n : ℕ) → (unless n s new .answer ≡ unless n t new .answer) × (isRefused (unless n s new .answer) ≡ false → unless n s new .state ≡ unless n t new .state)
+    go zero = (refl, λ _. refl)
+    go (suc n) = (refl, λ k. true-false k)
+
+accepted-bytes : (a : List ℕ) (c : Call) → isRefused (answerOn a c) ≡ false → take 65536 (areaAfter a c) ≡ encoded (outcome (decoded a) c .state)
+unfolding areaAfter
+accepted-bytes a c e = let s = outcome (decoded a) c .state in rw e (take-at (encoded s) (drop 65536 a) 65536 (encoded-long s))
+
+module _ (a b : List ℕ) (a-long : 65536 ≤ length a) (b-long : 65536 ≤ length b) (e : take 65536 a ≡ take 65536 b) (c : Call) where
+  same-sound : soundArea a ≡ soundArea b
+  same-sound = same-truth (soundArea a) (soundArea b) (λ z. same-state a b e z .0) (λ z. same-state b a (sym e) z .0)
+
+  same-fit : unfit a c ≡ unfit b c
+  same-fit = unfit-is a c ∙ rw (le-ltb (length a) 65536 a-long, same-sound) (sym (unfit-is b c ∙ rw (le-ltb (length b) 65536 b-long)))
+
+  same-outcome : unfit a c ≡ false
+      → (outcome (decoded a) c .answer ≡ outcome (decoded b) c .answer)
+      × (isRefused (outcome (decoded a) c .answer) ≡ false → outcome (decoded a) c .state ≡ outcome (decoded b) c .state)
+  same-outcome f = go (isStart c) refl
+    where
+      go : (x : Bool) → isStart c ≡ x
+          → (outcome (decoded a) c .answer ≡ outcome (decoded b) c .answer)
+          × (isRefused (outcome (decoded a) c .answer) ≡ false → outcome (decoded a) c .state ≡ outcome (decoded b) c .state)
+      go true o = rw (start-is c o) (start-any (decoded a) (decoded b) (fields c .slots) (fields c .delay))
+      go false o = rw (same-state a b e (not-false (soundArea a) (sym (unfit-other a c o) ∙ f)) .1) (refl, λ _. refl)
+
+  -- A call's answer and the first 65,536 bytes that it leaves do not depend on the bytes past them.
+  pub past-unread : (answerOn a c ≡ answerOn b c) × (take 65536 (areaAfter a c) ≡ take 65536 (areaAfter b c))
+  unfolding answerOn word
+  past-unread = go (unfit a c) refl
+    where
+      -- the bytes that are left, where the answers are equal
+      bytes : answerOn a c ≡ answerOn b c → (isRefused (answerOn a c) ≡ false → outcome (decoded a) c .state ≡ outcome (decoded b) c .state)
+          → (x : Bool) → isRefused (answerOn a c) ≡ x → take 65536 (areaAfter a c) ≡ take 65536 (areaAfter b c)
+      bytes w s true r = rw (refused-leaves a c r, refused-leaves b c (rw (← w) r)) e
+      bytes w s false r = accepted-bytes a c r ∙ ap encoded (s r) ∙ sym (accepted-bytes b c (rw (← w) r))
+
+      go : (u : Bool) → unfit a c ≡ u → (answerOn a c ≡ answerOn b c) × (take 65536 (areaAfter a c) ≡ take 65536 (areaAfter b c))
+      go true u =
+          let w : answerOn a c ≡ answerOn b c = rw (u, ← same-fit, u) in
+          (w, bytes w (λ r. true-false (rw u at r)) true (rw u))
+      go false u =
+          let o = same-outcome u in
+          let w : answerOn a c ≡ answerOn b c = fit-answer a c u ∙ o .0 ∙ sym (fit-answer b c (sym same-fit ∙ u)) in
+          (w, bytes w (λ r. o .1 (rw (← fit-answer a c u) r)) (isRefused (answerOn a c)) refl)

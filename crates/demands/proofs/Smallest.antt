@@ -2,35 +2,49 @@
 use mathlib.Core.Path.{_≡_, refl, sym, _∙_, ap}
 use mathlib.Core.Bool.{Bool, true, false, cond, not, _&&_, _||_}
 use mathlib.Core.List.{List, [], _∷_}
-use Prim.Native.Nat.{ℕ, zero, suc, _≤_}
+use Prim.Native.Nat.{ℕ, zero, suc, _≤_, _/_}
 use native.Mathlib.Omega.{arith}
 use native.Mathlib.Decide.{decLt}
 use borrow.Author.Tests.{not-true, not-false, eqb-true, eqb-false, ltb-false, lt-ltb, le-ltb, le-leb, lt-leb, eq-eqb, ne-eqb}
 use lib.Dec.{leb, ltb, eqb}
+use lib.ListN.{length}
+use Rattle.seq.specs.Below.{anyBelow, atFound}
 use Rattle.seq.specs.declared.Found.{Found}
-use Rattle.seq.proofs.Tests.{true-false, or-true-right, not-true-false}
+use Rattle.seq.specs.declared.Found.the-variants.{At, Nowhere}
+use Rattle.seq.proofs.Tests.{true-false, and-left, and-right, both-true, or-true-right, not-true-false, same-truth}
+use Rattle.seq.proofs.BelowLaws.{none-any, hit-any, any-hit}
 use Rattle.model.specs.declared.Answer.{Answer}
 use Rattle.model.specs.declared.Answer.the-variants.{Refused}
 use Rattle.model.specs.declared.Cause.the-variants.{Late, Taken}
 use Rattle.model.specs.declared.Condition.{Condition}
 use Rattle.model.specs.declared.Condition.the-variants.{Free, Idle, Fetching, Waiting, Killed}
+use Rattle.model.specs.declared.Content.{Content}
+use Rattle.model.specs.declared.Content.the-variants.{Empty, Filled}
 use Rattle.model.specs.declared.Mode.the-variants.{Read, Write}
+use Rattle.model.specs.declared.Pin.{Pin}
+use Rattle.model.specs.declared.Pin.the-variants as Pin
 use Rattle.model.specs.declared.Outcome.{Outcome}
 use Rattle.model.specs.declared.State.{State}
-use Rattle.model.specs.Parties.{rowOf, classOf, modeOf, allowed, mayAccess}
-use Rattle.model.specs.State.{rowAt}
-use Rattle.model.specs.Words.{slotOf}
+use Rattle.model.specs.Parties.{rowOf, modeOf, allowed, mayAccess}
+use Rattle.model.specs.State.{rowAt, slotAt, holdingAt}
+use Rattle.model.specs.Words.{hasPage, isPin, pins, slotOf}
+use Rattle.model.proofs.ContentLaws.{page-has}
 use Rattle.rules.specs.Answers.{word, value}
-use Rattle.rules.specs.Refusals.{firstToApply, isFree, isKilled, isBusy, isWaiting, isRead, conditionAt, startRefusal, beginRefusal, requestRefusal, retryRefusal, unpinRefusal, endRefusal, tickRefusal, lookRefusal, viewRefusal, countRefusal}
+use Rattle.rules.specs.Refusals.{firstToApply, isFree, isKilled, isBusy, isWaiting, isRead, conditionAt, pinsPage, startRefusal, beginRefusal, requestRefusal, retryRefusal, unpinRefusal, endRefusal, tickRefusal, lookRefusal, viewRefusal, countRefusal}
 use Rattle.rules.specs.Calls.{unless, started, begun, requested, servedAgain, retried, unpinned, ended, ticked, looked, lookedAt, viewedIn, viewed, counted}
 use Rattle.model.specs.declared.Call.{Call}
 use Rattle.model.specs.declared.Call.the-variants.{Start, Begin, Request, Retry, Unpin, End, Tick, Look, View, Count}
+use Rattle.rules.specs.Content.{isStart}
 use Rattle.rules.specs.Run.{outcome}
 use Rattle.rules.proofs.Promises.CallCases.{viewed-is}
+use Rattle.rules.proofs.Facts.SoundFacts.{Sound, facts}
+use Rattle.rules.proofs.Leaves.PageLaws.{found-has, found-below, not-found, one-place}
 use Rattle.area.specs.Layout.{decoded}
-use Rattle.sabre.specs.Lent.{unfit, answerOn, isRefused, status}
-use Rattle.demands.specs.RefusalTable.{isIdleOrFetching, refusals, applies}
+use Rattle.sabre.specs.Lent.{unfit, answerOn, isRefused, status, soundArea}
+use Rattle.demands.specs.RefusalTable.{free, killed, fetchingOrWaiting, idleOrFetching, has, readOrWrite, pinned, refusals, applies}
+use Rattle.demands.proofs.Areas.{unfit-table, unfit-other}
 use Rattle.demands.proofs.Steps.{served-accepted}
+use Rattle.sabre.proofs.SoundAreas.{sound-area}
 
 -- ---- an accepted call's answer is no refusal
 
@@ -63,6 +77,17 @@ numbered true n s o h = (refl, refl)
 numbered false zero s o h = (rw (h refl), h refl)
 numbered false (suc n) s o h = (refl, rw (ne-eqb (suc n) 0 (λ q. omega arith)))
 
+-- the table's first row is refusal 1; its other rows count where the area is fit for the call
+first-row : (a : List ℕ) (c : Call) (n m : ℕ) → (unfit a c ≡ false → n ≡ m) → Gives (answerOn a c) (cond (unfit a c) 1 n)
+    → Gives (answerOn a c) (cond (ltb (length a) 65536 || (not (isStart c) && not (soundArea a))) 1 m)
+first-row a c n m e = gives-same (answerOn a c) _ _ (go (unfit a c) refl ∙ ap (λ (u : Bool). cond u 1 m) (unfit-table a c))
+  where
+    go : (u : Bool) → unfit a c ≡ u → cond u 1 n ≡ cond u 1 m
+    go true q = refl
+    go false q = e q
+
+-- ---- the table's words
+
 -- request: the refusals 13 and 14, where the mode is 0 or 1
 not-leb : (a b : ℕ) → not (leb a b) ≡ ltb b a
 not-leb a b = elim (decLt b a) [
@@ -70,40 +95,49 @@ not-leb a b = elim (decLt b a) [
   | no h ↦ rw (le-leb a b (omega arith), le-ltb b a (omega arith))
 ]
 
-read-above : (level page mode : ℕ) → isRead (modeOf mode) && not (mayAccess level page (modeOf mode)) ≡ eqb mode 0 && ltb level (classOf page)
+read-above : (level page mode : ℕ) → isRead (modeOf mode) && not (mayAccess level page (modeOf mode)) ≡ eqb mode 0 && ltb level (page / 1024)
 unfolding allowed
 read-above level page mode = go (eqb mode 0)
   where
-    go : (b : Bool) → isRead (cond b Read Write) && not (mayAccess level page (cond b Read Write)) ≡ b && ltb level (classOf page)
-    go true = not-leb (classOf page) level
+    go : (b : Bool) → isRead (cond b Read Write) && not (mayAccess level page (cond b Read Write)) ≡ b && ltb level (page / 1024)
+    go true = not-leb (page / 1024) level
     go false = refl
 
-write-below : (level page mode : ℕ) → mode ≤ 1 → not (isRead (modeOf mode)) && not (mayAccess level page (modeOf mode)) ≡ eqb mode 1 && ltb (classOf page) level
+write-below : (level page mode : ℕ) → mode ≤ 1 → not (isRead (modeOf mode)) && not (mayAccess level page (modeOf mode)) ≡ eqb mode 1 && ltb (page / 1024) level
 unfolding allowed
 write-below level page mode h = elim (decLt mode 1) [
   | yes k ↦ let e : mode ≡ 0 = omega arith in rw e
-  | no k ↦ let e : mode ≡ 1 = omega arith in rw e (not-leb level (classOf page))
+  | no k ↦ let e : mode ≡ 1 = omega arith in rw e (not-leb level (page / 1024))
 ]
+
+-- a row's condition
+condition-same : (x : Condition) → (isFree x ≡ free x) × (isKilled x ≡ killed x) × (isBusy x ≡ fetchingOrWaiting x)
+condition-same Free = (refl, refl, refl)
+condition-same Idle = (refl, refl, refl)
+condition-same (Fetching due) = (refl, refl, refl)
+condition-same (Waiting page mode) = (refl, refl, refl)
+condition-same (Killed cause) = (refl, refl, refl)
 
 abbrev requestRows : Bool → Bool → Bool → Bool → Bool → Bool → Bool → Bool → Bool → ℕ
 requestRows p q r t f k y d e = firstToApply ((4, p) ∷ (5, q) ∷ (6, r) ∷ (7, t) ∷ (9, f) ∷ (10, k) ∷ (11, y) ∷ (13, d) ∷ (14, e) ∷ [])
 
-after-7 : (p q r t f k y d e d′ e′ : Bool) → d ≡ d′ → (t ≡ false → e ≡ e′) → requestRows p q r t f k y d e ≡ requestRows p q r t f k y d′ e′
-after-7 p q r true f k y d e d′ e′ h j = refl
-after-7 p q r false f k y d e d′ e′ h j = λ i. requestRows p q r false f k y (h i) (j refl i)
+request-rows : (p q r t : Bool) (x : Condition) (d e d′ e′ : Bool) → d ≡ d′ → (t ≡ false → e ≡ e′)
+    → requestRows p q r t (isFree x) (isKilled x) (isBusy x) d e ≡ requestRows p q r t (free x) (killed x) (fetchingOrWaiting x) d′ e′
+request-rows p q r true x d e d′ e′ h j = refl
+request-rows p q r false x d e d′ e′ h j = λ i. requestRows p q r false (condition-same x .0 i) (condition-same x .1 i) (condition-same x .2 i) (h i) (j refl i)
 
 -- retry: refusal 16, where the row is not free and not killed
-abbrev retryRows : Bool → Bool → Condition → Bool → ℕ
-retryRows p q x w = firstToApply ((4, p) ∷ (5, q) ∷ (9, isFree x) ∷ (10, isKilled x) ∷ (16, w) ∷ [])
+abbrev retryRows : Bool → Bool → Bool → Bool → Bool → ℕ
+retryRows p q f k w = firstToApply ((4, p) ∷ (5, q) ∷ (9, f) ∷ (10, k) ∷ (16, w) ∷ [])
 
-not-waiting : (p q : Bool) (x : Condition) → retryRows p q x (not (isWaiting x)) ≡ retryRows p q x (isIdleOrFetching x)
-not-waiting p q Free = refl
-not-waiting p q Idle = refl
-not-waiting p q (Fetching due) = refl
-not-waiting p q (Waiting page mode) = refl
-not-waiting p q (Killed cause) = refl
+retry-rows : (p q : Bool) (x : Condition) → retryRows p q (isFree x) (isKilled x) (not (isWaiting x)) ≡ retryRows p q (free x) (killed x) (idleOrFetching x)
+retry-rows p q Free = refl
+retry-rows p q Idle = refl
+retry-rows p q (Fetching due) = refl
+retry-rows p q (Waiting page mode) = refl
+retry-rows p q (Killed cause) = refl
 
-again-accepted : (s : State) (row : ℕ) (p q : Bool) (x : Condition) → retryRows p q x (not (isWaiting x)) ≡ 0 → isRefused (servedAgain x s row .answer) ≡ false
+again-accepted : (s : State) (row : ℕ) (p q : Bool) (x : Condition) → retryRows p q (isFree x) (isKilled x) (not (isWaiting x)) ≡ 0 → isRefused (servedAgain x s row .answer) ≡ false
 again-accepted s row true q x e = absurd (omega arith)
 again-accepted s row false true x e = absurd (omega arith)
 again-accepted s row false false Free e = absurd (omega arith)
@@ -112,29 +146,90 @@ again-accepted s row false false (Fetching due) e = absurd (omega arith)
 again-accepted s row false false (Waiting page mode) e = served-accepted s row page mode
 again-accepted s row false false (Killed cause) e = absurd (omega arith)
 
+-- unpin: refusal 15, on a sound state
+has-same : (page : ℕ) (x : Content) → hasPage page x ≡ has page x
+has-same page Empty = refl
+has-same page (Filled p arrival dirty lowest) = refl
+
+pin-same : (p : Pin) → isPin p ≡ readOrWrite p
+pin-same Pin.Absent = refl
+pin-same Pin.Unpinned = refl
+pin-same Pin.Read = refl
+pin-same Pin.Write = refl
+
+pinned-same : (s : State) → Sound s → (row page : ℕ) → pinsPage s row page ≡ pinned s row page
+unfolding pinsPage pinned
+pinned-same s z row page = go (slotOf s page) refl
+  where
+    at : ℕ → Bool
+    at slot = has page (slotAt s slot .content) && readOrWrite (holdingAt s slot row .pin)
+
+    there : (slot : ℕ) → at slot ≡ true → hasPage page (slotAt s slot .content) ≡ true
+    there slot w = has-same page (slotAt s slot .content) ∙ and-left (has page (slotAt s slot .content)) (readOrWrite (holdingAt s slot row .pin)) w
+
+    go : (f : Found) → slotOf s page ≡ f → atFound f (λ slot. pins s slot row) false ≡ anyBelow 64 at
+    go Nowhere e = sym (none-any at 64 (λ i b. not-true-false (at i) (λ w.
+        let h = there i w in
+        true-false (sym h ∙ not-found s page i e (z .slot i b .started (page-has page (slotAt s i .content) h .0))))))
+    go (At i) e = same-truth (pins s i row) (anyBelow 64 at)
+        (λ w. hit-any at 64 i (found-below s z page i e) (both-true (sym (has-same page (slotAt s i .content)) ∙ found-has s page i e .1) (sym (pin-same (holdingAt s i row .pin)) ∙ w)))
+        (λ w.
+        let x = any-hit at 64 w in
+        let j : i ≡ x .0 = one-place s z page i (x .0) (found-below s z page i e) (x .1) (found-has s page i e .1) (there (x .0) (x .2)) in
+        rw j (pin-same (holdingAt s (x .0) row .pin) ∙ and-right (has page (slotAt s (x .0) .content)) (readOrWrite (holdingAt s (x .0) row .pin)) (x .2)))
+
+unpin-rows : (p q r : Bool) (x : Condition) (d d′ : Bool) → d ≡ d′
+    → firstToApply ((4, p) ∷ (5, q) ∷ (6, r) ∷ (9, isFree x) ∷ (10, isKilled x) ∷ (11, isBusy x) ∷ (15, not d) ∷ [])
+    ≡ firstToApply ((4, p) ∷ (5, q) ∷ (6, r) ∷ (9, free x) ∷ (10, killed x) ∷ (11, fetchingOrWaiting x) ∷ (15, not d′) ∷ [])
+unpin-rows p q r x d d′ e =
+    λ i. firstToApply ((4, p) ∷ (5, q) ∷ (6, r) ∷ (9, condition-same x .0 i) ∷ (10, condition-same x .1 i) ∷ (11, condition-same x .2 i) ∷ (15, not (e i)) ∷ [])
+
 -- the number given is that of the first row of the table that applies
 gives : (a : List ℕ) (c : Call) → Gives (answerOn a c) (firstToApply (refusals a c))
 unfolding answerOn outcome started begun requested retried unpinned ended ticked lookedAt viewed counted word
     refusals startRefusal beginRefusal requestRefusal retryRefusal unpinRefusal endRefusal tickRefusal lookRefusal viewRefusal countRefusal
-gives a (Start slots delay) = numbered (unfit a (Start slots delay)) (startRefusal slots delay) (decoded a) _ (λ _. refl)
-gives a (Begin level number deadline) = numbered (unfit a (Begin level number deadline)) (beginRefusal (decoded a) level number deadline) (decoded a) _ (λ _. refl)
+gives a (Start slots delay) =
+    first-row a (Start slots delay) _ _ (λ _. refl) (numbered (unfit a (Start slots delay)) (startRefusal slots delay) (decoded a) _ (λ _. refl))
+gives a (Begin level number deadline) =
+    let c = Begin level number deadline in
+    let x = conditionAt (decoded a) level number in
+    first-row a c _ _ (λ _ i. firstToApply ((4, ltb 3 level) ∷ (5, ltb 7 number) ∷ (8, not (condition-same x .0 i)) ∷ (12, leb deadline (decoded a .clock)) ∷ []))
+    (numbered (unfit a c) (beginRefusal (decoded a) level number deadline) (decoded a) _ (λ _. refl))
 gives a (Request level number page mode) =
-    let x = conditionAt (decoded a) level number in
-    gives-same (answerOn a (Request level number page mode)) _ _
-    (ap (cond (unfit a (Request level number page mode)) 1)
-    (after-7 (ltb 3 level) (ltb 7 number) (ltb 4095 page) (ltb 1 mode) (isFree x) (isKilled x) (isBusy x) _ _ _ _ (read-above level page mode)
-    (λ e. write-below level page mode (ltb-false 1 mode e))))
-    (numbered (unfit a (Request level number page mode)) (requestRefusal (decoded a) level number page mode) (decoded a) _ (λ _. served-accepted (decoded a) (rowOf level number) page (modeOf mode)))
+    let c = Request level number page mode in
+    first-row a c _ _
+    (λ _. request-rows (ltb 3 level) (ltb 7 number) (ltb 4095 page) (ltb 1 mode) (conditionAt (decoded a) level number) _ _ _ _ (read-above level page mode)
+    (λ e. write-below level page mode (ltb-false 1 mode e)))
+    (numbered (unfit a c) (requestRefusal (decoded a) level number page mode) (decoded a) _ (λ _. served-accepted (decoded a) (rowOf level number) page (modeOf mode)))
 gives a (Retry level number) =
+    let c = Retry level number in
     let x = conditionAt (decoded a) level number in
-    gives-same (answerOn a (Retry level number)) _ _ (ap (cond (unfit a (Retry level number)) 1) (not-waiting (ltb 3 level) (ltb 7 number) x))
-    (numbered (unfit a (Retry level number)) (retryRefusal (decoded a) level number) (decoded a) _ (again-accepted (decoded a) (rowOf level number) (ltb 3 level) (ltb 7 number) x))
-gives a (Unpin level number page) = numbered (unfit a (Unpin level number page)) (unpinRefusal (decoded a) level number page) (decoded a) _ (λ _. refl)
-gives a (End level number) = numbered (unfit a (End level number)) (endRefusal (decoded a) level number) (decoded a) _ (λ _. refl)
-gives a Tick = numbered (unfit a Tick) (tickRefusal (decoded a)) (decoded a) _ (λ _. refl)
-gives a (Look level number) = numbered (unfit a (Look level number)) (lookRefusal level number) (decoded a) _ (λ _. looked-accepted (rowAt (decoded a) (rowOf level number) .condition))
-gives a (View level page) = numbered (unfit a (View level page)) (viewRefusal level page) (decoded a) _ (λ _. viewed-accepted (decoded a) level (slotOf (decoded a) page))
-gives a (Count level) = numbered (unfit a (Count level)) (countRefusal level) (decoded a) _ (λ _. refl)
+    first-row a c _ _ (λ _. retry-rows (ltb 3 level) (ltb 7 number) x)
+    (numbered (unfit a c) (retryRefusal (decoded a) level number) (decoded a) _ (again-accepted (decoded a) (rowOf level number) (ltb 3 level) (ltb 7 number) x))
+gives a (Unpin level number page) =
+    let c = Unpin level number page in
+    let s = decoded a in
+    first-row a c _ _
+    (λ u.
+    let z = sound-area a (not-false (soundArea a) (sym (unfit-other a c refl) ∙ u)) .sound-state in
+    unpin-rows (ltb 3 level) (ltb 7 number) (ltb 4095 page) (conditionAt s level number) (pinsPage s (rowOf level number) page) (pinned s (rowOf level number) page)
+    (pinned-same s (facts s z) (rowOf level number) page))
+    (numbered (unfit a c) (unpinRefusal s level number page) s _ (λ _. refl))
+gives a (End level number) =
+    let c = End level number in
+    let x = conditionAt (decoded a) level number in
+    first-row a c _ _ (λ _ i. firstToApply ((4, ltb 3 level) ∷ (5, ltb 7 number) ∷ (9, condition-same x .0 i) ∷ []))
+    (numbered (unfit a c) (endRefusal (decoded a) level number) (decoded a) _ (λ _. refl))
+gives a Tick = first-row a Tick _ _ (λ _. refl) (numbered (unfit a Tick) (tickRefusal (decoded a)) (decoded a) _ (λ _. refl))
+gives a (Look level number) =
+    let c = Look level number in
+    first-row a c _ _ (λ _. refl) (numbered (unfit a c) (lookRefusal level number) (decoded a) _ (λ _. looked-accepted (rowAt (decoded a) (rowOf level number) .condition)))
+gives a (View level page) =
+    let c = View level page in
+    first-row a c _ _ (λ _. refl) (numbered (unfit a c) (viewRefusal level page) (decoded a) _ (λ _. viewed-accepted (decoded a) level (slotOf (decoded a) page)))
+gives a (Count level) =
+    let c = Count level in
+    first-row a c _ _ (λ _. refl) (numbered (unfit a c) (countRefusal level) (decoded a) _ (λ _. refl))
 
 -- ---- the smallest that applies
 

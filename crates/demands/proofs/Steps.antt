@@ -9,35 +9,33 @@ use Rattle.seq.proofs.Tests.{true-false}
 use Rattle.model.specs.declared.Answer.{Answer}
 use Rattle.model.specs.declared.Answer.the-variants.{Started}
 use Rattle.model.specs.declared.Back.{Back}
-use Rattle.model.specs.declared.Condition.{Condition}
-use Rattle.model.specs.declared.Condition.the-variants.{Free, Idle, Fetching, Waiting, Killed}
 use Rattle.model.specs.declared.Mode.{Mode}
 use Rattle.model.specs.declared.Outcome.{Outcome}
 use Rattle.model.specs.declared.State.{State}
-use Rattle.model.specs.Parties.{rowOf, modeOf}
-use Rattle.model.specs.State.{fresh, rowAt}
+use Rattle.model.specs.State.{fresh}
 use Rattle.model.proofs.Ranges.{StateOk}
 use Rattle.rules.specs.Sound.{sound}
 use Rattle.rules.specs.Answers.{word}
-use Rattle.rules.specs.Refusals.{startRefusal, beginRefusal, requestRefusal, retryRefusal, unpinRefusal, endRefusal, tickRefusal, StartTaken}
-use Rattle.rules.specs.Calls.{unless, started, begun, requested, retried, unpinned, ended, ticked, waiting, granted, served, servedAgain}
+use Rattle.rules.specs.Refusals.{startRefusal, StartTaken}
+use Rattle.rules.specs.Calls.{unless, started, waiting, granted, served}
 use Rattle.model.specs.declared.Call.{Call}
-use Rattle.model.specs.declared.Call.the-variants.{Start, Begin, Request, Retry, Unpin, End, Tick, Look, View, Count}
+use Rattle.model.specs.declared.Call.the-variants.{Start}
 use Rattle.rules.specs.Run.{outcome}
-use Rattle.rules.specs.Content.{Fits}
-use Rattle.rules.proofs.Leaves.RefusalFacts.{unless-is, start-taken}
+use Rattle.rules.specs.Content.{fields, isStart, Fits}
+use Rattle.rules.proofs.Leaves.ContentLaws.{start-is}
+use Rattle.rules.proofs.Leaves.RefusalFacts.{start-taken}
+use Rattle.rules.proofs.Leaves.CallEffects.{Effect, unchanged, starts, begins, unpins, ends, ticks, serves, effect}
 use Rattle.rules.proofs.Promises.Serving.{Serving, waits, waits-g, joins, fills, serving}
 use Rattle.rules.proofs.Promises.Granting.{granted-answer}
-use Rattle.rules.proofs.Hidden.Hidden.{looked-still, viewed-still, counted-still}
-use Rattle.rules.proofs.Keeping.KeptFresh.{fresh-sound}
-use Rattle.rules.proofs.Keeping.Kept.{kept-sound}
-use Rattle.rules.proofs.Promises.Widths.{fresh-narrow, kept-narrow, sound-ok}
+use Rattle.rules.proofs.Stays.StaysFresh.{fresh-sound}
+use Rattle.rules.proofs.Stays.StaysSound.{stays-sound}
+use Rattle.rules.proofs.Promises.Widths.{fresh-narrow, stays-narrow, sound-ok}
 use Rattle.area.specs.Layout.{encoded, decoded}
 use Rattle.area.proofs.Elements.{decoded-deadline}
 use Rattle.area.proofs.RoundTrip.{decode-encode}
-use Rattle.sabre.specs.Lent.{unfit, answerOn, isRefused, areaAfter, soundArea}
+use Rattle.sabre.specs.Lent.{answerOn, isRefused, areaAfter, soundArea}
 use Rattle.demands.specs.Runs.{AllFit, areaAfterAll}
-use Rattle.demands.proofs.Areas.{start-or-other, accepted-sound, sound-fit, accepted-fit, fit-long, fit-answer}
+use Rattle.demands.proofs.Areas.{unfit-start, accepted-sound, sound-fit, accepted-fit, fit-long, fit-answer}
 use Rattle.sabre.proofs.SoundAreas.{encode-sound, sound-area}
 
 -- ---- a refused call leaves the state
@@ -60,32 +58,18 @@ served-accepted s row page mode = go (served s row page mode) (serving s row pag
     go o (joins slot arrival some e n q) = rw q (granted-accepted _ _ _ _ _ _)
     go o (fills slot e n q) = rw q (granted-accepted _ _ _ _ _ _)
 
--- the outcome is refused and leaves the state, or is not refused
-abbrev Still : State → Outcome → Type 0
-Still s o = isRefused (o .answer) ≡ true → o .state ≡ s
-
-by-refusal : (n : ℕ) (s : State) (o : Outcome) → Still s o → Still s (unless n s o)
-by-refusal n s o h = unless-is (Still s) n s o (λ k _. refl) (λ _. h)
-
-again-still : (s : State) (row : ℕ) (x : Condition) → Still s (servedAgain x s row)
-again-still s row Free e = refl
-again-still s row Idle e = refl
-again-still s row (Fetching due) e = refl
-again-still s row (Waiting page mode) e = true-false (sym e ∙ served-accepted s row page mode)
-again-still s row (Killed cause) e = refl
-
 pub refused-still : (s : State) (c : Call) → isRefused (outcome s c .answer) ≡ true → outcome s c .state ≡ s
-unfolding outcome started begun requested retried unpinned ended ticked word
-refused-still s (Start slots delay) = by-refusal (startRefusal slots delay) s _ (λ e. true-false (sym e))
-refused-still s (Begin level number deadline) = by-refusal (beginRefusal s level number deadline) s _ (λ e. true-false (sym e))
-refused-still s (Request level number page mode) = by-refusal (requestRefusal s level number page mode) s _ (λ e. true-false (sym e ∙ served-accepted s (rowOf level number) page (modeOf mode)))
-refused-still s (Retry level number) = by-refusal (retryRefusal s level number) s _ (again-still s (rowOf level number) (rowAt s (rowOf level number) .condition))
-refused-still s (Unpin level number page) = by-refusal (unpinRefusal s level number page) s _ (λ e. true-false (sym e))
-refused-still s (End level number) = by-refusal (endRefusal s level number) s _ (λ e. true-false (sym e))
-refused-still s Tick = by-refusal (tickRefusal s) s _ (λ e. true-false (sym e))
-refused-still s (Look level number) = λ _. looked-still s level number
-refused-still s (View level page) = λ _. viewed-still s level page
-refused-still s (Count level) = λ _. counted-still s level
+unfolding word
+refused-still s c = go (outcome s c) (effect s c)
+  where
+    go : (o : Outcome) → Effect s c o → isRefused (o .answer) ≡ true → o .state ≡ s
+    go o (unchanged a q e) r = rw e
+    go o (starts slots delay q t e) r = true-false (sym (rw e at r))
+    go o (begins level number deadline q t e) r = true-false (sym (rw e at r))
+    go o (unpins level number page slot q t f p e) r = true-false (sym (rw e at r))
+    go o (ends level number q n e) r = true-false (sym (rw e at r))
+    go o (ticks q h e) r = true-false (sym (rw e at r))
+    go o (serves row page mode b a m e) r = true-false (sym (rw e at r) ∙ served-accepted s row page mode)
 
 -- ---- start
 
@@ -114,11 +98,13 @@ start-only a slots delay e =
 
 -- any other answer that is no refusal is given on sound areas alone
 pub other-sound : (a : List ℕ) (c : Call) (x : Answer) → answerOn a c ≡ x → isRefused x ≡ false → (x ≡ Started → ⊥) → soundArea a ≡ true
-other-sound a c x e r n =
-    start-or-other (λ d. answerOn a d ≡ x → soundArea a ≡ true) c
-    (λ slots delay k. absurd (n (sym k ∙ start-answer a slots delay (rw k r) .1)))
-    (λ o k. accepted-sound a c o (rw k r))
-    e
+other-sound a c x e r n = go (isStart c) refl
+  where
+    go : (b : Bool) → isStart c ≡ b → soundArea a ≡ true
+    go true o =
+        let k : answerOn a (Start (fields c .slots) (fields c .delay)) ≡ x = rw (start-is c o) at e in
+        absurd (n (sym k ∙ start-answer a (fields c .slots) (fields c .delay) (rw k r) .1))
+    go false o = accepted-sound a c o (rw e r)
 
 -- ---- calls
 
@@ -150,19 +136,19 @@ step-on a c z f =
     go true e w = refused-area a c e z (refused-still (decoded a) c (sym (ap isRefused w) ∙ e))
     go false e w =
         let s = sound-area a z .sound-state in
-        let t = kept-sound (decoded a) c s in
-        accepted-area a c e (sound-ok (outcome (decoded a) c .state) t (kept-narrow (decoded a) c s f (decoded-deadline a))) t
+        let t = stays-sound (decoded a) c s in
+        accepted-area a c e (sound-ok (outcome (decoded a) c .state) t (stays-narrow (decoded a) c s f (decoded-deadline a))) t
 
 -- a start on any area that is long enough
 pub start-on : (a : List ℕ) (slots delay : ℕ) → 65536 ≤ length a → 1 ≤ slots → slots ≤ 64 → 1 ≤ delay → delay ≤ 255
     → (answerOn a (Start slots delay) ≡ Started)
     × (decoded (areaAfter a (Start slots delay)) ≡ fresh slots delay)
     × (soundArea (areaAfter a (Start slots delay)) ≡ true)
-unfolding unfit outcome started word
+unfolding outcome started word
 start-on a slots delay n h i j k =
     let r = start-accepted slots delay h i j k in
     let o : outcome (decoded a) (Start slots delay) ≡ record { state = fresh slots delay; answer = Started } = rw r in
-    let w : answerOn a (Start slots delay) ≡ Started = fit-answer a (Start slots delay) (le-ltb (length a) 65536 n) ∙ rw o in
+    let w : answerOn a (Start slots delay) ≡ Started = fit-answer a (Start slots delay) (unfit-start a slots delay ∙ le-ltb (length a) 65536 n) ∙ rw o in
     let z = fresh-sound slots delay h i j k in
     let x = accepted-area a (Start slots delay) (rw w) (rw o (sound-ok (fresh slots delay) z (fresh-narrow slots delay))) (rw o z) in
     (w, x .0 ∙ rw o, x .1)

@@ -1,3 +1,4 @@
 pub mod SlotWords
-pub mod Runs
 pub mod RefusalTable
+pub mod SessionNumbers
+pub mod Runs

@@ -1,4 +1,4 @@
--- Document 01, "State", a page in a slot, as docs/LAYOUT.md lays it out.
+-- Document 01, "State", a page in a slot and a row's deadline, as docs/LAYOUT.md lays them out.
 use mathlib.Core.List.{List}
 use Prim.Native.Nat.{ℕ, _+_, _*_}
 use Rattle.words.specs.Bytes.{wordAt}
@@ -9,3 +9,7 @@ filledWord a slot = wordAt a (2560 + slot * 64)
 
 abbrev pub pageWord : List ℕ → ℕ → ℕ
 pageWord a slot = wordAt a (2560 + slot * 64 + 8)
+
+-- the fourth word of a row is its deadline
+abbrev pub deadlineWord : List ℕ → ℕ → ℕ
+deadlineWord a row = wordAt a (512 + row * 64 + 24)

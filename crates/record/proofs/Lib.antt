@@ -1,4 +1,3 @@
-pub mod FieldLaws
 pub mod RecordLaws
 pub mod TextLaws
 pub mod DecimalLaws

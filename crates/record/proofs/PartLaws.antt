@@ -1,18 +1,19 @@
 -- An input played in parts prints what it prints whole, and once a run is over nothing follows.
 use mathlib.Core.Path.{_≡_, refl, _∙_, sym, ap}
-use mathlib.Core.Bool.{Bool, true, false, cond}
+use mathlib.Core.Bool.{Bool, true, cond}
 use mathlib.Core.List.{List, [], _∷_, _++_, append-assoc, append-nil}
-use Prim.Native.Nat.{ℕ, zero, suc, _+_, _*_, _<_, _≤_}
+use Prim.Native.Nat.{ℕ, zero, suc, _+_, _*_, _≤_}
 use native.Mathlib.Nat.{add-suc, add-zero}
 use native.Mathlib.Omega.{arith}
-use lib.ListN.{length, take, drop, length-append}
+use lib.ListN.{length, drop, length-append}
 use lib.Seq.{drop-append-add}
 use Rattle.words.specs.Bytes.{part}
 use Rattle.words.proofs.JoinLaws.{part-front}
 use Rattle.record.specs.declared.Progress.{Progress}
 use Rattle.record.specs.Record.{recordOf}
 use Rattle.record.specs.Text.{header}
-use Rattle.record.specs.Play.{Played, admitted, playedRecord, playedOne, andOne, played, records, firstProgress, printed, AllWhole, inputOf, partTexts}
+use Rattle.record.specs.Play.{Played, admitted, playedRecord, playedOne, andOne, played, records, firstProgress, printed}
+use Rattle.record.specs.Inner.Parts.{AllWhole, inputOf, partTexts}
 
 -- a run that goes on where another stands
 abbrev pub goingOn : Played → Played → Played

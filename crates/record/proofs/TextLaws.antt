@@ -1,19 +1,22 @@
 -- Lists written one after another, and how long the parts of a line are.
-use mathlib.Core.Path.{_≡_, refl, _∙_, sym, ap}
+use mathlib.Core.Path.{_≡_, refl, _∙_, sym}
 use mathlib.Core.Bool.{Bool, true, false, cond, _&&_}
-use mathlib.Core.List.{List, [], _∷_, _++_}
+use mathlib.Core.List.{List, [], _∷_, _++_, map, append-assoc, append-nil}
 use Prim.Native.Nat.{ℕ, zero, suc, _+_, _-_, _/_, _%_, _<_, _≤_}
 use native.Mathlib.Nat.{add-zero}
 use native.Mathlib.Numerals.{add-one, sub-one}
+use native.Mathlib.Decide.{decLt}
 use native.Mathlib.Omega.{arith}
-use borrow.Author.Tests.{lt-ltb, le-ltb, leb-true}
+use borrow.Author.Tests.{lt-ltb, le-ltb, leb-true, ne-eqb}
 use lib.Dec.{ltb, leb}
-use lib.ListN.{length, getD, take, set, length-append, List·getD-eq-default}
-use lib.Seq.{take-suc, take-all, length-take-le, sets-eq}
+use lib.ListN.{length, getD, take, drop, set, replicate, length-append, drop-of-length-le}
+use lib.Seq.{take-suc, length-take-le, sets-eq, drop-cons}
 use Rattle.seq.proofs.Tests.{and-left, and-right}
-use Rattle.words.specs.Bytes.{spliced}
+use Rattle.words.specs.Bytes.{spliced, same}
 use Rattle.words.proofs.SpliceLaws.{spliced-length, spliced-none, spliced-more}
-use Rattle.record.specs.Text.{digits, decimal, words, wordText, orDash, headText, tailText, lineOf, Wrote}
+use Rattle.words.proofs.SameLaws.{same-true}
+use Rattle.record.specs.Text.{digits, decimal, words, wordText, orDash, headText, tailText, lineOf}
+use Rattle.record.specs.Inner.Written.{upToZero, Wrote}
 
 pub set-spliced : (a : List ℕ) (at b : ℕ) → at < length a → set a at b ≡ spliced a at (b ∷ [])
 set-spliced a at b h = sets-eq (b ∷ []) a at (omega arith)
@@ -31,17 +34,35 @@ wrote-more a b d at n m xs ys v w h = record {
   holds = w .holds ∙ rw (v .holds) (spliced-more a at xs ys n (sym (v .ends)) h);
 }
 
--- one turn of a loop that writes a list, and its end
-module _ (a b : List ℕ) (at : ℕ) (xs : List ℕ) (i : ℕ) (e : b ≡ spliced a at (take i xs)) where
-  pub text-turn : at + length xs ≤ length a → i < length xs → set b (at + i) (getD xs i 0) ≡ spliced a at (take (i + 1) xs)
-  text-turn h l =
-      let n : at + length (take i xs) ≡ at + i = rw (length-take-le i xs (omega arith)) in
-      let k : length b ≡ length a = rw e (spliced-length a at (take i xs) (omega arith)) in
-      set-spliced b (at + i) (getD xs i 0) (omega arith)
-      ∙ rw (e, add-one i, take-suc xs i 0 l) (spliced-more a at (take i xs) (getD xs i 0 ∷ []) (at + i) n (omega arith))
+-- where a loop that writes a text stands before byte i
+pub record Texted (a : List ℕ) (at : ℕ) (xs : List ℕ) (i : ℕ) (b : List ℕ) : Type 0 where
+  pub written : b ≡ spliced a at (take i xs)
+  pub letters : upToZero xs ≡ take i xs ++ upToZero (drop i xs)
 
-  pub text-end : i ≡ length xs → Wrote a at xs b (at + length xs)
-  text-end l = record { ends = refl; holds = e ∙ rw (take-all i xs (omega arith)) }
+pub texted-none : (a : List ℕ) (at : ℕ) (xs : List ℕ) → Texted a at xs 0 a
+texted-none a at xs = record { written = spliced-none a at; letters = refl }
+
+module _ (a b : List ℕ) (at : ℕ) (xs : List ℕ) (i : ℕ) (t : Texted a at xs i b) where
+  pub texted-more : at + length xs ≤ length a → i < length xs → (getD xs i 0 ≡ 0 → ⊥) → Texted a at xs (i + 1) (set b (at + i) (getD xs i 0))
+  unfolding upToZero
+  texted-more h l f =
+      let n : at + length (take i xs) ≡ at + i = rw (length-take-le i xs (omega arith)) in
+      let k : length b ≡ length a = rw (t .written) (spliced-length a at (take i xs) (omega arith)) in
+      record {
+        written = set-spliced b (at + i) (getD xs i 0) (omega arith) ∙ rw (t .written, add-one i, take-suc xs i 0 l) (spliced-more a at (take i xs) (getD xs i 0 ∷ []) (at + i) n (omega arith));
+        letters = t .letters ∙ rw (drop-cons xs i 0 l, ne-eqb (getD xs i 0) 0 f, add-one i, take-suc xs i 0 l) (sym (append-assoc (take i xs) (getD xs i 0 ∷ []) (upToZero (drop (suc i) xs))));
+      }
+
+  -- a text ends at a zero byte, or where its bytes end
+  pub texted-end : i ≤ length xs → (i < length xs → getD xs i 0 ≡ 0) → Wrote a at (upToZero xs) b (at + i)
+  unfolding upToZero
+  texted-end h z = rw e (record { ends = rw (length-take-le i xs h); holds = t .written })
+    where
+      none : upToZero (drop i xs) ≡ []
+      none = elim (decLt i (length xs)) [ yes l ↦ rw (drop-cons xs i 0 l, z l) | no l ↦ rw (drop-of-length-le xs {i = i} (omega arith)) ]
+
+      e : upToZero xs ≡ take i xs
+      e = t .letters ∙ rw none (append-nil (take i xs))
 
 -- digits: none, one, and those of the tenth part with one more
 pub no-digits : (a : List ℕ) (at k n : ℕ) → k ≡ 0 → Wrote a at (digits k n) a at
@@ -80,27 +101,36 @@ wrote-five a b1 b2 b3 b4 b5 at n1 n2 n3 n4 n5 x1 x2 x3 x4 x5 w1 w2 w3 w4 w5 h =
     w5
     h
 
--- a word has at most 8 letters, and a number past the last word is none
-allShort : ℕ → List (List ℕ) → Bool
-allShort m [] = true
-allShort m (l ∷ ls) = leb (length l) m && allShort m ls
+-- a word in eight bytes, as the code's table has it
+abbrev padded : List ℕ → List ℕ
+padded w = take 8 (w ++ replicate 8 0)
 
-each-short : (m : ℕ) (ls : List (List ℕ)) → allShort m ls ≡ true → (n : ℕ) → length (getD ls n []) ≤ m
-unfolding allShort
-each-short m [] h n = omega arith
-each-short m (l ∷ ls) h zero = leb-true (length l) m (and-left (leb (length l) m) (allShort m ls) h)
-each-short m (l ∷ ls) h (suc n) = each-short m ls (and-right (leb (length l) m) (allShort m ls) h) n
+-- each word has at most eight letters, and is what its eight bytes are read as
+allFit : List (List ℕ) → Bool
+allFit [] = true
+allFit (w ∷ ws) = leb (length w) 8 && same (upToZero (padded w)) w && allFit ws
+
+each-fits : (ws : List (List ℕ)) → allFit ws ≡ true → (n : ℕ) → (length (getD ws n []) ≤ 8) × (upToZero (getD (map padded ws) n []) ≡ getD ws n [])
+unfolding allFit upToZero
+each-fits [] h n = (omega arith, refl)
+each-fits (w ∷ ws) h n =
+    let p = and-left (leb (length w) 8 && same (upToZero (padded w)) w) (allFit ws) h in
+    let q = and-right (leb (length w) 8 && same (upToZero (padded w)) w) (allFit ws) h in
+    elim n [
+      | zero ↦ (leb-true (length w) 8 (and-left _ (same (upToZero (padded w)) w) p), same-true _ _ (and-right (leb (length w) 8) _ p))
+      | suc m ↦ each-fits ws q m
+    ]
+
+-- one test, computed over all words
+word-fits : (n : ℕ) → (length (wordText n) ≤ 8) × (upToZero (getD (map padded words) n []) ≡ wordText n)
+unfolding words allFit upToZero same
+word-fits n = each-fits words refl n
 
 pub word-most : (n : ℕ) → length (wordText n) ≤ 8
-unfolding words allShort
-word-most n = each-short 8 words refl n
+word-most n = word-fits n .0
 
-pub above : (n k : ℕ) → k ≤ n → (n ≡ k → ⊥) → suc k ≤ n
-above n k h f = omega arith
-
-pub no-word : (n : ℕ) → 19 ≤ n → wordText n ≡ []
-unfolding words
-no-word n h = List·getD-eq-default words [] h
+pub wrote-word : (a b : List ℕ) (at m n : ℕ) → Wrote a at (upToZero (getD (map padded words) n [])) b m → Wrote a at (wordText n) b m
+wrote-word a b at m n w = rw (word-fits n .1) at w
 
 pub dash-most : (n : ℕ) → length (orDash n) ≤ 20
 dash-most zero = omega arith

@@ -1,8 +1,6 @@
 -- Document 01, "The player": records played one after another on an area, and the text that comes out.
-use Prim.{Unit}
-use mathlib.Core.Path.{_≡_}
 use mathlib.Core.Bool.{Bool, true, false, cond, not, _||_}
-use mathlib.Core.List.{List, [], _∷_, _++_}
+use mathlib.Core.List.{List, [], _++_}
 use Prim.Native.Nat.{ℕ, zero, suc, _+_, _*_, _/_}
 use lib.Dec.{eqb}
 use lib.ListN.{length}
@@ -10,42 +8,32 @@ use Rattle.words.specs.Bytes.{part}
 use Rattle.model.specs.declared.Answer.{Answer}
 use Rattle.model.specs.declared.Answer.the-variants.{Refused}
 use Rattle.rules.specs.Answers.{word}
-use Rattle.model.specs.declared.Call.{Call}
-use Rattle.model.specs.declared.Call.the-variants.{Start, Begin, Request, Retry, Unpin, End, Tick, Look, View, Count}
+use Rattle.rules.specs.Content.{isStart}
 use Rattle.sabre.specs.Lent.{answerOn, areaAfter, answerNumbers}
 use Rattle.record.specs.declared.Progress.{Progress}
-use Rattle.record.specs.Record.{Record, bad, call, recordOf}
+use Rattle.record.specs.declared.Input.{Input}
+use Rattle.record.specs.declared.Input.the-variants.{Bad, Good}
+use Rattle.record.specs.Record.{recordOf}
 use Rattle.record.specs.Text.{lineOf, header}
 
-abbrev pub isBad : Record → Bool
-isBad bad = true
-isBad (call c) = false
-
-abbrev pub isStart : Record → Bool
-isStart bad = false
-isStart (call (Start slots delay)) = true
-isStart (call (Begin level number deadline)) = false
-isStart (call (Request level number page mode)) = false
-isStart (call (Retry level number)) = false
-isStart (call (Unpin level number page)) = false
-isStart (call (End level number)) = false
-isStart (call Tick) = false
-isStart (call (Look level number)) = false
-isStart (call (View level page)) = false
-isStart (call (Count level)) = false
+abbrev pub isBad : Input → Bool
+isBad Bad = true
+isBad (Good c) = false
 
 -- before an accepted start every record of another kind is bad
-unfoldable pub admitted : Bool → Record → Record
-admitted started r = cond (started || isStart r) r bad
+unfoldable pub admitted : Bool → Input → Input
+admitted true r = r
+admitted false Bad = Bad
+admitted false (Good c) = cond (isStart c) (Good c) Bad
 
 -- refusal 18 comes before any call; else the call is made
-unfoldable pub answerTo : List ℕ → Record → Answer
-answerTo a bad = Refused 18
-answerTo a (call c) = answerOn a c
+unfoldable pub answerTo : List ℕ → Input → Answer
+answerTo a Bad = Refused 18
+answerTo a (Good c) = answerOn a c
 
-unfoldable pub areaWith : List ℕ → Record → List ℕ
-areaWith a bad = a
-areaWith a (call c) = areaAfter a c
+unfoldable pub areaWith : List ℕ → Input → List ℕ
+areaWith a Bad = a
+areaWith a (Good c) = areaAfter a c
 
 -- where a run stands, what it has made of the area, and what it has printed
 pub record Played : Type 0 where
@@ -54,11 +42,11 @@ pub record Played : Type 0 where
   pub text : List ℕ
 
 -- the progress after a record answered with a word: whether a start was accepted, whether the run is over, the next record's number
-unfoldable pub nextProgress : Progress → Record → ℕ → Progress
+unfoldable pub nextProgress : Progress → Input → ℕ → Progress
 nextProgress t r word = record { started = t .started || not (eqb word 0); over = isBad r; number = t .number + 1 }
 
 -- a record that was admitted: its line, and the run ends after a bad one
-unfoldable pub playedRecord : Progress → List ℕ → Record → Played
+unfoldable pub playedRecord : Progress → List ℕ → Input → Played
 playedRecord t a r = record {
   progress = nextProgress t r (word (answerTo a r));
   area = areaWith a r;
@@ -88,17 +76,3 @@ firstProgress = record { started = false; over = false; number = 1 }
 -- what the player prints for its whole input, on any area
 unfoldable pub printed : List ℕ → List ℕ → List ℕ
 printed a input = header ++ played (records input) firstProgress a input .text
-
--- an input that is read in parts: each has whole records but the last
-abbrev pub AllWhole : List (List ℕ) → Type 0
-AllWhole [] = Unit {0}
-AllWhole (x ∷ xs) = (length x ≡ records x * 12) × AllWhole xs
-
-unfoldable pub inputOf : List (List ℕ) → List ℕ → List ℕ
-inputOf [] last = last
-inputOf (x ∷ xs) last = x ++ inputOf xs last
-
--- the texts of the parts, each played where the one before it ended
-unfoldable pub partTexts : Progress → List ℕ → List (List ℕ) → List ℕ → List ℕ
-partTexts t a [] last = played (records last) t a last .text
-partTexts t a (x ∷ xs) last = let p = played (records x) t a x in p .text ++ partTexts (p .progress) (p .area) xs last

@@ -1,11 +1,9 @@
 -- Document 01, "The player": the line of an answer, as bytes.
-use mathlib.Core.Path.{_≡_}
 use mathlib.Core.Bool.{cond}
 use mathlib.Core.List.{List, [], _∷_, _++_}
 use Prim.Native.Nat.{ℕ, zero, suc, _+_, _/_, _%_}
 use lib.Dec.{ltb}
-use lib.ListN.{length, getD}
-use Rattle.words.specs.Bytes.{spliced}
+use lib.ListN.{getD}
 
 -- a number in decimal without leading zeros, if it has at most k digits
 unfoldable pub digits : ℕ → ℕ → List ℕ
@@ -16,28 +14,28 @@ digits (suc k) n = cond (ltb n 10) ((48 + n) ∷ []) (digits k (n / 10) ++ ((48 
 abbrev pub decimal : ℕ → List ℕ
 decimal n = digits 20 n
 
--- the words in the order of their numbers: refused, started, begun, ready, fetch, wait, unpinned, ended, clock, none, idle, late, taken, unseen, active, read, write, dormant, open
+-- the words in the order of their numbers
 unfoldable pub words : List (List ℕ)
 words =
-    (114 ∷ 101 ∷ 102 ∷ 117 ∷ 115 ∷ 101 ∷ 100 ∷ []) ∷
-    (115 ∷ 116 ∷ 97 ∷ 114 ∷ 116 ∷ 101 ∷ 100 ∷ []) ∷
-    (98 ∷ 101 ∷ 103 ∷ 117 ∷ 110 ∷ []) ∷
-    (114 ∷ 101 ∷ 97 ∷ 100 ∷ 121 ∷ []) ∷
-    (102 ∷ 101 ∷ 116 ∷ 99 ∷ 104 ∷ []) ∷
-    (119 ∷ 97 ∷ 105 ∷ 116 ∷ []) ∷
-    (117 ∷ 110 ∷ 112 ∷ 105 ∷ 110 ∷ 110 ∷ 101 ∷ 100 ∷ []) ∷
-    (101 ∷ 110 ∷ 100 ∷ 101 ∷ 100 ∷ []) ∷
-    (99 ∷ 108 ∷ 111 ∷ 99 ∷ 107 ∷ []) ∷
-    (110 ∷ 111 ∷ 110 ∷ 101 ∷ []) ∷
-    (105 ∷ 100 ∷ 108 ∷ 101 ∷ []) ∷
-    (108 ∷ 97 ∷ 116 ∷ 101 ∷ []) ∷
-    (116 ∷ 97 ∷ 107 ∷ 101 ∷ 110 ∷ []) ∷
-    (117 ∷ 110 ∷ 115 ∷ 101 ∷ 101 ∷ 110 ∷ []) ∷
-    (97 ∷ 99 ∷ 116 ∷ 105 ∷ 118 ∷ 101 ∷ []) ∷
-    (114 ∷ 101 ∷ 97 ∷ 100 ∷ []) ∷
-    (119 ∷ 114 ∷ 105 ∷ 116 ∷ 101 ∷ []) ∷
-    (100 ∷ 111 ∷ 114 ∷ 109 ∷ 97 ∷ 110 ∷ 116 ∷ []) ∷
-    (111 ∷ 112 ∷ 101 ∷ 110 ∷ []) ∷
+    (114 ∷ 101 ∷ 102 ∷ 117 ∷ 115 ∷ 101 ∷ 100 ∷ []) ∷  -- refused
+    (115 ∷ 116 ∷ 97 ∷ 114 ∷ 116 ∷ 101 ∷ 100 ∷ []) ∷  -- started
+    (98 ∷ 101 ∷ 103 ∷ 117 ∷ 110 ∷ []) ∷  -- begun
+    (114 ∷ 101 ∷ 97 ∷ 100 ∷ 121 ∷ []) ∷  -- ready
+    (102 ∷ 101 ∷ 116 ∷ 99 ∷ 104 ∷ []) ∷  -- fetch
+    (119 ∷ 97 ∷ 105 ∷ 116 ∷ []) ∷  -- wait
+    (117 ∷ 110 ∷ 112 ∷ 105 ∷ 110 ∷ 110 ∷ 101 ∷ 100 ∷ []) ∷  -- unpinned
+    (101 ∷ 110 ∷ 100 ∷ 101 ∷ 100 ∷ []) ∷  -- ended
+    (99 ∷ 108 ∷ 111 ∷ 99 ∷ 107 ∷ []) ∷  -- clock
+    (110 ∷ 111 ∷ 110 ∷ 101 ∷ []) ∷  -- none
+    (105 ∷ 100 ∷ 108 ∷ 101 ∷ []) ∷  -- idle
+    (108 ∷ 97 ∷ 116 ∷ 101 ∷ []) ∷  -- late
+    (116 ∷ 97 ∷ 107 ∷ 101 ∷ 110 ∷ []) ∷  -- taken
+    (117 ∷ 110 ∷ 115 ∷ 101 ∷ 101 ∷ 110 ∷ []) ∷  -- unseen
+    (97 ∷ 99 ∷ 116 ∷ 105 ∷ 118 ∷ 101 ∷ []) ∷  -- active
+    (114 ∷ 101 ∷ 97 ∷ 100 ∷ []) ∷  -- read
+    (119 ∷ 114 ∷ 105 ∷ 116 ∷ 101 ∷ []) ∷  -- write
+    (100 ∷ 111 ∷ 114 ∷ 109 ∷ 97 ∷ 110 ∷ 116 ∷ []) ∷  -- dormant
+    (111 ∷ 112 ∷ 101 ∷ 110 ∷ []) ∷  -- open
     []
 
 abbrev pub wordText : ℕ → List ℕ
@@ -59,12 +57,12 @@ tailText slot back = (32 ∷ 124 ∷ 32 ∷ []) ++ orDash slot ++ (32 ∷ []) ++
 unfoldable pub lineOf : ℕ → List ℕ → List ℕ
 lineOf number answer = headText number (getD answer 0 0) (getD answer 1 0) ++ tailText (getD answer 2 0) (getD answer 3 0)
 
--- `call word value | slot back`
 unfoldable pub header : List ℕ
 header =
-    99 ∷ 97 ∷ 108 ∷ 108 ∷ 32 ∷ 119 ∷ 111 ∷ 114 ∷ 100 ∷ 32 ∷ 118 ∷ 97 ∷ 108 ∷ 117 ∷ 101 ∷ 32 ∷ 124 ∷ 32 ∷ 115 ∷ 108 ∷ 111 ∷ 116 ∷ 32 ∷ 98 ∷ 97 ∷ 99 ∷ 107 ∷ 10 ∷ []
-
--- a list was written over a at a place: b is what a became, and n the place past the list
-pub record Wrote (a : List ℕ) (at : ℕ) (xs b : List ℕ) (n : ℕ) : Type 0 where
-  pub ends : n ≡ at + length xs
-  pub holds : b ≡ spliced a at xs
+    99 ∷ 97 ∷ 108 ∷ 108 ∷ 32 ∷  -- call
+    119 ∷ 111 ∷ 114 ∷ 100 ∷ 32 ∷  -- word
+    118 ∷ 97 ∷ 108 ∷ 117 ∷ 101 ∷ 32 ∷  -- value
+    124 ∷ 32 ∷  -- |
+    115 ∷ 108 ∷ 111 ∷ 116 ∷ 32 ∷  -- slot
+    98 ∷ 97 ∷ 99 ∷ 107 ∷ 10 ∷  -- back, and a line feed
+    []

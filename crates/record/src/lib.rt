@@ -1,58 +1,21 @@
 // The player's records and lines, and the playing of records on an area.
+use model::Call;
 ghost use mathlib.Core.Path.{_≡_};
 ghost use Prim.Native.Nat.{_+_, _*_, _^_, _<_, _≤_};
-ghost use mathlib.Core.Bool.{false};
 ghost use mathlib.Core.List.{[], _∷_};
 ghost use lib.ListN.{length};
 ghost use Rattle.words.specs.Bytes.{part};
-ghost use Rattle.record.specs.Record.{field, ofKind, recordOf, meant};
+ghost use Rattle.rules.specs.Content.{isStart};
+ghost use Rattle.record.specs.Record.{field, ofKind, recordOf};
 ghost use Rattle.sabre.specs.Lent.{status, answerNumbers};
 ghost use Rattle.record.specs.Play.{isBad, admitted, answerTo, areaWith, nextProgress, playedOne, records, played, firstProgress};
-ghost use Rattle.record.specs.Text.{digits, decimal, wordText, orDash, headText, tailText, lineOf, header, Wrote};
+ghost use Rattle.record.specs.Text.{digits, decimal, wordText, orDash, headText, tailText, lineOf, header};
+ghost use Rattle.record.specs.Inner.Written.{upToZero, Wrote};
 
-// A record of the player: the call that it names, or a bad record.
+// A record of the player: a good one names a call.
 pub enum Input {
     Bad,
-    Start {
-        slots: u32,
-        delay: u32,
-    },
-    Begin {
-        level: u32,
-        row: u32,
-        deadline: u32,
-    },
-    Request {
-        level: u32,
-        row: u32,
-        page: u32,
-        mode: u32,
-    },
-    Unpin {
-        level: u32,
-        row: u32,
-        page: u32,
-    },
-    End {
-        level: u32,
-        row: u32,
-    },
-    Retry {
-        level: u32,
-        row: u32,
-    },
-    Tick,
-    Look {
-        level: u32,
-        row: u32,
-    },
-    View {
-        level: u32,
-        page: u32,
-    },
-    Count {
-        level: u32,
-    },
+    Good(Call),
 }
 
 // A run's progress: whether a start was accepted, whether it is over, and the next record's number.
@@ -74,88 +37,81 @@ fn wide(x: u8) -> u32
     x as u32
 }
 
-// A field of one byte, of two and of four.
-fn byte(bytes: &[u8], at: usize) -> u32
-    requires { ⌜ at < length (now bytes) ⌝ }
-    ensures { λ r. ⌜ (r ≡ field (now (bytes .entry)) at 1) × (r < 256) ⌝ }
+// The number in up to four bytes from a place on, the most significant byte first.
+fn number_at(bytes: &[u8], at: usize, n: usize) -> u32
+    requires { ⌜ (n ≤ 4) × (at + n ≤ length (now bytes)) ⌝ }
+    ensures { λ r. ⌜ r ≡ field (now (bytes .entry)) at n ⌝ }
 {
-    wide(bytes[at])
-}
-
-fn half(bytes: &[u8], at: usize) -> u32
-    requires { ⌜ at + 2 ≤ length (now bytes) ⌝ }
-    ensures { λ r. ⌜ (r ≡ field (now (bytes .entry)) at 2) × (r < 65536) ⌝ }
-{
-    let high = byte(bytes, at);
-    let low = byte(bytes, at + 1);
-    high * 256 + low
-}
-
-fn word(bytes: &[u8], at: usize) -> u32
-    requires { ⌜ at + 4 ≤ length (now bytes) ⌝ }
-    ensures { λ r. ⌜ r ≡ field (now (bytes .entry)) at 4 ⌝ }
-{
-    let high = half(bytes, at);
-    let low = half(bytes, at + 2);
-    high * 65536 + low
+    let mut x = 0;
+    for i in 0..n {
+        x = x * 256 + wide(bytes[at + i]);
+    }
+    x
 }
 
 // The call of a kind.
-fn input_of(kind: u32, level: u32, row: u32, mode: u32, page: u32, value: u32) -> Input
-    ensures { λ r. ⌜ meant r ≡ ofKind kind level row mode page value ⌝ }
+fn input_of(kind: u32, level: u32, number: u32, mode: u32, page: u32, value: u32) -> Input
+    ensures { λ r. ⌜ r ≡ ofKind kind level number mode page value ⌝ }
 {
     match kind {
-        0 => Input::Start {
+        0 => Input::Good(Call::Start {
             slots: page,
             delay: value,
-        },
-        1 => Input::Begin {
+        }),
+        1 => Input::Good(Call::Begin {
             level,
-            row,
+            number,
             deadline: value,
-        },
-        2 => Input::Request {
+        }),
+        2 => Input::Good(Call::Request {
             level,
-            row,
+            number,
             page,
             mode,
-        },
-        3 => Input::Unpin { level, row, page },
-        4 => Input::End { level, row },
-        5 => Input::Retry { level, row },
-        6 => Input::Tick,
-        7 => Input::Look { level, row },
-        8 => Input::View { level, page },
-        9 => Input::Count { level },
+        }),
+        3 => Input::Good(Call::Unpin {
+            level,
+            number,
+            page,
+        }),
+        4 => Input::Good(Call::End { level, number }),
+        5 => Input::Good(Call::Retry { level, number }),
+        6 => Input::Good(Call::Tick),
+        7 => Input::Good(Call::Look { level, number }),
+        8 => Input::Good(Call::View { level, page }),
+        9 => Input::Good(Call::Count { level }),
         _ => Input::Bad,
     }
 }
 
 // The record in some bytes: bad if they are not 12, or the mark is another, or the kind.
 pub fn read_record(bytes: &[u8]) -> Input
-    ensures { λ r. ⌜ meant r ≡ recordOf (now (bytes .entry)) ⌝ }
+    ensures { λ r. ⌜ r ≡ recordOf (now (bytes .entry)) ⌝ }
 {
     if bytes.len() != 12 {
         return Input::Bad;
     }
-    if half(bytes, 0) != 0xC35A {
+    if number_at(bytes, 0, 2) != 0xC35A {
         return Input::Bad;
     }
-    let kind = byte(bytes, 2);
-    let level = byte(bytes, 3);
-    let row = byte(bytes, 4);
-    let mode = byte(bytes, 5);
-    let page = half(bytes, 6);
-    let value = word(bytes, 8);
-    input_of(kind, level, row, mode, page, value)
+    let kind = number_at(bytes, 2, 1);
+    let level = number_at(bytes, 3, 1);
+    let number = number_at(bytes, 4, 1);
+    let mode = number_at(bytes, 5, 1);
+    let page = number_at(bytes, 6, 2);
+    let value = number_at(bytes, 8, 4);
+    input_of(kind, level, number, mode, page, value)
 }
 
-// Some bytes, written at a place. Each of these answers the place past what it wrote.
+// A text, written at a place; it ends at its first zero byte, if it has one. Each of these answers the place past what it wrote.
 fn put_text(out: &mut [u8], at: usize, text: &[u8]) -> usize
     requires { ⌜ at + length (now text) ≤ length (now out) ⌝ }
-    ensures { λ r. ⌜ Wrote (now (out .entry)) at (now (text .entry)) (now (out .exit)) r ⌝ }
+    ensures { λ r. ⌜ Wrote (now (out .entry)) at (upToZero (now (text .entry))) (now (out .exit)) r ⌝ }
 {
     for i in 0..text.len() {
+        if text[i] == 0 {
+            return at + i;
+        }
         out[at + i] = text[i];
     }
     at + text.len()
@@ -191,32 +147,38 @@ fn put_number(out: &mut [u8], at: usize, n: u64) -> usize
     put_digits(out, at, n, 20)
 }
 
+// The words in the order of their numbers, each ended by a zero byte or by its eighth letter.
+const WORDS: [[u8; 8]; 19] = [
+    *b"refused\0",
+    *b"started\0",
+    *b"begun\0\0\0",
+    *b"ready\0\0\0",
+    *b"fetch\0\0\0",
+    *b"wait\0\0\0\0",
+    *b"unpinned",
+    *b"ended\0\0\0",
+    *b"clock\0\0\0",
+    *b"none\0\0\0\0",
+    *b"idle\0\0\0\0",
+    *b"late\0\0\0\0",
+    *b"taken\0\0\0",
+    *b"unseen\0\0",
+    *b"active\0\0",
+    *b"read\0\0\0\0",
+    *b"write\0\0\0",
+    *b"dormant\0",
+    *b"open\0\0\0\0",
+];
+
 fn put_word(out: &mut [u8], at: usize, word: u64) -> usize
     requires { ⌜ at + 8 ≤ length (now out) ⌝ }
     ensures { λ r. ⌜ Wrote (now (out .entry)) at (wordText word) (now (out .exit)) r ⌝ }
 {
-    match word {
-        0 => put_text(out, at, b"refused"),
-        1 => put_text(out, at, b"started"),
-        2 => put_text(out, at, b"begun"),
-        3 => put_text(out, at, b"ready"),
-        4 => put_text(out, at, b"fetch"),
-        5 => put_text(out, at, b"wait"),
-        6 => put_text(out, at, b"unpinned"),
-        7 => put_text(out, at, b"ended"),
-        8 => put_text(out, at, b"clock"),
-        9 => put_text(out, at, b"none"),
-        10 => put_text(out, at, b"idle"),
-        11 => put_text(out, at, b"late"),
-        12 => put_text(out, at, b"taken"),
-        13 => put_text(out, at, b"unseen"),
-        14 => put_text(out, at, b"active"),
-        15 => put_text(out, at, b"read"),
-        16 => put_text(out, at, b"write"),
-        17 => put_text(out, at, b"dormant"),
-        18 => put_text(out, at, b"open"),
-        _ => at,
+    let n = word as usize;
+    if n < WORDS.len() {
+        return put_text(out, at, &WORDS[n]);
     }
+    at
 }
 
 // A number told as that number plus one, `-` for 0.
@@ -273,75 +235,37 @@ pub fn put_header(out: &mut [u8]) -> usize
 }
 
 fn is_bad(input: Input) -> bool
-    ensures { λ r. ⌜ r ≡ isBad (meant input) ⌝ }
+    ensures { λ r. ⌜ r ≡ isBad input ⌝ }
 {
     match input {
         Input::Bad => true,
-        Input::Start { slots: _, delay: _ } => false,
-        Input::Begin {
-            level: _,
-            row: _,
-            deadline: _,
-        } => false,
-        Input::Request {
-            level: _,
-            row: _,
-            page: _,
-            mode: _,
-        } => false,
-        Input::Unpin {
-            level: _,
-            row: _,
-            page: _,
-        } => false,
-        Input::End { level: _, row: _ } => false,
-        Input::Retry { level: _, row: _ } => false,
-        Input::Tick => false,
-        Input::Look { level: _, row: _ } => false,
-        Input::View { level: _, page: _ } => false,
-        Input::Count { level: _ } => false,
+        Input::Good(_) => false,
+    }
+}
+
+fn is_start(call: Call) -> bool
+    ensures { λ r. ⌜ r ≡ isStart call ⌝ }
+{
+    match call {
+        Call::Start { slots: _, delay: _ } => true,
+        _ => false,
     }
 }
 
 // Before an accepted start a record of another kind is bad.
-fn unstarted(input: Input) -> Input
-    ensures { λ r. ⌜ meant r ≡ admitted false (meant input) ⌝ }
-{
-    match input {
-        Input::Bad => Input::Bad,
-        Input::Start { slots, delay } => Input::Start { slots, delay },
-        Input::Begin {
-            level: _,
-            row: _,
-            deadline: _,
-        } => Input::Bad,
-        Input::Request {
-            level: _,
-            row: _,
-            page: _,
-            mode: _,
-        } => Input::Bad,
-        Input::Unpin {
-            level: _,
-            row: _,
-            page: _,
-        } => Input::Bad,
-        Input::End { level: _, row: _ } => Input::Bad,
-        Input::Retry { level: _, row: _ } => Input::Bad,
-        Input::Tick => Input::Bad,
-        Input::Look { level: _, row: _ } => Input::Bad,
-        Input::View { level: _, page: _ } => Input::Bad,
-        Input::Count { level: _ } => Input::Bad,
-    }
-}
-
 fn admit(started: bool, input: Input) -> Input
-    ensures { λ r. ⌜ meant r ≡ admitted started (meant input) ⌝ }
+    ensures { λ r. ⌜ r ≡ admitted started input ⌝ }
 {
     if started {
         return input;
     }
-    unstarted(input)
+    let Input::Good(call) = input else {
+        return Input::Bad;
+    };
+    if is_start(call) {
+        return input;
+    }
+    Input::Bad
 }
 
 // Refusal 18.
@@ -354,31 +278,13 @@ fn refuse(answer: &mut [u64; 4]) -> u32
 
 // The call of a record, made on the area.
 fn make_call(area: &mut [u8], input: Input, answer: &mut [u64; 4]) -> u32
-    ensures returned { λ r. ⌜ r ≡ status (answerTo (now (area .entry)) (meant input)) ⌝ }
-    ensures told { λ _. ⌜ now (answer .exit) ≡ answerNumbers (answerTo (now (area .entry)) (meant input)) ⌝ }
-    ensures left { λ _. ⌜ now (area .exit) ≡ areaWith (now (area .entry)) (meant input) ⌝ }
+    ensures returned { λ r. ⌜ r ≡ status (answerTo (now (area .entry)) input) ⌝ }
+    ensures told { λ _. ⌜ now (answer .exit) ≡ answerNumbers (answerTo (now (area .entry)) input) ⌝ }
+    ensures left { λ _. ⌜ now (area .exit) ≡ areaWith (now (area .entry)) input ⌝ }
 {
     match input {
         Input::Bad => refuse(answer),
-        Input::Start { slots, delay } => sabre::sabre_start(area, slots, delay, answer),
-        Input::Begin {
-            level,
-            row,
-            deadline,
-        } => sabre::sabre_begin(area, level, row, deadline, answer),
-        Input::Request {
-            level,
-            row,
-            page,
-            mode,
-        } => sabre::sabre_request(area, level, row, page, mode, answer),
-        Input::Unpin { level, row, page } => sabre::sabre_unpin(area, level, row, page, answer),
-        Input::End { level, row } => sabre::sabre_end(area, level, row, answer),
-        Input::Retry { level, row } => sabre::sabre_retry(area, level, row, answer),
-        Input::Tick => sabre::sabre_tick(area, answer),
-        Input::Look { level, row } => sabre::sabre_look(area, level, row, answer),
-        Input::View { level, page } => sabre::sabre_view(area, level, page, answer),
-        Input::Count { level } => sabre::sabre_count(area, level, answer),
+        Input::Good(call) => sabre::make(area, call, answer),
     }
 }
 
@@ -395,7 +301,7 @@ pub fn first_progress() -> Progress
 // The progress after a record that was answered with a word.
 fn next_progress(progress: Progress, input: Input, word: u64) -> Progress
     requires { ⌜ progress .number + 1 < 2 ^ 64 ⌝ }
-    ensures { λ r. ⌜ r ≡ nextProgress progress (meant input) word ⌝ }
+    ensures { λ r. ⌜ r ≡ nextProgress progress input word ⌝ }
 {
     let over = is_bad(input);
     if progress.started {

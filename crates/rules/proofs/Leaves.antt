@@ -3,5 +3,7 @@ pub mod GrantLaws
 pub mod UnpinLaws
 pub mod FillLaws
 pub mod TickLaws
+pub mod ContentLaws
 pub mod RefusalFacts
+pub mod CallEffects
 pub mod ServeCases

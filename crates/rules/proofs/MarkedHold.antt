@@ -1,4 +1,4 @@
--- The definitions give each call of session S and of M1 to M11 its line.
+-- The definitions give each call of session S, of M1 to M11 and of the further runs its line.
 use mathlib.Core.Path.{_≡_, refl}
 use mathlib.Core.List.{map}
 use Rattle.seq.specs.Below.{anyBelow, allBelow, countBelow, pickBelow}

@@ -81,9 +81,22 @@ value (PageWrite arrival) = arrival
 value (PageDormant arrival) = arrival
 value (Open count) = count
 
+-- answers by their words: started; ready; fetch or wait; a look's idle
+abbrev pub isStarted : Answer → Bool
+isStarted a = eqb (word a) 1
+
+abbrev pub isReady : Answer → Bool
+isReady a = eqb (word a) 3
+
+abbrev pub isPending : Answer → Bool
+isPending a = eqb (word a) 4 || eqb (word a) 5
+
+abbrev pub isIdle : Answer → Bool
+isIdle a = eqb (word a) 10
+
 -- the answers that say that a page may be used: ready, and a look's idle
 unfoldable pub mayUse : Answer → Bool
-mayUse a = eqb (word a) 3 || eqb (word a) 10
+mayUse a = isReady a || isIdle a
 
 -- the slot plus one, for ready and fetch of a request or retry alone, and 0 if none
 unfoldable pub slotTold : Answer → ℕ

@@ -124,6 +124,11 @@ ticked s =
     unless (tickRefusal s) s
     (record { state = lateKilled (deliveredRows (advanced s)); answer = Clock (s .clock + 1) })
 
+-- Request and retry: `served`, below its steps, takes the first that applies.
+-- Step 1, page seen through a holding: wait, or kill and grant. Step 2, level 3 and a dormant page: grant.
+-- Step 3, not seen: grant in the slot that has the page, or else in a chosen slot (`intoSlot`; g. none: wait).
+-- Step 4 is `granted`, the end of every step that does not wait: ready or fetching.
+
 -- a wait alters only the row's own condition
 unfoldable pub waiting : State → ℕ → ℕ → Mode → Outcome
 waiting s row page mode =

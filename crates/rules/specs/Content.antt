@@ -5,6 +5,7 @@ use Prim.Native.Nat.{ℕ, _<_, _^_}
 use lib.Dec.{leb, eqb}
 use Rattle.model.specs.declared.Call.{Call}
 use Rattle.model.specs.declared.Call.the-variants.{Start, Begin, Request, Retry, Unpin, End, Tick, Look, View, Count}
+use Rattle.model.specs.Parties.{rowOf}
 
 -- a call's kind and numbers, 0 for a number that it has not; kinds as the player has them:
 -- 0 start, 1 begin, 2 request, 3 unpin, 4 end, 5 retry, 6 tick, 7 look, 8 view, 9 count
@@ -30,22 +31,50 @@ fields (Look level number) = record { kind = 7; level = level; number = number; 
 fields (View level page) = record { kind = 8; level = level; number = 0; page = page; mode = 0; slots = 0; delay = 0; deadline = 0 }
 fields (Count level) = record { kind = 9; level = level; number = 0; page = 0; mode = 0; slots = 0; delay = 0; deadline = 0 }
 
-abbrev pub ofKind : ℕ → Call → Bool
-ofKind kind c = eqb (fields c .kind) kind
-
 abbrev pub isStart : Call → Bool
-isStart c = ofKind 0 c
+isStart c = eqb (fields c .kind) 0
+
+abbrev pub isBegin : Call → Bool
+isBegin c = eqb (fields c .kind) 1
+
+abbrev pub isRequest : Call → Bool
+isRequest c = eqb (fields c .kind) 2
+
+abbrev pub isUnpin : Call → Bool
+isUnpin c = eqb (fields c .kind) 3
+
+abbrev pub isEnd : Call → Bool
+isEnd c = eqb (fields c .kind) 4
+
+abbrev pub isRetry : Call → Bool
+isRetry c = eqb (fields c .kind) 5
 
 abbrev pub isTick : Call → Bool
-isTick c = ofKind 6 c
+isTick c = eqb (fields c .kind) 6
+
+abbrev pub isLook : Call → Bool
+isLook c = eqb (fields c .kind) 7
+
+abbrev pub isView : Call → Bool
+isView c = eqb (fields c .kind) 8
+
+abbrev pub isCount : Call → Bool
+isCount c = eqb (fields c .kind) 9
 
 -- a call for a page: request or retry
 abbrev pub isAsking : Call → Bool
-isAsking c = ofKind 2 c || ofKind 5 c
+isAsking c = isRequest c || isRetry c
 
 -- look, view and count change nothing
 abbrev pub isReading : Call → Bool
-isReading c = ofKind 7 c || ofKind 8 c || ofKind 9 c
+isReading c = isLook c || isView c || isCount c
+
+-- the row that it names, by level and row number and as one number
+abbrev pub namesRow : ℕ → ℕ → Call → Bool
+namesRow level number c = eqb (fields c .level) level && eqb (fields c .number) number
+
+abbrev pub rowNamed : Call → ℕ
+rowNamed c = rowOf (fields c .level) (fields c .number)
 
 -- start and tick are the server's; every other call counts as made by the level it names
 abbrev pub isServers : Call → Bool

@@ -1,11 +1,12 @@
 -- Document 01, "The player", session S, and "Marked for the table", M1 to M11: each call with the line it must have.
+-- Seven further runs, read off document 01's steps, have what M1 to M11 leave open: the order within steps b, c and d, e and f, and the other words.
 use mathlib.Core.List.{List, [], _∷_, map}
 use Prim.Native.Nat.{ℕ, _+_}
 use Rattle.model.specs.State.{fresh}
 use Rattle.model.specs.declared.Answer.{Answer}
 use Rattle.rules.specs.Answers.{word, value, slotTold, backTold}
 use Rattle.model.specs.declared.Call.{Call}
-use Rattle.model.specs.declared.Call.the-variants.{Start, Begin, Request, Unpin, End, Tick, Look, View, Count}
+use Rattle.model.specs.declared.Call.the-variants.{Start, Begin, Request, Retry, Unpin, End, Tick, Look, View, Count}
 use Rattle.rules.specs.Run.{answers}
 
 -- an output line: word, value, slot plus one or 0, page to write back plus one or 0
@@ -52,6 +53,13 @@ ended! = plain 7 0
 abbrev pub clock! : ℕ → Line
 clock! n = plain 8 n
 
+-- a look's words, beside idle: a fetching row's due tick is told without a slot
+abbrev pub none! : Line
+none! = plain 9 0
+
+abbrev pub fetching! : ℕ → Line
+fetching! due = plain 4 due
+
 abbrev pub idle! : Line
 idle! = plain 10 0
 
@@ -61,11 +69,21 @@ late! = plain 11 0
 abbrev pub taken! : Line
 taken! = plain 12 0
 
+-- a view's words
+abbrev pub unseen! : Line
+unseen! = plain 13 0
+
 abbrev pub active! : ℕ → Line
 active! arrival = plain 14 arrival
 
 abbrev pub read! : ℕ → Line
 read! arrival = plain 15 arrival
+
+abbrev pub write! : ℕ → Line
+write! arrival = plain 16 arrival
+
+abbrev pub dormant! : ℕ → Line
+dormant! arrival = plain 17 arrival
 
 abbrev pub open! : ℕ → Line
 open! n = plain 18 n
@@ -197,8 +215,149 @@ m11 =
     ∷ View 1 1024 gives active! 1
     ∷ []
 
+-- step b, lowest level first: 7, held by level 0, goes before 1,024, held by level 1, though 7 is dirty, touched later and in the higher slot
+abbrev pub b-lowest-level : List Played
+b-lowest-level =
+    Start 2 1 gives started!
+    ∷ Begin 1 0 100 gives begun!
+    ∷ Request 1 0 1024 0 gives fetch! 1 0
+    ∷ Tick gives clock! 1
+    ∷ End 1 0 gives ended!
+    ∷ Begin 0 0 100 gives begun!
+    ∷ Request 0 0 7 1 gives fetch! 2 1
+    ∷ Tick gives clock! 2
+    ∷ End 0 0 gives ended!
+    ∷ Begin 0 1 100 gives begun!
+    ∷ Request 0 1 8 0 gives fetch-back! 3 1 7
+    ∷ []
+
+-- step b, clean before dirty: 8 goes before 7, which was written, though 8 is touched later and in the higher slot
+abbrev pub b-clean-first : List Played
+b-clean-first =
+    Start 2 1 gives started!
+    ∷ Begin 0 0 100 gives begun!
+    ∷ Request 0 0 7 1 gives fetch! 1 0
+    ∷ Tick gives clock! 1
+    ∷ Unpin 0 0 7 gives unpinned!
+    ∷ Request 0 0 8 0 gives fetch! 2 1
+    ∷ Tick gives clock! 2
+    ∷ End 0 0 gives ended!
+    ∷ Begin 0 1 100 gives begun!
+    ∷ Request 0 1 9 0 gives fetch! 3 1
+    ∷ []
+
+-- step b, least touch: 7 is asked for again, so 8 goes, though it is in the higher slot
+abbrev pub b-least-touch : List Played
+b-least-touch =
+    Start 2 1 gives started!
+    ∷ Begin 0 0 100 gives begun!
+    ∷ Request 0 0 7 0 gives fetch! 1 0
+    ∷ Tick gives clock! 1
+    ∷ Request 0 0 8 0 gives fetch! 2 1
+    ∷ Tick gives clock! 2
+    ∷ Request 0 0 7 0 gives ready! 0
+    ∷ End 0 0 gives ended!
+    ∷ Begin 0 1 100 gives begun!
+    ∷ Request 0 1 9 0 gives fetch! 3 1
+    ∷ []
+
+-- step b, slot number: nothing else tells 7 and 8 apart
+abbrev pub b-slot-number : List Played
+b-slot-number =
+    Start 2 1 gives started!
+    ∷ Begin 0 0 100 gives begun!
+    ∷ Begin 0 1 100 gives begun!
+    ∷ Request 0 0 7 0 gives fetch! 1 0
+    ∷ Request 0 1 8 0 gives fetch! 1 1
+    ∷ Tick gives clock! 1
+    ∷ End 0 0 gives ended!
+    ∷ End 0 1 gives ended!
+    ∷ Begin 0 2 100 gives begun!
+    ∷ Request 0 2 9 0 gives fetch! 2 0
+    ∷ []
+
+-- step c before d: level 1 has 1,024 unpinned and pins 1,025, whose holder has the worse priority; 1,024 goes and nobody is killed
+abbrev pub c-before-d : List Played
+c-before-d =
+    Start 2 1 gives started!
+    ∷ Begin 1 0 50 gives begun!
+    ∷ Begin 1 1 100 gives begun!
+    ∷ Request 1 1 1025 0 gives fetch! 1 0
+    ∷ Request 1 0 1024 0 gives fetch! 1 1
+    ∷ Tick gives clock! 1
+    ∷ Unpin 1 0 1024 gives unpinned!
+    ∷ Begin 0 0 100 gives begun!
+    ∷ Request 0 0 7 0 gives fetch! 2 1
+    ∷ Look 1 1 gives idle!
+    ∷ []
+
+-- step e before f: the same with rows of the requester's own level
+abbrev pub e-before-f : List Played
+e-before-f =
+    Start 2 1 gives started!
+    ∷ Begin 0 0 50 gives begun!
+    ∷ Begin 0 1 100 gives begun!
+    ∷ Request 0 1 8 0 gives fetch! 1 0
+    ∷ Request 0 0 7 0 gives fetch! 1 1
+    ∷ Tick gives clock! 1
+    ∷ Unpin 0 0 7 gives unpinned!
+    ∷ Begin 0 2 20 gives begun!
+    ∷ Request 0 2 9 0 gives fetch! 2 1
+    ∷ Look 0 1 gives idle!
+    ∷ []
+
+-- the words that are left: look none, fetch and wait, view unseen, write and dormant;
+-- 11 and 16 while fetching, 11 while waiting; an accepted retry, which finds the page in its slot
+abbrev pub other-words : List Played
+other-words =
+    Start 1 1 gives started!
+    ∷ Look 0 0 gives none!
+    ∷ View 0 7 gives unseen!
+    ∷ Begin 1 0 100 gives begun!
+    ∷ Request 1 0 1024 1 gives fetch! 1 0
+    ∷ Look 1 0 gives fetching! 1
+    ∷ Request 1 0 1025 1 gives refused! 11
+    ∷ Retry 1 0 gives refused! 16
+    ∷ View 1 1024 gives write! 1
+    ∷ Tick gives clock! 1
+    ∷ Begin 2 0 100 gives begun!
+    ∷ Request 2 0 1024 0 gives wait!
+    ∷ Look 2 0 gives wait!
+    ∷ Request 2 0 1024 0 gives refused! 11
+    ∷ Tick gives clock! 2
+    ∷ Look 2 0 gives wait!
+    ∷ End 1 0 gives ended!
+    ∷ Retry 2 0 gives fetch! 3 0
+    ∷ Retry 2 0 gives refused! 16
+    ∷ End 2 0 gives ended!
+    ∷ View 3 1024 gives dormant! 1
+    ∷ View 2 1024 gives unseen!
+    ∷ []
+
 abbrev pub table : List (List Played)
-table = session ∷ m1 ∷ m2 ∷ m3 ∷ m4 ∷ m5 ∷ m6 ∷ m6-round ∷ m7 ∷ m8 ∷ m8-instead ∷ m9 ∷ m10 ∷ m11 ∷ []
+table =
+    session
+    ∷ m1
+    ∷ m2
+    ∷ m3
+    ∷ m4
+    ∷ m5
+    ∷ m6
+    ∷ m6-round
+    ∷ m7
+    ∷ m8
+    ∷ m8-instead
+    ∷ m9
+    ∷ m10
+    ∷ m11
+    ∷ b-lowest-level
+    ∷ b-clean-first
+    ∷ b-least-touch
+    ∷ b-slot-number
+    ∷ c-before-d
+    ∷ e-before-f
+    ∷ other-words
+    ∷ []
 
 -- what the definitions answer, each example from a state that its first call replaces
 abbrev pub lines : List Played → List Line

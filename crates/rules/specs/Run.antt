@@ -1,17 +1,11 @@
 -- Document 01, "The calls" and "Two runs side by side": what a call does to a state, and what a list of calls is answered.
 use mathlib.Core.List.{List, [], _∷_}
-use Prim.Native.Nat.{ℕ, _<_, _^_}
 use Rattle.model.specs.declared.Call.{Call}
 use Rattle.model.specs.declared.Call.the-variants.{Start, Begin, Request, Retry, Unpin, End, Tick, Look, View, Count}
 use Rattle.model.specs.declared.State.{State}
 use Rattle.model.specs.declared.Outcome.{Outcome}
 use Rattle.model.specs.declared.Answer.{Answer}
-use Rattle.model.specs.State.{rowAt}
 use Rattle.rules.specs.Calls.{started, begun, requested, retried, unpinned, ended, ticked, lookedAt, viewed, counted}
-
--- each row's deadline is an unsigned 32-bit number
-abbrev pub Narrow : State → Type 0
-Narrow s = (row : ℕ) → rowAt s row .deadline < 2 ^ 32
 
 unfoldable pub outcome : State → Call → Outcome
 outcome s (Start slots delay) = started s slots delay

@@ -24,9 +24,9 @@ use Rattle.model.specs.Inner.Changed.{marked, holdingAfter, changed, outcomeOf}
 use Rattle.model.proofs.StateLaws.{Sized}
 use Rattle.model.proofs.ChangedLaws.{holdings-are, held-at, held-set, changed-none}
 use Rattle.rules.specs.Calls.{waiting, granted, filled}
-use Rattle.serve.specs.Elements.{heldNow, touchedSlot, grantedRow, grantedAnswer}
-use Rattle.serve.specs.SlotHoldings.{holdingsOn}
-use Rattle.serve.specs.Replies.{waitReply, rowsTaken, slotFilled, granting}
+use Rattle.serve.specs.Inner.Granted.{heldNow, touchedSlot, grantedRow, grantedAnswer}
+use Rattle.serve.specs.Inner.SlotHoldings.{holdingsOn}
+use Rattle.serve.specs.Inner.Replies.{waitReply, rowsTaken, slotFilled, granting}
 use Rattle.serve.proofs.SlotLaws.{held-by, held-long}
 
 -- a change that leaves the clock and the rows

@@ -25,9 +25,10 @@ use Rattle.model.proofs.StateLaws.{Sized}
 use Rattle.rules.specs.Choice.{orElse, stepA, stepB, beforeDormant, inC, inD, inE, inF, beforeHeld, stepHeld, chosen}
 use Rattle.rules.specs.Calls.{waiting, granted, filled, writeBack, intoSlot, served}
 use Rattle.rules.proofs.Leaves.PageLaws.{found-slot}
+use Rattle.serve.specs.declared.Kills.the-variants.{Pinning}
 use Rattle.serve.specs.declared.Plan.{Plan}
-use Rattle.serve.specs.SlotHoldings.{holdingsOn, pinMarks}
-use Rattle.serve.specs.Replies.{waitReply, planned, rowsTaken, slotFilled, granting}
+use Rattle.serve.specs.Inner.SlotHoldings.{holdingsOn, marksOf}
+use Rattle.serve.specs.Inner.Replies.{waitReply, planned, rowsTaken, slotFilled, granting}
 use Rattle.serve.proofs.SlotLaws.{pinners-killed}
 use Rattle.serve.proofs.ReplyLaws.{leaving, taking, after-wait, after-taken, after-filled}
 use Rattle.serve.proofs.StepLaws.{plan-served}
@@ -64,7 +65,7 @@ module _ (s : State) (row page : ℕ) (mode : Mode) where
   pub chosen-at : (g : Found) (slot : ℕ) → s .size ≤ 64 → g ≡ chosen s row → g ≡ At slot → slot < 64
   chosen-at g slot h e q = omega (arith, chosen-below s row slot (sym e ∙ q))
 
-  module _ (z : Sized s) where
+  module _ (z : Sized s) (h : row < 32) where
     waited : (o : Reply) → o ≡ waitReply (s .clock) (s .rows) (s .slots) row page mode → outcomeOf s o ≡ waiting s row page mode
     waited o q = ap (outcomeOf s) q ∙ after-wait s z row page mode
 
@@ -74,18 +75,18 @@ module _ (s : State) (row page : ℕ) (mode : Mode) where
       unfolding served slotOf
       serve-wait w o q = rw (← e, none, ← k, w) (waited o q)
 
-      pub serve-into : (slot : ℕ) → g ≡ At slot → slot < 64 → row < 32 → (held : List Holding) (gone : List Bool) (left : List Slot) (o : Reply)
-          → held ≡ holdingsOn s slot → gone ≡ pinMarks held → left ≡ released (marked gone) s .slots
+      pub serve-into : (slot : ℕ) → g ≡ At slot → slot < 64 → (held : List Holding) (gone : List Bool) (left : List Slot) (o : Reply)
+          → held ≡ holdingsOn s slot → gone ≡ marksOf held Pinning → left ≡ released (marked gone) s .slots
           → o ≡ entering (leaving s left gone slot held) row page mode (s .clock + s .delay) → outcomeOf s o ≡ served s row page mode
       unfolding served slotOf killed
-      serve-into slot w b h held gone left o on m l q = rw (← e, none, ← k, w) (ap (outcomeOf s) (q ∙ told) ∙ entered)
+      serve-into slot w b held gone left o on m l q = rw (← e, none, ← k, w) (ap (outcomeOf s) (q ∙ told) ∙ entered)
         where
-          told : entering (leaving s left gone slot held) row page mode (s .clock + s .delay) ≡ entering (taking s (pinMarks (holdingsOn s slot)) slot) row page mode (s .clock + s .delay)
+          told : entering (leaving s left gone slot held) row page mode (s .clock + s .delay) ≡ entering (taking s (marksOf (holdingsOn s slot) Pinning) slot) row page mode (s .clock + s .delay)
           told = rw (l, m, on)
 
-          entered : outcomeOf s (entering (taking s (pinMarks (holdingsOn s slot)) slot) row page mode (s .clock + s .delay)) ≡ intoSlot (At slot) s row page mode
+          entered : outcomeOf s (entering (taking s (marksOf (holdingsOn s slot) Pinning) slot) row page mode (s .clock + s .delay)) ≡ intoSlot (At slot) s row page mode
           entered =
-              after-filled s z (pinMarks (holdingsOn s slot)) slot row mode (s .clock + s .delay) _ b h page (levelOf row)
+              after-filled s z (marksOf (holdingsOn s slot) Pinning) slot row mode (s .clock + s .delay) _ b h page (levelOf row)
               ∙ ap (λ (t : State). granted (filled t slot page (levelOf row)) row slot mode (s .clock + s .delay) (writeBack (slotAt t slot))) (pinners-killed s slot z)
 
     -- a slot has the page
@@ -93,13 +94,13 @@ module _ (s : State) (row page : ℕ) (mode : Mode) where
         (m : p ≡ planned held (s .rows) (slotAt s slot) row mode (s .clock + s .delay)) where
       serve-plan : served s row page mode ≡ cond (p .wait) (waiting s row page mode) (granted (killed (marked (p .marks)) Taken s) row slot mode (p .arrival) Nothing)
       unfolding served slotOf
-      serve-plan = rw (← e, at, m, on) (plan-served s z row slot page mode)
+      serve-plan = rw (← e, at, m, on) (plan-served s z row slot page mode h)
 
       pub serve-plan-wait : p .wait ≡ true → (o : Reply) → o ≡ waitReply (s .clock) (s .rows) (s .slots) row page mode → outcomeOf s o ≡ served s row page mode
       serve-plan-wait w o q = rw (serve-plan, w) (waited o q)
 
-      pub serve-plan-grant : p .wait ≡ false → slot < 64 → row < 32 → (left : List Slot) (c : Change) (o : Reply)
+      pub serve-plan-grant : p .wait ≡ false → slot < 64 → (left : List Slot) (c : Change) (o : Reply)
           → left ≡ released (marked (p .marks)) s .slots → c ≡ rowsTaken (leaving s left (p .marks) slot held)
           → o ≡ granting c row mode (p .arrival) Nothing → outcomeOf s o ≡ served s row page mode
-      serve-plan-grant w b h left c o l t q =
+      serve-plan-grant w b left c o l t q =
           rw (serve-plan, w, q, t, l, on) (after-taken s z (p .marks) slot row mode (p .arrival) Nothing b h)

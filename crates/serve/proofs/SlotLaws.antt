@@ -1,5 +1,5 @@
 -- What the steps read of the 32 holdings of a slot is what they read of the state.
-use mathlib.Core.Path.{_≡_, refl, sym, _∙_}
+use mathlib.Core.Path.{_≡_, refl, sym, _∙_, ap}
 use mathlib.Core.Bool.{Bool, true, false, _&&_}
 use mathlib.Core.List.{List}
 use Prim.Native.Nat.{ℕ, _<_}
@@ -18,16 +18,20 @@ use Rattle.model.specs.declared.Holding.{Holding}
 use Rattle.model.specs.declared.Mode.{Mode}
 use Rattle.model.specs.declared.Slot.{Slot}
 use Rattle.model.specs.declared.State.{State}
-use Rattle.model.specs.Parties.{levelOf}
-use Rattle.model.specs.State.{freeRow, emptyHolding, slotAt, holdingAt}
-use Rattle.model.specs.Words.{isFilled, isHeld, isPin, holds, pins, seenHolder, seen, dormant, seesDormant, outranks, leastArrival}
+use Rattle.model.specs.Parties.{levelOf, better}
+use Rattle.model.specs.State.{emptyHolding, slotAt, holdingAt}
+use Rattle.model.specs.Words.{isFilled, isHeld, holds, pins, seenHolder, seen, dormant, seesDormant, outranks, leastArrival}
 use Rattle.model.specs.Changes.{killed}
 use Rattle.model.specs.Inner.Changed.{marked}
+use Rattle.model.proofs.PriorityLaws.{level-outranks}
 use Rattle.model.proofs.StateLaws.{Sized}
 use Rattle.model.proofs.SameRows.{killed-same}
 use Rattle.rules.specs.Calls.{conflicts, mustWait, pinnersKilled}
-use Rattle.serve.specs.Elements.{seenTest, conflictTest, barTest}
-use Rattle.serve.specs.SlotHoldings.{holdingsOn, heldBy, seenIn, leastIn, seesDormantIn, mustWaitIn, conflictMarks, pinMarks}
+use Rattle.choice.specs.Inner.Summary.{noRank, ranksOf}
+use Rattle.choice.proofs.SummaryLaws.{rank-at}
+use Rattle.serve.specs.declared.Kills.{Kills}
+use Rattle.serve.specs.declared.Kills.the-variants.{Pinning, Conflicting}
+use Rattle.serve.specs.Inner.SlotHoldings.{holdingsOn, heldBy, seenTest, seenIn, leastIn, seesDormantIn, killTest, marksOf, mustWaitIn}
 
 module _ (s : State) (slot : ℕ) where
   pub held-by : (row : ℕ) → row < 32 → heldBy (holdingsOn s slot) row ≡ holdingAt s slot row
@@ -61,29 +65,36 @@ module _ (s : State) (slot : ℕ) where
   unfolding seesDormantIn seesDormant dormant
   dormant-in level = rw (any-same (λ row. isHeld (heldBy (holdingsOn s slot) row .pin)) (holds s slot) 32 (λ row h. rw (held-by row h)))
 
-  pub must-wait-in : (row : ℕ) (mode : Mode) → mustWaitIn (holdingsOn s slot) (s .rows) row mode ≡ mustWait s row slot mode
-  unfolding mustWaitIn mustWait barTest conflictTest conflicts outranks
-  must-wait-in row mode =
-      any-same (λ other. barTest row (getD (s .rows) row freeRow .deadline) mode other (getD (s .rows) other freeRow .deadline) (heldBy (holdingsOn s slot) other))
-      (λ other. leb (levelOf other) (levelOf row) && conflicts s row slot mode other && outranks s other row) 32
-      (λ other h. rw (held-by other h))
+  -- the rows that are killed
+  marked-is : (kills : Kills) (row : ℕ) → row < 32 → marked (marksOf (holdingsOn s slot) kills) row ≡ killTest kills row (holdingAt s slot row)
+  unfolding marksOf
+  marked-is kills row h = build-at (λ r. killTest kills r (heldBy (holdingsOn s slot) r)) 32 false row false h ∙ ap (killTest kills row) (held-by row h)
 
-  conflict-marked : (row : ℕ) (mode : Mode) (other : ℕ) → other < 32 → marked (conflictMarks (holdingsOn s slot) row mode) other ≡ conflicts s row slot mode other
-  unfolding conflictMarks conflictTest conflicts
-  conflict-marked row mode other h =
-      build-at (λ r. conflictTest row mode r (heldBy (holdingsOn s slot) r)) 32 false other false h ∙ rw (held-by other h)
+  pub conflicts-killed : Sized s → (row : ℕ) (mode : Mode) → killed (marked (marksOf (holdingsOn s slot) (Conflicting row mode))) Taken s ≡ killed (conflicts s row slot mode) Taken s
+  unfolding conflicts
+  conflicts-killed z row mode = killed-same (marked (marksOf (holdingsOn s slot) (Conflicting row mode))) (conflicts s row slot mode) s (marked-is (Conflicting row mode)) z Taken
 
-  pin-marked : (row : ℕ) → row < 32 → marked (pinMarks (holdingsOn s slot)) row ≡ pins s slot row
-  unfolding pinMarks
-  pin-marked row h = build-at (λ r. isPin (heldBy (holdingsOn s slot) r .pin)) 32 false row false h ∙ rw (held-by row h)
-
-  -- the kills
-  pub conflicts-killed : Sized s → (row : ℕ) (mode : Mode) → killed (marked (conflictMarks (holdingsOn s slot) row mode)) Taken s ≡ killed (conflicts s row slot mode) Taken s
-  conflicts-killed z row mode = killed-same (marked (conflictMarks (holdingsOn s slot) row mode)) (conflicts s row slot mode) s (conflict-marked row mode) z Taken
-
-  pub pinners-killed : Sized s → killed (marked (pinMarks (holdingsOn s slot))) Taken s ≡ pinnersKilled s slot
+  pub pinners-killed : Sized s → killed (marked (marksOf (holdingsOn s slot) Pinning)) Taken s ≡ pinnersKilled s slot
   unfolding pinnersKilled
-  pinners-killed z = killed-same (marked (pinMarks (holdingsOn s slot))) (pins s slot) s pin-marked z Taken
+  pinners-killed z = killed-same (marked (marksOf (holdingsOn s slot) Pinning)) (pins s slot) s (marked-is Pinning) z Taken
+
+  -- a row of better priority is of the requester's level or a lower one
+  pub must-wait-in : (row : ℕ) (mode : Mode) → row < 32 → mustWaitIn (marksOf (holdingsOn s slot) (Conflicting row mode)) (ranksOf (s .rows)) row ≡ mustWait s row slot mode
+  unfolding mustWaitIn mustWait conflicts outranks
+  must-wait-in row mode h = any-same
+      (λ other. marked (marksOf (holdingsOn s slot) (Conflicting row mode)) other && better (getD (ranksOf (s .rows)) other noRank) (getD (ranksOf (s .rows)) row noRank))
+      (λ other. leb (levelOf other) (levelOf row) && conflicts s row slot mode other && outranks s other row) 32
+      (λ other k. told other k ∙ go other (outranks s other row) refl)
+    where
+      told : (other : ℕ) → other < 32
+          → marked (marksOf (holdingsOn s slot) (Conflicting row mode)) other && better (getD (ranksOf (s .rows)) other noRank) (getD (ranksOf (s .rows)) row noRank)
+          ≡ conflicts s row slot mode other && outranks s other row
+      told other k = rw (marked-is (Conflicting row mode) other k, rank-at (s .rows) (ranksOf (s .rows)) other refl k, rank-at (s .rows) (ranksOf (s .rows)) row refl h)
+
+      go : (other : ℕ) (b : Bool) → outranks s other row ≡ b
+          → conflicts s row slot mode other && outranks s other row ≡ leb (levelOf other) (levelOf row) && conflicts s row slot mode other && outranks s other row
+      go other true e = rw (le-leb (levelOf other) (levelOf row) (level-outranks s other row e))
+      go other false e = and-false-right (conflicts s row slot mode other) _ e ∙ sym (and-false-right (leb (levelOf other) (levelOf row) && conflicts s row slot mode other) _ e)
 
 -- every row is of level 3 or a lower one
 pub seen-by-3 : (held : List Holding) → seenIn held 3 ≡ anyBelow 32 (λ row. isHeld (heldBy held row .pin))

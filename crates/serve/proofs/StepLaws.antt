@@ -2,7 +2,7 @@
 use mathlib.Core.Path.{_≡_, refl}
 use mathlib.Core.Bool.{Bool, true, false, cond}
 use mathlib.Core.List.{List}
-use Prim.Native.Nat.{ℕ, _+_}
+use Prim.Native.Nat.{ℕ, _+_, _<_}
 use lib.ListN.{replicate}
 use Rattle.seq.specs.declared.Found.the-variants.{At}
 use Rattle.seq.proofs.EachLaws.{replicate-at}
@@ -10,6 +10,7 @@ use Rattle.model.specs.declared.Back.the-variants.{Nothing}
 use Rattle.model.specs.declared.Cause.the-variants.{Taken}
 use Rattle.model.specs.declared.Holding.{Holding}
 use Rattle.model.specs.declared.Mode.{Mode}
+use Rattle.model.specs.declared.Rank.{Rank}
 use Rattle.model.specs.declared.Row.{Row}
 use Rattle.model.specs.declared.Slot.{Slot}
 use Rattle.model.specs.declared.State.{State}
@@ -20,32 +21,34 @@ use Rattle.model.specs.Changes.{killed}
 use Rattle.model.specs.Inner.Changed.{marked}
 use Rattle.model.proofs.StateLaws.{Sized}
 use Rattle.rules.specs.Calls.{waiting, granted, step1, step2, step3, servedAt}
+use Rattle.choice.specs.Inner.Summary.{ranksOf}
+use Rattle.serve.specs.declared.Kills.the-variants.{Conflicting}
 use Rattle.serve.specs.declared.Plan.{Plan}
-use Rattle.serve.specs.SlotHoldings.{holdingsOn, seenIn, leastIn, seesDormantIn, mustWaitIn, conflictMarks}
-use Rattle.serve.specs.Replies.{planned}
+use Rattle.serve.specs.Inner.SlotHoldings.{holdingsOn, seenIn, leastIn, seesDormantIn, marksOf, mustWaitIn}
+use Rattle.serve.specs.Inner.Replies.{planned}
 use Rattle.serve.proofs.SlotLaws.{seen-in, least-in, dormant-in, must-wait-in, conflicts-killed}
 use Rattle.serve.proofs.KillLaws.{kill-none}
 
 -- the plan, from what the functions called in each step give
-module _ (held : List Holding) (rows : List Row) (x : Slot) (row : ℕ) (mode : Mode) (due : ℕ) (v : Bool) (e : v ≡ seenIn held (levelOf row)) where
-  pub plan-seen : v ≡ true → (wait : Bool) (marks : List Bool) (arrival : ℕ) → wait ≡ mustWaitIn held rows row mode → marks ≡ conflictMarks held row mode → arrival ≡ leastIn held (levelOf row)
+module _ (held : List Holding) (rows : List Row) (x : Slot) (row : ℕ) (mode : Mode) (due : ℕ) (marks : List Bool) (g : marks ≡ marksOf held (Conflicting row mode)) (v : Bool)
+    (e : v ≡ seenIn held (levelOf row)) where
+  pub plan-seen : v ≡ true → (ranks : List Rank) (wait : Bool) (arrival : ℕ) → ranks ≡ ranksOf rows → wait ≡ mustWaitIn marks ranks row → arrival ≡ leastIn held (levelOf row)
       → _≡_ {A = Plan} (record { wait = wait; marks = marks; arrival = arrival }) (planned held rows x row mode due)
   unfolding planned
-  plan-seen w wait marks arrival f g h = rw (← e, w) (λ j. record { wait = f j; marks = g j; arrival = h j })
+  plan-seen w ranks wait arrival k f h = rw (← e, w, f, k, g, h)
 
   module _ (w : v ≡ false) (d : Bool) (q : d ≡ seesDormantIn held x (levelOf row)) where
     pub plan-dormant : d ≡ true → (arrival : ℕ) → arrival ≡ arrivalIn (x .content)
         → _≡_ {A = Plan} (record { wait = false; marks = replicate 32 false; arrival = arrival }) (planned held rows x row mode due)
     unfolding planned
-    plan-dormant t arrival h = rw (← e, w, ← q, t) (λ j. record { wait = false; marks = replicate 32 false; arrival = h j })
+    plan-dormant t arrival h = rw (← e, w, ← q, t, h)
 
-    pub plan-unseen : d ≡ false → (marks : List Bool) → marks ≡ conflictMarks held row mode
-        → _≡_ {A = Plan} (record { wait = false; marks = marks; arrival = due }) (planned held rows x row mode due)
+    pub plan-unseen : d ≡ false → _≡_ {A = Plan} (record { wait = false; marks = marks; arrival = due }) (planned held rows x row mode due)
     unfolding planned
-    plan-unseen t marks g = rw (← e, w, ← q, t) (λ j. record { wait = false; marks = g j; arrival = due })
+    plan-unseen t = rw (← e, w, ← q, t, g)
 
 -- the steps do what the plan says
-module _ (s : State) (z : Sized s) (row slot page : ℕ) (mode : Mode) where
+module _ (s : State) (z : Sized s) (row slot page : ℕ) (mode : Mode) (h : row < 32) where
   abbrev plan : Plan
   plan = planned (holdingsOn s slot) (s .rows) (slotAt s slot) row mode (s .clock + s .delay)
 
@@ -54,7 +57,7 @@ module _ (s : State) (z : Sized s) (row slot page : ℕ) (mode : Mode) where
 
   planned-seen : seen s (levelOf row) slot ≡ true → Planned
   unfolding planned step1
-  planned-seen e = rw (seen-in s slot (levelOf row), e, must-wait-in s slot row mode, conflicts-killed s slot z row mode, least-in s slot (levelOf row))
+  planned-seen e = rw (seen-in s slot (levelOf row), e, must-wait-in s slot row mode h, conflicts-killed s slot z row mode, least-in s slot (levelOf row))
 
   planned-dormant : seen s (levelOf row) slot ≡ false → seesDormant s (levelOf row) slot ≡ true → Planned
   unfolding planned step2

@@ -1,3 +1,2 @@
-pub mod SlotHoldings
-pub mod Elements
-pub mod Replies
+-- for the code
+pub mod Inner

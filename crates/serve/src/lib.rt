@@ -8,6 +8,7 @@ use model::Content;
 use model::Holding;
 use model::Mode;
 use model::Pin;
+use model::Rank;
 use model::Reply;
 use model::Row;
 use model::Slot;
@@ -17,27 +18,13 @@ ghost use mathlib.Core.Path.{_≡_};
 ghost use Prim.Native.Nat.{_+_, _<_, _≤_, _^_, min};
 ghost use lib.ListN.{getD};
 ghost use Rattle.model.specs.State.{emptySlot};
-ghost use Rattle.model.specs.Words.{isFilled, arrivalIn};
+ghost use Rattle.model.specs.Words.{arrivalIn};
 ghost use Rattle.model.specs.Parties.{levelOf};
 ghost use Rattle.model.specs.Inner.Changed.{outcomeOf};
 ghost use Rattle.rules.specs.Calls.{writeBack, served};
-ghost use Rattle.serve.specs.Elements.{seenTest, lesser, conflictTest, barTest, heldNow, filledSlot, touchedSlot, grantedRow, grantedAnswer};
-ghost use Rattle.serve.specs.SlotHoldings.{holdingsOn, seenIn, leastIn, seesDormantIn, mustWaitIn, conflictMarks, pinMarks};
-ghost use Rattle.serve.specs.Replies.{waitReply, planned, rowsTaken, slotFilled, granting};
-
-fn is_filled(c: Content) -> bool
-    ensures { λ r. ⌜ r ≡ isFilled c ⌝ }
-{
-    match c {
-        Content::Empty => false,
-        Content::Filled {
-            page: _,
-            arrival: _,
-            dirty: _,
-            lowest: _,
-        } => true,
-    }
-}
+ghost use Rattle.serve.specs.Inner.SlotHoldings.{holdingsOn, seenTest, seenIn, lesser, leastIn, seesDormantIn, killTest, marksOf, mustWaitIn};
+ghost use Rattle.serve.specs.Inner.Granted.{heldNow, filledSlot, touchedSlot, grantedRow, grantedAnswer};
+ghost use Rattle.serve.specs.Inner.Replies.{waitReply, planned, rowsTaken, slotFilled, granting};
 
 pub fn arrival_in(c: Content) -> u32
     ensures { λ r. ⌜ r ≡ arrivalIn c ⌝ }
@@ -58,10 +45,8 @@ pub fn is_seen(level: usize, row: usize, h: Holding) -> bool
     ensures { λ r. ⌜ r ≡ seenTest level row h ⌝ }
 {
     let p = h.pin;
-    if row / 8 <= level {
-        return model::is_held(p);
-    }
-    false
+    let held = model::is_held(p);
+    (row / 8 <= level) & held
 }
 
 // The least arrival so far, with one holding more where it passes.
@@ -78,33 +63,6 @@ fn lesser_arrival(passes: bool, arrival: u32, found: bool, least: u32) -> u32
         return arrival;
     }
     least
-}
-
-// The other row has a conflicting pin.
-fn is_rival(row: usize, mode: Mode, other: usize, h: Holding) -> bool
-    ensures { λ r. ⌜ r ≡ conflictTest row mode other h ⌝ }
-{
-    let p = h.pin;
-    if other == row {
-        return false;
-    }
-    let own = model::pin_of(mode);
-    model::is_conflict(own, p)
-}
-
-// The other row has a conflicting pin that the row's level sees, and is of better priority.
-fn is_barred(row: usize, deadline: u32, mode: Mode, other: usize, rival: u32, h: Holding) -> bool
-    ensures { λ r. ⌜ r ≡ barTest row deadline mode other rival h ⌝ }
-{
-    if other / 8 <= row / 8 {
-        if is_rival(row, mode, other, h) {
-            let x = model::rank_of(other, rival);
-            let y = model::rank_of(row, deadline);
-            return model::is_better(x, y);
-        }
-        return false;
-    }
-    false
 }
 
 // The 32 holdings of a slot, by row.
@@ -132,7 +90,7 @@ pub fn see(held: [Holding; 32], level: usize) -> bool
     for r in 0..32usize {
         let h = held[r];
         let t = is_seen(level, r, h);
-        found = seq::either(found, t);
+        found = found | t;
     }
     found
 }
@@ -147,7 +105,7 @@ pub fn least_arrival(held: [Holding; 32], level: usize) -> u32
         let h = held[r];
         let t = is_seen(level, r, h);
         least = lesser_arrival(t, h.arrival, found, least);
-        found = seq::either(found, t);
+        found = found | t;
     }
     least
 }
@@ -161,53 +119,58 @@ pub fn see_dormant(held: [Holding; 32], x: Slot, level: usize) -> bool
         if see(held, 3) {
             return false;
         }
-        return is_filled(c);
+        return choice::is_filled(c);
     }
     false
 }
 
-// Step 1: a seen conflicting pin belongs to a row of better priority.
-fn must_wait(held: [Holding; 32], rows: [Row; 32], row: usize, mode: Mode) -> bool
-    requires { ⌜ row < 32 ⌝ }
-    ensures { λ r. ⌜ r ≡ mustWaitIn held rows row mode ⌝ }
+// The rows that a request kills at a slot: those that pin it, or those other than the requester whose pin conflicts with its mode.
+enum Kills {
+    Pinning,
+    Conflicting { row: usize, mode: Mode },
+}
+
+fn is_killed(kills: Kills, other: usize, h: Holding) -> bool
+    ensures { λ r. ⌜ r ≡ killTest kills other h ⌝ }
 {
-    let own = rows[row];
-    let deadline = own.deadline;
+    let p = h.pin;
+    match kills {
+        Kills::Pinning => model::is_pin(p),
+        Kills::Conflicting { row, mode } => {
+            let own = model::pin_of(mode);
+            let conflict = model::is_conflict(own, p);
+            (other != row) & conflict
+        }
+    }
+}
+
+// The rows that are killed, by row.
+fn mark_rows(held: [Holding; 32], kills: Kills) -> [bool; 32]
+    ensures { λ r. ⌜ r ≡ marksOf held kills ⌝ }
+{
+    let mut marks = [false; 32];
+    for r in 0..32usize {
+        let h = held[r];
+        let t = is_killed(kills, r, h);
+        marks[r] = t;
+    }
+    marks
+}
+
+// Step 1: a marked row, which has a conflicting pin, is of better priority. Such a row is of the requester's level or a lower one, so the pin is seen.
+fn must_wait(marks: [bool; 32], ranks: [Rank; 32], row: usize) -> bool
+    requires { ⌜ row < 32 ⌝ }
+    ensures { λ r. ⌜ r ≡ mustWaitIn marks ranks row ⌝ }
+{
+    let requester = ranks[row];
     let mut wait = false;
     for r in 0..32usize {
-        let h = held[r];
-        let x = rows[r];
-        let t = is_barred(row, deadline, mode, r, x.deadline, h);
-        wait = seq::either(wait, t);
+        let marked = marks[r];
+        let rank = ranks[r];
+        let better = model::is_better(rank, requester);
+        wait = wait | (marked & better);
     }
     wait
-}
-
-// The other rows with a conflicting pin.
-fn conflict_marks(held: [Holding; 32], row: usize, mode: Mode) -> [bool; 32]
-    ensures { λ r. ⌜ r ≡ conflictMarks held row mode ⌝ }
-{
-    let mut marks = [false; 32];
-    for r in 0..32usize {
-        let h = held[r];
-        let t = is_rival(row, mode, r, h);
-        marks[r] = t;
-    }
-    marks
-}
-
-// The rows with a pin.
-fn pin_marks(held: [Holding; 32]) -> [bool; 32]
-    ensures { λ r. ⌜ r ≡ pinMarks held ⌝ }
-{
-    let mut marks = [false; 32];
-    for r in 0..32usize {
-        let h = held[r];
-        let p = h.pin;
-        let t = model::is_pin(p);
-        marks[r] = t;
-    }
-    marks
 }
 
 // Step 4: a row's own holding keeps its arrival and the stronger pin.
@@ -410,9 +373,10 @@ fn plan_steps(
     ensures { λ r. ⌜ r ≡ planned held rows x row mode due ⌝ }
 {
     let level = row / 8;
-    let marks = conflict_marks(held, row, mode);
+    let marks = mark_rows(held, Kills::Conflicting { row, mode });
     if see(held, level) {
-        let wait = must_wait(held, rows, row, mode);
+        let ranks = choice::ranks(rows);
+        let wait = must_wait(marks, ranks, row);
         let arrival = least_arrival(held, level);
         return Plan {
             wait,
@@ -510,7 +474,7 @@ pub fn serve(s: State, row: usize, page: u32, mode: Mode) -> Reply
             return wait(clock, rows, slots, row, page, mode);
         };
         let held = holdings_on(s, chosen);
-        let gone = pin_marks(held);
+        let gone = mark_rows(held, Kills::Pinning);
         let left = model::released_slots(s, clock, gone);
         let c = Change {
             clock,

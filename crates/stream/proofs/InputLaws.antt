@@ -7,7 +7,7 @@ use native.Mathlib.Omega.{arith}
 use lib.ListN.{length, take, length-append}
 use Rattle.record.specs.declared.Progress.{Progress}
 use Rattle.record.specs.Play.{Played, played, records, firstProgress}
-use Rattle.record.proofs.PlayLaws.{played-number, records-most}
+use Rattle.record.proofs.PlayLaws.{Came, played-small, came-small, records-most}
 use Rattle.record.proofs.PartLaws.{goingOn, played-parts, records-parts}
 use Rattle.stream.specs.Left.{firstFrom, LeftBySome}
 
@@ -29,7 +29,7 @@ module _ (t : Progress) (a : List ℕ) where
 
   module _ (m : ℕ) (n : Progress) (b : List ℕ) (h : Reached t a m n b) where
     pub reached-number : n .number ≤ t .number + m
-    reached-number = rw (h .progress-is) (played-number t a (h .input) m)
+    reached-number = rw (h .progress-is) (played-small t a (h .input) m .1)
 
     -- the records of a further part, played whole
     joined : (bytes : List ℕ) (k : ℕ) → played (m + k) t a (h .input ++ bytes) ≡ goingOn (played m t a (h .input)) (played k n b bytes)
@@ -67,6 +67,11 @@ left-none started a = left-whole started a 0 (firstFrom started) a (reached-none
 -- what was read into a part's bytes is at most 512 records
 pub part-few : (n : ℕ) (bytes bytes₀ : List ℕ) → (n ≤ length bytes) × (n ≡ length (take n bytes)) → length bytes ≡ length bytes₀ → 6144 ≡ length bytes₀ → records (take n bytes) ≤ 512
 part-few n bytes bytes₀ h k e = records-most (take n bytes) 512 (omega (arith, h .0, h .1, k, e))
+
+-- so their text fits into 65,536 bytes
+pub part-room : (t n : Progress) (a b bytes out out' : List ℕ) (end : ℕ) → Came (played (records bytes) t a bytes) n b out 0 out' end → records bytes ≤ 512 → 65536 ≡ length out → length out' ≡ length out
+    → end ≤ length out'
+part-room t n a b bytes out out' end h few l k = omega (arith, came-small t a bytes (records bytes) n b out out' end h .0)
 
 pub next-part : (i : ℕ) → (i + 1) * 512 ≡ i * 512 + 512
 next-part i = omega arith

@@ -10,7 +10,7 @@ use Rattle.record.specs.Play.{played, records}
 unfoldable pub firstFrom : Bool → Progress
 firstFrom started = record { started = started; over = false; number = 1 }
 
--- a contract cannot name the bytes that were read: b is what a becomes by the records of some input
+-- b is what a becomes by the records of some input. A player that reads nothing meets this too: no contract of the io library names the bytes that were read.
 pub record LeftBySome (started : Bool) (a b : List ℕ) : Type 0 where
   pub input : List ℕ
   pub left : b ≡ played (records input) (firstFrom started) a input .area

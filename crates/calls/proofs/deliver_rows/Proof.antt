@@ -10,9 +10,6 @@ use Rattle.model.specs.State.{freeRow}
 use Rattle.rules.specs.Calls.{deliveredRow}
 use Rattle.calls.proofs.deliver_rows.Statement.{statement}
 use Rattle.calls.proofs.deliver_rows.Tie as tie
-use Rattle.calls.proofs.deliver_rows.Reads as reads
-use Rattle.calls.proofs.deliver_rows.Lts as lts
-use Rattle.calls.proofs.delivered_row.Reads as delivered-row-reads
 
 abbrev delivering : ℕ → ℕ → Row → Row
 delivering clock row x = deliveredRow clock x
@@ -25,27 +22,6 @@ abbrev μ-loop : tie.MeasureT-loop
 
 loop-holds : tie.Need-loop-holds Inv-loop μ-loop
 loop-holds c = (omega arith, each-below-none (delivering (c .args .clock)) (c .args .t1))
-
-mul-x : tie.Need-mul-x Inv-loop μ-loop
-mul-x c = omega arith
-
-array-copy-out-x : tie.Need-array-copy-out-x Inv-loop μ-loop
-array-copy-out-x c = omega arith
-
-delivered-row-requires : tie.Need-delivered-row-requires Inv-loop μ-loop
-delivered-row-requires c κs = search needs
-
-mul-n : tie.Need-mul-n Inv-loop μ-loop
-mul-n c = omega arith
-
-array-set-from-n : tie.Need-array-set-from-n Inv-loop μ-loop
-array-set-from-n c = omega arith
-
-add-r : tie.Need-add-r Inv-loop μ-loop
-add-r c = omega arith
-
-loop-less : tie.Need-loop-less Inv-loop μ-loop
-loop-less c = omega arith
 
 loop-again : tie.Need-loop-again Inv-loop μ-loop
 loop-again c =
@@ -61,15 +37,5 @@ pub deliver-rows-spec : {M : Type 1} → statement M
 deliver-rows-spec =
     tie.close
     (tie.spec
-    Inv-loop
-    μ-loop
-    loop-holds
-    mul-x
-    array-copy-out-x
-    delivered-row-requires
-    mul-n
-    array-set-from-n
-    add-r
-    loop-less
-    loop-again
-    returns)
+    Inv-loop μ-loop loop-holds (λ c. omega arith) (λ c. omega arith) (λ c κs. search needs) (λ c. omega arith) (λ c. omega arith) (λ c. omega arith)
+    (λ c. omega arith) loop-again returns)

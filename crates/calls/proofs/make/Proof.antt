@@ -37,12 +37,12 @@ returns-7 : tie.Need-returns-7
 returns-7 c =
     let b = c .before .before .before .before .before in
     let k = c .before .before .before .before .match .keys7 in
-    same-after (b .args .s) (state-ok (b .args .s) _ (b .good .0) .sized) (c .same .result) _ _ (c .same .ensures) (c .before .before .before .ask .ensures) (it-reads (b .args .s) (b .args .c) k (b .pre .0) .1)
+    same-after (b .args .s) (state-ok (b .args .s) _ (b .good .0) .sized) (c .keep-holdings .result) _ _ (c .keep-holdings .ensures) (c .before .before .before .ask .ensures) (it-reads (b .args .s) (b .args .c) k (b .pre .0) .1)
 
 pub make-spec : {M : Type 1} → statement M
 make-spec =
     tie.close
     (tie.spec
     (λ c. search needs) (λ c κs. search needs) (λ c. search needs) (λ c κs. search needs) (λ c. search needs) (λ c κs. search needs)
-    (λ c. search needs) (λ c κs. search needs) (λ c. search needs) (λ c κs. search needs) (λ c. search needs) (λ c κs. search needs)
-    ask-requires (λ c κs. search needs) returns returns-2 returns-3 returns-4 returns-5 returns-6 returns-7)
+    (λ c. search needs) (λ c κs. search needs) (λ c. search needs) (λ c κs. search needs) (λ c. search needs) (λ c κs. search needs) ask-requires
+    (λ c κs. search needs) returns returns-2 returns-3 returns-4 returns-5 returns-6 returns-7)

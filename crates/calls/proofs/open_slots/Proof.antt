@@ -10,11 +10,6 @@ use Rattle.model.specs.Words.{seenHolder, isOpen}
 use Rattle.calls.proofs.SlotLaws.{seen-test, open-end}
 use Rattle.calls.proofs.open_slots.Statement.{statement}
 use Rattle.calls.proofs.open_slots.Tie as tie
-use Rattle.calls.proofs.open_slots.Reads as reads
-use Rattle.calls.proofs.open_slots.Lts as lts
-use Rattle.calls.proofs.count_open.Reads as count-open-reads
-use Rattle.seq.proofs.either.Reads as either-reads
-use Rattle.serve.proofs.is_seen.Reads as is-seen-reads
 
 abbrev Inv-loop2 : tie.InvT-loop2
 Inv-loop2 level s size number i seen₀ r₀ seen r = (r ≤ 32) × (seen ≡ anyBelow r (seenHolder s level i))
@@ -36,30 +31,6 @@ loop2-holds : tie.Need-loop2-holds Inv-loop2 μ-loop2 Inv-loop μ-loop
 unfolding anyBelow
 loop2-holds c = (omega arith, refl)
 
-mul-h : tie.Need-mul-h Inv-loop2 μ-loop2 Inv-loop μ-loop
-mul-h c = omega arith
-
-add-h : tie.Need-add-h Inv-loop2 μ-loop2 Inv-loop μ-loop
-add-h c = omega arith
-
-mul-h-2 : tie.Need-mul-h-2 Inv-loop2 μ-loop2 Inv-loop μ-loop
-mul-h-2 c = omega arith
-
-element-copy-out-h : tie.Need-element-copy-out-h Inv-loop2 μ-loop2 Inv-loop μ-loop
-element-copy-out-h c = omega arith
-
-is-seen-requires : tie.Need-is-seen-requires Inv-loop2 μ-loop2 Inv-loop μ-loop
-is-seen-requires c κs = search needs
-
-either-requires : tie.Need-either-requires Inv-loop2 μ-loop2 Inv-loop μ-loop
-either-requires c κs = search needs
-
-add-r : tie.Need-add-r Inv-loop2 μ-loop2 Inv-loop μ-loop
-add-r c = omega arith
-
-loop2-less : tie.Need-loop2-less Inv-loop2 μ-loop2 Inv-loop μ-loop
-loop2-less c = omega arith
-
 loop2-again : tie.Need-loop2-again Inv-loop2 μ-loop2 Inv-loop μ-loop
 loop2-again c =
     let s = c .before .before .before .before .before .before .before .args .t1 in
@@ -72,12 +43,6 @@ loop2-again c =
 
 count-open-requires : tie.Need-count-open-requires Inv-loop2 μ-loop2 Inv-loop μ-loop
 count-open-requires c κs = omega (arith, c .before .before .before .loop .inv .1, count-at-most (isOpen (c .before .before .before .before .args .t1) (c .before .before .before .before .args .level)) (c .before .before .before .loop .i))
-
-add-i : tie.Need-add-i Inv-loop2 μ-loop2 Inv-loop μ-loop
-add-i c = omega arith
-
-loop-less : tie.Need-loop-less Inv-loop2 μ-loop2 Inv-loop μ-loop
-loop-less c = omega arith
 
 loop-again : tie.Need-loop-again Inv-loop2 μ-loop2 Inv-loop μ-loop
 loop-again c =
@@ -100,23 +65,6 @@ pub open-slots-spec : {M : Type 1} → statement M
 open-slots-spec =
     tie.close
     (tie.spec
-    Inv-loop2
-    μ-loop2
-    Inv-loop
-    μ-loop
-    loop-holds
-    loop2-holds
-    mul-h
-    add-h
-    mul-h-2
-    element-copy-out-h
-    is-seen-requires
-    either-requires
-    add-r
-    loop2-less
-    loop2-again
-    count-open-requires
-    add-i
-    loop-less
-    loop-again
-    returns)
+    Inv-loop2 μ-loop2 Inv-loop μ-loop loop-holds loop2-holds (λ c. omega arith) (λ c. omega arith) (λ c. omega arith) (λ c. omega arith)
+    (λ c κs. search needs) (λ c κs. search needs) (λ c. omega arith) (λ c. omega arith) loop2-again count-open-requires (λ c. omega arith)
+    (λ c. omega arith) loop-again returns)

@@ -1,61 +1,69 @@
+use mathlib.Core.Path.{_≡_, _∙_}
+use Prim.Native.Nat.{_≤_}
 use native.Mathlib.Omega.{arith}
+use borrow.Author.Tests.{ltb-false}
+use lib.Dec.{ltb}
 use Rattle.model.proofs.Ranges.{state-ok}
-use Rattle.calls.proofs.CallLaws.{taken, none-applies}
-use mathlib.Core.Path.{_∙_, ap}
-use Rattle.model.specs.declared.Mode.{Mode}
-use Rattle.model.specs.Parties.{rowOf}
-use Rattle.rules.specs.Calls.{requested, served}
-use Rattle.rules.proofs.Leaves.RefusalFacts.{request-taken}
+use Rattle.rules.specs.Refusals.{firstToApply, requestRefusal}
+use Rattle.rules.specs.Calls.{requested}
+use Rattle.calls.proofs.RefusalLaws.{taken, passed, requestFirst, request-first, request-last}
 use Rattle.calls.proofs.ReplyLaws.{refused-after}
 use borrow.Author.Needs.{needs}
 use Rattle.calls.proofs.request.Statement.{statement}
 use Rattle.calls.proofs.request.Tie as tie
-use Rattle.calls.proofs.request.Reads as reads
-use Rattle.calls.proofs.request.Lts as lts
-use Rattle.calls.proofs.mode_of.Reads as mode-of-reads
-use Rattle.calls.proofs.refused.Reads as refused-reads
-use Rattle.calls.proofs.request_refusal.Reads as request-refusal-reads
-use Rattle.serve.proofs.serve.Reads as serve-reads
 
-request-refusal-requires : tie.Need-request-refusal-requires
-request-refusal-requires c κs = search needs
+number : (c : tie.After-row-refusal) → let a = c .before .before .before .before .before .before .before .before .args in c .row-refusal .result ≡ firstToApply (requestFirst (a .s) (a .level) (a .number) (a .page) (a .mode))
+number c = rw (c .row-refusal .ensures .0) (cc)
 
-refused-requires : tie.Need-refused-requires
-refused-requires c κs = search needs
+number-2 : (c : tie.After-access-refusal)
+    → let b = c .before .before .before .before in let a = b .before .before .before .before .before .before .before .before .args in b .row-refusal .result ≤ 0 → c .access-refusal .result ≡ requestRefusal (a .s) (a .level) (a .number) (a .page) (a .mode)
+number-2 c l =
+    let b = c .before .before .before .before in
+    let a = b .before .before .before .before .before .before .before .before .args in
+    rw (c .access-refusal .ensures, c .before .is-allowed .ensures, c .before .before .mode-of .ensures) (request-last (a .s) (a .level) (a .number) (a .page) (a .mode) _ (number b) l)
 
 returns : tie.Need-returns
 unfolding requested
-returns c = refused-after (c .before .before .before .before .before .args .s) (state-ok (c .before .before .before .before .before .args .s) _ (c .before .before .before .before .before .good .0) .sized) (c .refused .result) _ _ _ (c .refused .ensures) (c .before .before .before .before .request-refusal .ensures) (c .before .before .before .if1 .taken)
+returns c =
+    let b = c .before .before in
+    let a = b .before .before .before .before .before .before .before .before in
+    refused-after (a .args .s) (state-ok (a .args .s) _ (a .good .0) .sized) (c .keep-holdings .result) _ _ _ (c .keep-holdings .ensures)
+    (request-first (a .args .s) (a .args .level) (a .args .number) (a .args .page) (a .args .mode) _ (number b) (c .before .if1 .taken)) (c .before .if1 .taken)
 
-mul-row : tie.Need-mul-row
-mul-row c = let h = request-taken _ _ _ _ _ (none-applies _ _ (c .before .request-refusal .ensures) (c .if1 .left)) .names .row-is in omega arith
-
-add-row : tie.Need-add-row
-add-row c = let h = request-taken _ _ _ _ _ (none-applies _ _ (c .before .request-refusal .ensures) (c .if1 .left)) .names .row-is in omega arith
-
-cast-row : tie.Need-cast-row
-cast-row c = search needs
-
-mode-of-requires : tie.Need-mode-of-requires
-mode-of-requires c κs = search needs
-
-serve-requires : tie.Need-serve-requires
-serve-requires c κs = let h = request-taken _ _ _ _ _ (none-applies _ _ (c .before .before .request-refusal .ensures) (c .before .if1 .left)) .names .row-is in (c .before .before .before .pre .0, omega arith, c .before .before .before .pre .1)
+is-allowed-requires : tie.Need-is-allowed-requires
+is-allowed-requires c κs =
+    let b = c .before .before in
+    let h = b .row-refusal .ensures .1 (c .before .if1 .left) in
+    let page = b .before .before .before .before .before .before .before .before .args .page in
+    let p = passed (ltb 4095 page) 6 (b .before .before .first .result) (b .before .first2 .result) (b .before .first2 .ensures) (omega arith) (h .2) in
+    (omega arith, omega (arith, ltb-false 4095 page (p .0)))
 
 returns-2 : tie.Need-returns-2
 unfolding requested
-returns-2 c = c .serve .ensures ∙ ap (λ (m : Mode). served (c .before .before .before .before .args .s) (rowOf (c .before .before .before .before .args .level) (c .before .before .before .before .args .number)) (c .before .before .before .before .args .page) m) (c .before .mode-of .ensures) ∙ taken _ _ _ _ (c .before .before .before .request-refusal .ensures) (c .before .before .if1 .left)
+returns-2 c =
+    let k = c .before .before in
+    let a = k .before .before .before .before .before .before .before .before .before .before .before .before in
+    refused-after (a .args .s) (state-ok (a .args .s) _ (a .good .0) .sized) (c .keep-holdings2 .result) _ _ _ (c .keep-holdings2 .ensures) (number-2 k (k .before .before .before .if1 .left)) (c .before .if2 .taken)
+
+serve-requires : tie.Need-serve-requires
+serve-requires c κs =
+    let b = c .before .before .before .before .before in
+    let a = b .before .before .before .before .before .before .before .before in
+    let h = b .row-refusal .ensures .1 (c .before .before .before .before .if1 .left) in
+    (a .pre .0, omega (arith, b .before .before .before .before .before .row-of .ensures), a .pre .1)
+
+returns-3 : tie.Need-returns-3
+unfolding requested
+returns-3 c =
+    let k = c .before .before in
+    let b = k .before .before .before .before in
+    c .serve .ensures
+    ∙ rw (b .before .before .before .before .before .row-of .ensures, k .before .before .mode-of .ensures) (taken _ _ _ _ (number-2 k (k .before .before .before .if1 .left)) (c .before .if2 .left))
 
 pub request-spec : {M : Type 1} → statement M
 request-spec =
     tie.close
     (tie.spec
-    request-refusal-requires
-    refused-requires
-    returns
-    mul-row
-    add-row
-    cast-row
-    mode-of-requires
-    serve-requires
-    returns-2)
+    (λ c κs. search needs) (λ c κs. search needs) (λ c κs. search needs) (λ c κs. search needs) (λ c κs. search needs) (λ c κs. search needs)
+    (λ c κs. search needs) returns (λ c κs. search needs) is-allowed-requires (λ c κs. search needs) (λ c κs. search needs) returns-2 serve-requires
+    returns-3)

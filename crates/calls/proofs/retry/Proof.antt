@@ -1,62 +1,49 @@
+use mathlib.Core.Path.{_≡_, _∙_}
 use native.Mathlib.Omega.{arith}
 use Rattle.model.proofs.Ranges.{state-ok}
-use Rattle.calls.proofs.CallLaws.{taken, none-applies}
-use mathlib.Core.Path.{_∙_, ap}
+use Rattle.rules.specs.Refusals.{retryRefusal}
 use Rattle.rules.specs.Calls.{retried}
-use Rattle.rules.proofs.Leaves.RefusalFacts.{retry-taken}
-use Rattle.calls.proofs.ReplyLaws.{refused-after}
+use Rattle.calls.proofs.RefusalLaws.{taken}
+use Rattle.calls.proofs.ReplyLaws.{refused-after, again}
+use Rattle.calls.proofs.TagLaws.{it-waits}
 use borrow.Author.Needs.{needs}
 use Rattle.calls.proofs.retry.Statement.{statement}
 use Rattle.calls.proofs.retry.Tie as tie
-use Rattle.calls.proofs.retry.Reads as reads
-use Rattle.calls.proofs.retry.Lts as lts
-use Rattle.calls.proofs.refused.Reads as refused-reads
-use Rattle.calls.proofs.retry_refusal.Reads as retry-refusal-reads
-use Rattle.calls.proofs.serve_again.Reads as serve-again-reads
 
-retry-refusal-requires : tie.Need-retry-refusal-requires
-retry-refusal-requires c κs = search needs
-
-refused-requires : tie.Need-refused-requires
-refused-requires c κs = search needs
+number : (c : tie.After-row-refusal) → let a = c .before .before .before .before .before .args in c .row-refusal .result ≡ retryRefusal (a .s) (a .level) (a .number)
+unfolding retryRefusal
+number c = rw (c .row-refusal .ensures .0) (cc)
 
 returns : tie.Need-returns
 unfolding retried
-returns c = refused-after (c .before .before .before .before .before .args .s) (state-ok (c .before .before .before .before .before .args .s) _ (c .before .before .before .before .before .good .0) .sized) (c .refused .result) _ _ _ (c .refused .ensures) (c .before .before .before .retry-refusal .ensures) (c .before .before .if1 .taken)
-
-mul-row : tie.Need-mul-row
-mul-row c = let h = retry-taken _ _ _ (none-applies _ _ (c .before .retry-refusal .ensures) (c .if1 .left)) .row-is in omega arith
-
-add-row : tie.Need-add-row
-add-row c = let h = retry-taken _ _ _ (none-applies _ _ (c .before .retry-refusal .ensures) (c .if1 .left)) .row-is in omega arith
-
-cast-row : tie.Need-cast-row
-cast-row c = search needs
-
-mul-x : tie.Need-mul-x
-mul-x c = search needs
-
-array-copy-out-x : tie.Need-array-copy-out-x
-array-copy-out-x c = let h = retry-taken _ _ _ (none-applies _ _ (c .before .retry-refusal .ensures) (c .if1 .left)) .row-is in omega arith
-
-serve-again-requires : tie.Need-serve-again-requires
-serve-again-requires c κs = let h = retry-taken _ _ _ (none-applies _ _ (c .before .before .retry-refusal .ensures) (c .before .if1 .left)) .row-is in (c .before .before .before .before .pre .0, omega arith, c .before .before .before .before .pre .1)
+returns c =
+    let b = c .before .before .before in
+    let a = b .before .before .before .before .before in
+    refused-after (a .args .s) (state-ok (a .args .s) _ (a .good .0) .sized) (c .keep-holdings .result) _ _ _ (c .keep-holdings .ensures) (number b) (c .before .before .if1 .taken)
 
 returns-2 : tie.Need-returns-2
+returns-2 c =
+    let b = c .before .before .before .before in
+    absurd (it-waits (b .before .before .condition-at .result) _ (c .before .before .match .keys2) (b .before .retry-refusal .ensures) (b .row-refusal .ensures .1 (c .before .before .before .if1 .left) .2))
+
+serve-requires : tie.Need-serve-requires
+serve-requires c κs =
+    let b = c .before .before .before .before in
+    let a = b .before .before .before .before .before in
+    let h = b .row-refusal .ensures .1 (c .before .before .before .if1 .left) in
+    (a .pre .0, omega (arith, b .before .before .before .row-of .ensures), a .pre .1)
+
+returns-3 : tie.Need-returns-3
 unfolding retried
-returns-2 c = c .serve-again .ensures ∙ taken _ _ _ _ (c .before .before .before .retry-refusal .ensures) (c .before .before .if1 .left)
+returns-3 c =
+    let b = c .before .before .before .before .before in
+    c .serve .ensures
+    ∙ again (b .before .before .before .before .before .args .s) _ _ _ _ (b .before .before .condition-at .result) (b .before .before .before .row-of .ensures) (b .before .before .condition-at .ensures) (c .before .before .c .given .1)
+    ∙ taken _ _ _ _ (number b) (c .before .before .before .before .if1 .left)
 
 pub retry-spec : {M : Type 1} → statement M
 retry-spec =
     tie.close
     (tie.spec
-    retry-refusal-requires
-    refused-requires
-    returns
-    mul-row
-    add-row
-    cast-row
-    mul-x
-    array-copy-out-x
-    serve-again-requires
-    returns-2)
+    (λ c κs. search needs) (λ c κs. search needs) (λ c κs. search needs) (λ c κs. search needs) (λ c κs. search needs) returns (λ c. search needs)
+    (λ c κs. search needs) returns-2 serve-requires returns-3)

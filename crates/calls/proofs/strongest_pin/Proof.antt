@@ -9,16 +9,11 @@ use Rattle.seq.proofs.BelowLaws.{any-test-turn}
 use Rattle.seq.proofs.ValueLaws.{value-turn}
 use Rattle.model.specs.declared.Pin.the-variants.{Absent}
 use Rattle.model.specs.Words.{strength, stronger}
-use Rattle.serve.specs.Elements.{seenTest}
-use Rattle.serve.specs.SlotHoldings.{heldBy}
-use Rattle.calls.specs.Elements.{strongestOf, strongestIn}
+use Rattle.serve.specs.Inner.SlotHoldings.{seenTest}
+use Rattle.serve.specs.Inner.SlotHoldings.{heldBy}
+use Rattle.calls.specs.Inner.Parts.{strongestIn}
 use Rattle.calls.proofs.strongest_pin.Statement.{statement}
 use Rattle.calls.proofs.strongest_pin.Tie as tie
-use Rattle.calls.proofs.strongest_pin.Reads as reads
-use Rattle.calls.proofs.strongest_pin.Lts as lts
-use Rattle.calls.proofs.strongest_with.Reads as strongest-with-reads
-use Rattle.seq.proofs.either.Reads as either-reads
-use Rattle.serve.proofs.is_seen.Reads as is-seen-reads
 
 abbrev Inv-loop : tie.InvT-loop
 Inv-loop level held found₀ best₀ r₀ found best r = (r ≤ 32) × (found ≡ anyBelow r (λ row. seenTest level row (heldBy held row))) × (best ≡ atFound (pickBelow r (λ row. seenTest level row (heldBy held row)) (λ row other. ltb (strength (heldBy held other .pin)) (strength (heldBy held row .pin)))) (λ row. heldBy held row .pin) Absent)
@@ -30,29 +25,8 @@ loop-holds : tie.Need-loop-holds Inv-loop μ-loop
 unfolding anyBelow pickBelow
 loop-holds c = (omega arith, refl, refl)
 
-mul-h : tie.Need-mul-h Inv-loop μ-loop
-mul-h c = omega arith
-
-array-copy-out-h : tie.Need-array-copy-out-h Inv-loop μ-loop
-array-copy-out-h c = omega arith
-
-is-seen-requires : tie.Need-is-seen-requires Inv-loop μ-loop
-is-seen-requires c κs = search needs
-
-strongest-with-requires : tie.Need-strongest-with-requires Inv-loop μ-loop
-strongest-with-requires c κs = search needs
-
-either-requires : tie.Need-either-requires Inv-loop μ-loop
-either-requires c κs = search needs
-
-add-r : tie.Need-add-r Inv-loop μ-loop
-add-r c = omega arith
-
-loop-less : tie.Need-loop-less Inv-loop μ-loop
-loop-less c = omega arith
-
 loop-again : tie.Need-loop-again Inv-loop μ-loop
-unfolding strongestOf stronger
+unfolding stronger
 loop-again c = let held = c .before .before .before .before .before .before .args .t1 in
     let p : ℕ → Bool = λ row. seenTest (c .before .before .before .before .before .before .args .level) row (heldBy held row) in
     let w = c .before .before .before .before .before .loop in (
@@ -69,15 +43,5 @@ pub strongest-pin-spec : {M : Type 1} → statement M
 strongest-pin-spec =
     tie.close
     (tie.spec
-    Inv-loop
-    μ-loop
-    loop-holds
-    mul-h
-    array-copy-out-h
-    is-seen-requires
-    strongest-with-requires
-    either-requires
-    add-r
-    loop-less
-    loop-again
-    returns)
+    Inv-loop μ-loop loop-holds (λ c. omega arith) (λ c. omega arith) (λ c κs. search needs) (λ c κs. search needs) (λ c κs. search needs)
+    (λ c. omega arith) (λ c. omega arith) loop-again returns)

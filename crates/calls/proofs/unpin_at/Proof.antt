@@ -1,64 +1,36 @@
-use native.Mathlib.Omega.{arith}
+use mathlib.Core.Path.{_∙_}
+use Rattle.model.specs.declared.Answer.the-variants.{Unpinned}
+use Rattle.model.specs.Inner.Changed.{outcomeOf}
 use Rattle.model.proofs.Ranges.{state-ok}
-use Rattle.calls.proofs.ReplyLaws.{unpin-changed}
+use Rattle.calls.proofs.ReplyLaws.{kept-after}
+use Rattle.calls.proofs.UnpinLaws.{pin-is, unpin-changed}
 use borrow.Author.Needs.{needs}
 use Rattle.calls.proofs.unpin_at.Statement.{statement}
 use Rattle.calls.proofs.unpin_at.Tie as tie
-use Rattle.calls.proofs.unpin_at.Reads as reads
-use Rattle.calls.proofs.unpin_at.Lts as lts
-use Rattle.model.proofs.is_written.Reads as is-written-reads
-use Rattle.model.proofs.marked_slot.Reads as marked-slot-reads
-use Rattle.serve.proofs.holdings_on.Reads as holdings-on-reads
-
-holdings-on-requires : tie.Need-holdings-on-requires
-holdings-on-requires c κs = search needs
-
-mul-h : tie.Need-mul-h
-mul-h c = search needs
-
-array-copy-out-h : tie.Need-array-copy-out-h
-array-copy-out-h c = search needs
-
-mul-x : tie.Need-mul-x
-mul-x c = search needs
-
-array-copy-out-x : tie.Need-array-copy-out-x
-array-copy-out-x c = search needs
-
-is-written-requires : tie.Need-is-written-requires
-is-written-requires c κs = search needs
-
-marked-slot-requires : tie.Need-marked-slot-requires
-marked-slot-requires c κs = search needs
-
-mul-slots : tie.Need-mul-slots
-mul-slots c = search needs
-
-array-set-from-slots : tie.Need-array-set-from-slots
-array-set-from-slots c = search needs
-
-mul-held : tie.Need-mul-held
-mul-held c = search needs
-
-array-set-from-held : tie.Need-array-set-from-held
-array-set-from-held c = search needs
 
 returns : tie.Need-returns
-returns c = unpin-changed (c .before .before .before .before .before .before .before .args .s) (state-ok (c .before .before .before .before .before .before .before .args .s) _ (c .before .before .before .before .before .before .before .good .0) .sized) (c .before .before .before .before .before .before .before .args .row) (c .before .before .before .before .before .before .before .args .slot) (c .before .before .before .before .before .before .before .pre .0) (c .before .before .before .before .before .before .before .pre .1) (c .before .before .before .before .before .holdings-on .result) (c .before .is-written .result) (c .marked-slot .result) (c .before .before .before .before .before .holdings-on .ensures) (c .before .is-written .ensures) (c .marked-slot .ensures)
+unfolding outcomeOf
+returns c =
+    let b = c .before .before .before .before in
+    let on = b .before .before .holdings-on in
+    let a = b .before .before .before .before .before in
+    let z = state-ok (a .args .s) _ (a .good .0) .sized in
+    (λ j. record { state = unpin-changed (a .args .s) z (a .args .row) (a .args .slot) (a .pre .0) (a .pre .1) (on .result) (c .before .is-written .result) (c .marked-slot .result) (on .ensures) (c .before .is-written .ensures) (c .marked-slot .ensures) j; answer = Unpinned })
+    ∙ rw (pin-is (a .args .s) z (a .args .row) (a .args .slot) (a .pre .0) (a .pre .1) (on .result) (b .is-pin .result) (on .ensures) (b .is-pin .ensures), c .before .before .before .if1 .taken)
+
+returns-2 : tie.Need-returns-2
+returns-2 c =
+    let b = c .before .before in
+    let on = b .before .before .holdings-on in
+    let a = b .before .before .before .before .before in
+    let z = state-ok (a .args .s) _ (a .good .0) .sized in
+    kept-after (a .args .s) z (c .keep-holdings .result) _ _ (c .keep-holdings .ensures)
+    ∙ rw (pin-is (a .args .s) z (a .args .row) (a .args .slot) (a .pre .0) (a .pre .1) (on .result) (b .is-pin .result) (on .ensures) (b .is-pin .ensures), c .before .if1 .left)
 
 pub unpin-at-spec : {M : Type 1} → statement M
 unpin-at-spec =
     tie.close
     (tie.spec
-    holdings-on-requires
-    mul-h
-    array-copy-out-h
-    mul-x
-    array-copy-out-x
-    is-written-requires
-    marked-slot-requires
-    mul-slots
-    array-set-from-slots
-    mul-held
-    array-set-from-held
-    returns)
+    (λ c κs. search needs) (λ c. search needs) (λ c. search needs) (λ c κs. search needs) (λ c. search needs) (λ c. search needs)
+    (λ c κs. search needs) (λ c κs. search needs) (λ c. search needs) (λ c. search needs) (λ c. search needs) (λ c. search needs) returns
+    (λ c κs. search needs) returns-2)

@@ -1,13 +1,11 @@
 use Rattle.seq.proofs.Tests.{tests}
-use Rattle.choice.specs.Summary.{holdersWith}
+use Rattle.choice.specs.Inner.Summary.{holdersWith}
 use borrow.Author.Needs.{needs}
 use Rattle.choice.proofs.holders_with.Statement.{statement}
 use Rattle.choice.proofs.holders_with.Tie as tie
 use Rattle.choice.proofs.holders_with.Reads as reads
 use Rattle.choice.proofs.holders_with.Lts as lts
 use Rattle.choice.proofs.join_level.Reads as join-level-reads
-use Rattle.model.proofs.is_better.Reads as is-better-reads
-use Rattle.model.proofs.rank_of.Reads as rank-of-reads
 use Rattle.model.proofs.is_held.Reads as is-held-reads
 use Rattle.model.proofs.is_pin.Reads as is-pin-reads
 
@@ -17,25 +15,16 @@ is-held-requires c κs = search needs
 is-pin-requires : tie.Need-is-pin-requires
 is-pin-requires c κs = search needs
 
-rank-of-requires : tie.Need-rank-of-requires
-rank-of-requires c κs = search needs
-
-rank-of-requires-2 : tie.Need-rank-of-requires-2
-rank-of-requires-2 c κs = search needs
-
-is-better-requires : tie.Need-is-better-requires
-is-better-requires c κs = search needs
-
 join-level-requires : tie.Need-join-level-requires
 join-level-requires c κs = search needs
 
 returns : tie.Need-returns
 unfolding holdersWith
-returns c = simp (tests, c .join-level .ensures, c .before .is-better .ensures, c .before .before .rank-of2 .ensures, c .before .before .before .rank-of .ensures, c .before .before .before .before .if3 .taken, c .before .before .before .before .before .before .if2 .taken, c .before .before .before .before .before .before .before .is-pin .ensures, c .before .before .before .before .before .before .before .before .if1 .taken, ← c .before .before .before .before .before .before .before .before .before .is-held .ensures)
+returns c = simp (tests, c .join-level .ensures, c .before .if3 .taken, c .before .before .before .before .if2 .taken, c .before .before .before .before .before .is-pin .ensures, c .before .before .before .before .before .before .if1 .taken, ← c .before .before .before .before .before .before .before .is-held .ensures)
 
 returns-2 : tie.Need-returns-2
 unfolding holdersWith
-returns-2 c = simp (tests, c .if3 .left, c .before .before .if2 .taken, c .before .before .before .before .if1 .taken, ← c .before .before .before .before .before .is-held .ensures)
+returns-2 c = simp (tests, c .if3 .left, c .before .before .before .if2 .taken, c .before .before .before .before .before .if1 .taken, ← c .before .before .before .before .before .before .is-held .ensures)
 
 returns-3 : tie.Need-returns-3
 unfolding holdersWith
@@ -51,7 +40,6 @@ holders-with-spec =
     (tie.spec
     is-held-requires
     is-pin-requires
-    rank-of-requires rank-of-requires-2 is-better-requires
     join-level-requires
     returns
     returns-2

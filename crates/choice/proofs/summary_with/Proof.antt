@@ -1,15 +1,17 @@
-use Rattle.choice.specs.Summary.{summaryWith}
+use Rattle.choice.specs.Inner.Summary.{summaryWith}
 use borrow.Author.Needs.{needs}
 use Rattle.choice.proofs.summary_with.Statement.{statement}
 use Rattle.choice.proofs.summary_with.Tie as tie
 use Rattle.choice.proofs.summary_with.Reads as reads
 use Rattle.choice.proofs.summary_with.Lts as lts
 use Rattle.choice.proofs.dirty_in.Reads as dirty-in-reads
-use Rattle.choice.proofs.is_above.Reads as is-above-reads
-use Rattle.choice.proofs.is_beside.Reads as is-beside-reads
 use Rattle.choice.proofs.is_filled.Reads as is-filled-reads
 use Rattle.choice.proofs.lowest_in.Reads as lowest-in-reads
 use Rattle.choice.proofs.page_in.Reads as page-in-reads
+use Rattle.model.proofs.is_better.Reads as is-better-reads
+
+is-better-requires : tie.Need-is-better-requires
+is-better-requires c κs = search needs
 
 is-filled-requires : tie.Need-is-filled-requires
 is-filled-requires c κs = search needs
@@ -23,24 +25,17 @@ dirty-in-requires c κs = search needs
 lowest-in-requires : tie.Need-lowest-in-requires
 lowest-in-requires c κs = search needs
 
-is-above-requires : tie.Need-is-above-requires
-is-above-requires c κs = search needs
-
-is-beside-requires : tie.Need-is-beside-requires
-is-beside-requires c κs = search needs
-
 returns : tie.Need-returns
 unfolding summaryWith
-returns c = simp (c .is-beside .ensures, c .before .is-above .ensures, c .before .before .lowest-in .ensures, c .before .before .before .dirty-in .ensures, c .before .before .before .before .page-in .ensures, c .before .before .before .before .before .is-filled .ensures)
+returns c = simp (c .before .before .before .before .before .before .lowest-in .ensures, c .before .before .before .before .before .before .before .dirty-in .ensures, c .before .before .before .before .before .before .before .before .page-in .ensures, c .before .before .before .before .before .before .before .before .before .is-filled .ensures, c .before .before .before .before .before .before .before .before .before .before .is-better .ensures)
 
 pub summary-with-spec : {M : Type 1} → statement M
 summary-with-spec =
     tie.close
     (tie.spec
+    is-better-requires
     is-filled-requires
     page-in-requires
     dirty-in-requires
     lowest-in-requires
-    is-above-requires
-    is-beside-requires
     returns)

@@ -2,8 +2,6 @@ use mathlib.Core.Path.{refl}
 use Rattle.record.specs.Play.{firstProgress}
 use Rattle.record.proofs.first_progress.Statement.{statement}
 use Rattle.record.proofs.first_progress.Tie as tie
-use Rattle.record.proofs.first_progress.Reads as reads
-use Rattle.record.proofs.first_progress.Lts as lts
 
 returns : tie.Need-returns
 unfolding firstProgress

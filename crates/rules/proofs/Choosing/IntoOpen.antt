@@ -51,11 +51,11 @@ module _ (L : ℕ) (s : State) (z : Sound s) (me page : ℕ) (mode : Mode) (most
     no-pin : (q : ℕ) → q < 32 → levelOf q ≤ L → pins s i q ≡ false
     no-pin q h l = not-pinned (holdingAt s i q .pin) (not-seen s L i q o h l)
 
-    kept-row : (q : ℕ) → q < 32 → levelOf q ≤ L → leftRow s i q ≡ rowAt s q
-    kept-row q h l = rw (no-pin q h l)
+    same-row : (q : ℕ) → q < 32 → levelOf q ≤ L → leftRow s i q ≡ rowAt s q
+    same-row q h l = rw (no-pin q h l)
 
-    kept-holding : (other q : ℕ) → q < 32 → levelOf q ≤ L → leftHolding s i other q ≡ holdingOn s other q
-    kept-holding other q h l = rw (no-pin q h l) (go (hasPage other (slotAt s i .content)) refl)
+    same-holding : (other q : ℕ) → q < 32 → levelOf q ≤ L → leftHolding s i other q ≡ holdingOn s other q
+    same-holding other q h l = rw (no-pin q h l) (go (hasPage other (slotAt s i .content)) refl)
       where
         go : (x : Bool) → hasPage other (slotAt s i .content) ≡ x → cond x emptyHolding (holdingOn s other q) ≡ holdingOn s other q
         go false e = refl
@@ -66,7 +66,7 @@ module _ (L : ℕ) (s : State) (z : Sound s) (me page : ℕ) (mode : Mode) (most
 
     open-into : slotOf s page ≡ Nowhere → Gains L s me page mode (rowAt s) (holdingOn s) (intoSlot (At i) s me page mode)
     open-into absent =
-        gains-as L s me page mode (leftRow s i) (rowAt s) (leftHolding s i) (holdingOn s) (intoSlot (At i) s me page mode) r low kept-row kept-holding
+        gains-as L s me page mode (leftRow s i) (rowAt s) (leftHolding s i) (holdingOn s) (intoSlot (At i) s me page mode) r low same-row same-holding
         (into-gains L s z me i page r low b absent mode)
 
   pub open-gains : (x : ℕ) → x < s .size → seen s L x ≡ false → Gains L s me page mode (rowAt s) (holdingOn s) (served s me page mode)

@@ -32,6 +32,9 @@ found-slot s page i e =
     let k = page-has page (slotAt s i .content) (h .1) in
     (h .0, k .0, k .1)
 
+pub found-below : (s : State) → Sound s → (page i : ℕ) → slotOf s page ≡ At i → i < 64
+found-below s z page i e = omega (arith, found-slot s page i e .0, z .size-most)
+
 pub not-found : (s : State) (page i : ℕ) → slotOf s page ≡ Nowhere → i < s .size → hasPage page (slotAt s i .content) ≡ false
 unfolding slotOf
 not-found s page i e h = pick-none (λ slot. hasPage page (slotAt s slot .content)) (λ x y. false) (s .size) i e h

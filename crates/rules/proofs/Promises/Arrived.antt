@@ -24,7 +24,7 @@ use Rattle.rules.specs.Requests.{Asks}
 use Rattle.rules.specs.Arrivals.{AllArrived, PinnedAndArrived}
 use Rattle.rules.proofs.Facts.SoundFacts.{Sound, facts}
 use Rattle.rules.proofs.Leaves.TickLaws.{later, ticked-clock, ticked-idle}
-use Rattle.rules.proofs.Keeping.Kept.{kept-sound}
+use Rattle.rules.proofs.Stays.StaysSound.{stays-sound}
 use Rattle.rules.proofs.Promises.CallCases.{isServed}
 use Rattle.rules.proofs.Promises.Granting.{grant-ready}
 use Rattle.rules.proofs.Promises.WaitFetch.{granted-alone}
@@ -50,7 +50,7 @@ ready-arrived s z c slot back w =
     let page = x .1 in
     let mode = x .2 in
     let y = grant-ready s row page mode (x .4) (outcome s c) (x .5) slot back w in
-    let t = facts (outcome s c .state) (kept-sound s c z) in
+    let t = facts (outcome s c .state) (stays-sound s c z) in
     let all = idle-arrived (outcome s c .state) t row (x .4) (y .1) in
     let h = strength-held mode (holdingAt (outcome s c .state) slot row .pin) (y .3) in
     let a = all slot (y .0) h in (
@@ -66,7 +66,7 @@ ready-arrived s z c slot back w =
 pub tick-arrived : (s : State) → sound s ≡ true → (row due : ℕ) → row < 32 → rowAt s row .condition ≡ Fetching due → rowAt (outcome s Tick .state) row .condition ≡ Idle
     → (due ≤ outcome s Tick .state .clock) × AllArrived (outcome s Tick .state) row
 unfolding outcome ticked
-tick-arrived s z row due b f e = (go (tickRefusal s) e, idle-arrived (outcome s Tick .state) (facts (outcome s Tick .state) (kept-sound s Tick z)) row b e)
+tick-arrived s z row due b f e = (go (tickRefusal s) e, idle-arrived (outcome s Tick .state) (facts (outcome s Tick .state) (stays-sound s Tick z)) row b e)
   where
     go : (n : ℕ) → rowAt (unless n s (record { state = lateKilled (later s); answer = Clock (s .clock + 1) }) .state) row .condition ≡ Idle
         → due ≤ unless n s (record { state = lateKilled (later s); answer = Clock (s .clock + 1) }) .state .clock

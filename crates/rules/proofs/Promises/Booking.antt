@@ -1,7 +1,6 @@
--- Every call but an accepted start keeps a page's writes booked in its slot, or reports the page for write-back.
-use mathlib.Core.Path.{_≡_, refl, sym, _∙_, ap}
+-- After every call but an accepted start a page's writes are booked in its slot, or the page is reported for write-back.
+use mathlib.Core.Path.{_≡_, refl, _∙_, ap}
 use mathlib.Core.Bool.{Bool, true, false, cond}
-use mathlib.Core.List.{[], _∷_}
 use Prim.Native.Nat.{ℕ, _+_, _<_}
 use native.Mathlib.Decide.{ℕ-discrete}
 use borrow.Author.Tests.{ne-eqb}
@@ -28,17 +27,17 @@ use Rattle.model.proofs.ChangeLaws.{released-holding, released-slot, killed-slo
 use Rattle.model.proofs.ContentLaws.{page-has}
 use Rattle.model.proofs.PinLaws.{not-written}
 use Rattle.model.proofs.BookLaws.{Booked, booked-same, booked-trans, booked-dropped}
-use Rattle.rules.specs.Answers.{pageBack, backTold}
+use Rattle.rules.specs.Answers.{word, pageBack, backTold, isStarted}
 use Rattle.rules.specs.Choice.{chosen}
 use Rattle.rules.specs.Calls.{unpinnedAt, waiting, granted, pinnersKilled, writeBack, filled, lateKilled, isLate, deliveredRows, advanced}
 use Rattle.model.specs.declared.Call.{Call}
-use Rattle.rules.proofs.TwoRuns.StateRuns.{startsRefused}
 use Rattle.rules.proofs.Facts.SoundFacts.{Sound}
+use Rattle.rules.proofs.Leaves.PageLaws.{found-below}
+use Rattle.rules.proofs.Leaves.CallEffects.{Effect, unchanged, starts, begins, unpins, ends, ticks, serves}
 use Rattle.rules.proofs.Leaves.GrantLaws.{granted-clock}
 use Rattle.rules.proofs.Leaves.TickLaws.{later, ticked-slot, ticked-holding, ticked-clock}
 use Rattle.rules.proofs.Promises.Serving.{Serving, waits, waits-g, joins, fills, serving}
-use Rattle.rules.proofs.Keeping.KeptChoice.{chosen-free}
-use Rattle.rules.proofs.Promises.CallCases.{Effect, stays, starts, begins, unpins, ends, ticks, serves}
+use Rattle.rules.proofs.Stays.StaysChoice.{chosen-free}
 use Rattle.rules.proofs.Promises.GrantBooks.{granted-booked, unpinned-booked}
 use Rattle.rules.proofs.Promises.Granting.{Ground, killed-ground, filled-ground}
 
@@ -130,12 +129,13 @@ module _ (s : State) (z : Sound s) (page slot : ℕ) (b : slot < 64) where
   served-writes row p mode r o (joins i arrival some e n q) = rw q (joined-booked some row p i r e mode arrival Nothing)
   served-writes row p mode r o (fills i e c q) = rw q (filled-booked row p i r c mode (s .clock + s .delay))
 
-  pub writes : (c : Call) → startsRefused (c ∷ []) ≡ true → (o : Outcome) → Effect s c o → Writes s o page slot
-  unfolding unpinnedAt released
-  writes c n o (stays a x e) = rw e (stay (s .clock) refl (booked-same (s .clock) page s s slot refl (λ _ _. refl)))
-  writes c n o (starts slots delay x e) = true-false (sym n ∙ x)
-  writes c n o (begins level number deadline q r e) = rw e (stay (s .clock) refl (booked-same (s .clock) page s (putRow s (rowOf level number) (record { condition = Idle; deadline = deadline })) slot refl (λ _ _. refl)))
-  writes c n o (unpins row i r x e) = rw e (stay (s .clock) refl (unpinned-booked s (z .sized) row i r x page slot))
-  writes c n o (ends row r e) = rw e (stay (s .clock) refl (ended-booked row))
-  writes c n o (ticks e) = rw e (stay (s .clock + 1) (ticked-clock s (z .sized)) ticked-booked)
-  writes c n o (serves row p mode r a e) = served-writes row p mode r o (rw (← e) at (serving s row p mode))
+  pub writes : (c : Call) (o : Outcome) → isStarted (o .answer) ≡ false → Effect s c o → Writes s o page slot
+  unfolding unpinnedAt released word
+  writes c o n (unchanged a x e) = rw e (stay (s .clock) refl (booked-same (s .clock) page s s slot refl (λ _ _. refl)))
+  writes c o n (starts slots delay q x e) = true-false (rw e at n)
+  writes c o n (begins level number deadline q t e) = rw e (stay (s .clock) refl (booked-same (s .clock) page s (putRow s (rowOf level number) (record { condition = Idle; deadline = deadline })) slot refl (λ _ _. refl)))
+  writes c o n (unpins level number p i q t f x e) =
+      rw e (stay (s .clock) refl (unpinned-booked s (z .sized) (rowOf level number) i (t .names .row-is) (found-below s z p i f) page slot))
+  writes c o n (ends level number q m e) = rw e (stay (s .clock) refl (ended-booked (rowOf level number)))
+  writes c o n (ticks q x e) = rw e (stay (s .clock + 1) (ticked-clock s (z .sized)) ticked-booked)
+  writes c o n (serves row p mode r a x e) = served-writes row p mode r o (rw (← e) at (serving s row p mode))

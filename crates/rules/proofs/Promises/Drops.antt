@@ -16,7 +16,7 @@ use Rattle.model.specs.declared.Mode.{Mode}
 use Rattle.model.specs.declared.Outcome.{Outcome}
 use Rattle.model.specs.declared.Row.{Row}
 use Rattle.model.specs.declared.State.{State}
-use Rattle.model.specs.Parties.{levelOf}
+use Rattle.model.specs.Parties.{rowOf, levelOf}
 use Rattle.model.specs.State.{freeRow, emptyHolding, rowAt, slotAt, holdingAt, putRow}
 use Rattle.model.specs.Words.{isLive, isHeld, holds, pins, slotOf}
 use Rattle.model.specs.Changes.{released, killed, cleared}
@@ -28,11 +28,12 @@ use Rattle.model.specs.declared.Call.{Call}
 use Rattle.rules.specs.Requests.{Asks}
 use Rattle.rules.specs.Slots.{Refilled}
 use Rattle.rules.proofs.Facts.SoundFacts.{Sound}
+use Rattle.rules.proofs.Leaves.PageLaws.{found-below}
+use Rattle.rules.proofs.Leaves.CallEffects.{Effect, unchanged, starts, begins, unpins, ends, ticks, serves}
 use Rattle.rules.proofs.Leaves.GrantLaws.{granted-row}
 use Rattle.rules.proofs.Leaves.TickLaws.{later, ticked-row, ticked-holding}
 use Rattle.rules.proofs.Promises.Serving.{Serving, waits, waits-g, joins, fills, serving}
-use Rattle.rules.proofs.Keeping.KeptChoice.{chosen-free}
-use Rattle.rules.proofs.Promises.CallCases.{Effect, stays, starts, begins, unpins, ends, ticks, serves}
+use Rattle.rules.proofs.Stays.StaysChoice.{chosen-free}
 use Rattle.rules.proofs.Promises.GrantBooks.{granted-holds, granted-booked, unpinned-holds}
 use Rattle.rules.proofs.Promises.Granting.{Ground, killed-ground, filled-ground}
 
@@ -131,10 +132,11 @@ module _ (s : State) (z : Sound s) (slot q : ℕ) (b : slot < 64) (m : q < 32) (
         rw k (filled-lost row page mode r a i e n arrival back (filled-drop row page i r n mode arrival back (rw k at h)))
 
     pub drop : (o : Outcome) → Effect s c o → holds (o .state) slot q ≡ false → Lost s c (o .state) slot q
-    drop o (stays a x e) h = true-false (sym before ∙ (rw e at h))
-    drop o (starts slots delay x e) h = inl (rw (e, fresh-row slots delay q))
-    drop o (begins level number deadline k r e) h = true-false (sym before ∙ (rw e at h))
-    drop o (unpins row i r x e) h = true-false (sym (unpinned-holds s (z .sized) row i r x slot q m before) ∙ (rw e at h))
-    drop o (ends row r e) h = inl (rw e (ended-drop row r (rw e at h)))
-    drop o (ticks e) h = inl (rw e (ticked-drop (rw e at h)))
-    drop o (serves row page mode r a e) h = served-drop row page mode r a o (rw (← e) at (serving s row page mode)) h
+    drop o (unchanged a x e) h = true-false (sym before ∙ (rw e at h))
+    drop o (starts slots delay k x e) h = inl (rw (e, fresh-row slots delay q))
+    drop o (begins level number deadline k t e) h = true-false (sym before ∙ (rw e at h))
+    drop o (unpins level number page i k t f p e) h =
+        true-false (sym (unpinned-holds s (z .sized) (rowOf level number) i (t .names .row-is) (found-below s z page i f) slot q m before) ∙ (rw e at h))
+    drop o (ends level number k n e) h = inl (rw e (ended-drop (rowOf level number) (n .row-is) (rw e at h)))
+    drop o (ticks k x e) h = inl (rw e (ticked-drop (rw e at h)))
+    drop o (serves row page mode r a x e) h = served-drop row page mode r a o (rw (← e) at (serving s row page mode)) h

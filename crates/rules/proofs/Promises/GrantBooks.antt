@@ -69,11 +69,11 @@ module _ (u : State) (z : Sized u) (row slot : ℕ) (r : row < 32) (b : slot < 6
   granted-booked k page i = record {
     has-it = λ h. rw (granted-slot u z row slot r b mode arrival back i) (put-or-old (λ x. hasPage page (x .content) ≡ true) i slot (grantedSlot u row slot) (slotAt u i) h (λ m. lowest-page (levelOf row) page (slotAt u slot .content) ∙ (rw m at h)));
     dirty = λ h. rw (granted-slot u z row slot r b mode arrival back i) (put-or-old (λ x. dirtyIn (x .content) ≡ true) i slot (grantedSlot u row slot) (slotAt u i) h (λ m. lowest-dirty (levelOf row) (slotAt u slot .content) ∙ (rw m at h)));
-    wrote = λ h q m w. inl (rw (granted-holding u z row slot r b mode arrival back i q m) (kept q w));
+    wrote = λ h q m w. inl (rw (granted-holding u z row slot r b mode arrival back i q m) (stays q w));
   }
     where
-      kept : (q : ℕ) → written k (holdingAt u i q) ≡ true → written k (cond (eqb i slot && eqb q row) (grantedHolding u row slot mode arrival) (holdingAt u i q)) ≡ true
-      kept q w = go (eqb i slot) (eqb q row) refl refl
+      stays : (q : ℕ) → written k (holdingAt u i q) ≡ true → written k (cond (eqb i slot && eqb q row) (grantedHolding u row slot mode arrival) (holdingAt u i q)) ≡ true
+      stays q w = go (eqb i slot) (eqb q row) refl refl
         where
           go : (a c : Bool) → eqb i slot ≡ a → eqb q row ≡ c → written k (cond (a && c) (grantedHolding u row slot mode arrival) (holdingAt u i q)) ≡ true
           go true true x y = put-written k (holdingAt u slot row) mode arrival (u .clock) (rw (eqb-true i slot x, eqb-true q row y) at w)

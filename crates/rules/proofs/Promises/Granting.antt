@@ -31,7 +31,7 @@ use Rattle.rules.proofs.Leaves.PageLaws.{found-has, killed-page}
 use Rattle.rules.proofs.Leaves.GrantLaws.{grantedRow, grantedHolding, granted-row, granted-holding}
 use Rattle.rules.proofs.Leaves.FillLaws.{sized-filled, filled-clock, filled-has, freed}
 use Rattle.rules.proofs.Promises.Serving.{Serving, waits, waits-g, joins, fills}
-use Rattle.rules.proofs.Keeping.KeptChoice.{chosen-free}
+use Rattle.rules.proofs.Stays.StaysChoice.{chosen-free}
 use Rattle.rules.proofs.Promises.GrantBooks.{granted-booked}
 
 -- the state on which a page is granted, made from s

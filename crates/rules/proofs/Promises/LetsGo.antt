@@ -1,7 +1,6 @@
 -- What a call lets go of: a row that is killed or free holds nothing; a holding goes only so, or with its slot; what was written is dirty or reported.
 use mathlib.Core.Path.{_≡_, refl, sym, _∙_}
 use mathlib.Core.Bool.{true, false, _&&_}
-use mathlib.Core.List.{[], _∷_}
 use mathlib.Core.Logic.{_⊎_, inl, inr}
 use Prim.Native.Nat.{ℕ, _+_, _<_, _≤_}
 use native.Mathlib.Omega.{arith}
@@ -19,14 +18,13 @@ use Rattle.model.proofs.ContentLaws.{has-page}
 use Rattle.model.proofs.PinLaws.{write-held}
 use Rattle.model.proofs.BookLaws.{Booked}
 use Rattle.rules.specs.Sound.{sound}
-use Rattle.rules.specs.Answers.{backTold}
+use Rattle.rules.specs.Answers.{backTold, isStarted}
 use Rattle.model.specs.declared.Call.{Call}
 use Rattle.rules.specs.Run.{outcome}
 use Rattle.rules.specs.Slots.{Refilled, Dirty}
 use Rattle.rules.proofs.Facts.SoundFacts.{facts}
-use Rattle.rules.proofs.TwoRuns.StateRuns.{startsRefused}
-use Rattle.rules.proofs.Keeping.Kept.{kept-sound}
-use Rattle.rules.proofs.Promises.CallCases.{effect}
+use Rattle.rules.proofs.Leaves.CallEffects.{effect}
+use Rattle.rules.proofs.Stays.StaysSound.{stays-sound}
 use Rattle.rules.proofs.Promises.Drops.{drop}
 use Rattle.rules.proofs.Promises.Booking.{Writes, stay, reported, writes}
 
@@ -36,7 +34,7 @@ use Rattle.rules.proofs.Promises.Booking.{Writes, stay, reported, write
 pub not-live-unheld : (s : State) → sound s ≡ true → (c : Call) (row slot : ℕ) → row < 32 → slot < 64
     → isLive (rowAt (outcome s c .state) row .condition) ≡ false → holdingAt (outcome s c .state) slot row ≡ emptyHolding
 not-live-unheld s z c row slot r b d =
-    let t = facts (outcome s c .state) (kept-sound s c z) in
+    let t = facts (outcome s c .state) (stays-sound s c z) in
     t .unheld slot row b r (not-true-false (holds (outcome s c .state) slot row) (λ h. true-false (sym (t .held slot row b r h .live) ∙ d)))
 
 -- a row that was live and is ended or killed, by whatever call of whatever row, has let go of every page that it held
@@ -49,7 +47,7 @@ lets-go s z c row slot r b l d h = rw (not-live-unheld s z c row slot r b d)
 -- a holding goes only with its row, or where its row has no pin and a request or retry chose the slot for a new page
 pub drops-only : (s : State) → sound s ≡ true → (c : Call) (slot row : ℕ) → slot < 64 → row < 32 → holds s slot row ≡ true → holds (outcome s c .state) slot row ≡ false
     → (isLive (rowAt (outcome s c .state) row .condition) ≡ false) ⊎ Refilled s c (outcome s c .state) slot row
-drops-only s z c slot row b r h = drop s (facts s z) slot row b r h c (outcome s c) (effect s (facts s z) c)
+drops-only s z c slot row b r h = drop s (facts s z) slot row b r h c (outcome s c) (effect s c)
 
 -- ---- writes
 
@@ -58,11 +56,11 @@ dirty-filled Empty e = e
 dirty-filled (Filled page arrival dirty lowest) e = refl
 
 -- for every call but an accepted start
-module _ (s : State) (z : sound s ≡ true) (c : Call) (refused : startsRefused (c ∷ []) ≡ true) (slot : ℕ) (b : slot < 64) where
+module _ (s : State) (z : sound s ≡ true) (c : Call) (again : isStarted (outcome s c .answer) ≡ false) (slot : ℕ) (b : slot < 64) where
   -- a dirty page stays dirty in its slot, or is reported for write-back
-  pub dirty-kept : dirtyIn (slotAt s slot .content) ≡ true
+  pub dirty-not-lost : dirtyIn (slotAt s slot .content) ≡ true
       → Dirty (outcome s c .state) slot (pageIn (slotAt s slot .content)) ⊎ (backTold (outcome s c .answer) ≡ pageIn (slotAt s slot .content) + 1)
-  dirty-kept d = go (outcome s c) (writes s (facts s z) page slot b c refused (outcome s c) (effect s (facts s z) c))
+  dirty-not-lost d = go (outcome s c) (writes s (facts s z) page slot b c (outcome s c) again (effect s c))
     where
       page : ℕ
       page = pageIn (slotAt s slot .content)
@@ -75,11 +73,11 @@ module _ (s : State) (z : sound s ≡ true) (c : Call) (refused : startsRefused 
       go o (reported k e u x n f) = inr (f (x .has-it has) (x .dirty d))
 
   -- when a write pin goes and its arrival ≤ clock, the slot becomes dirty, or the page is reported for write-back
-  pub write-kept : (row : ℕ) → row < 32 → isWrite (holdingAt s slot row .pin) ≡ true → holdingAt s slot row .arrival ≤ outcome s c .state .clock
+  pub write-not-lost : (row : ℕ) → row < 32 → isWrite (holdingAt s slot row .pin) ≡ true → holdingAt s slot row .arrival ≤ outcome s c .state .clock
       → isWrite (holdingAt (outcome s c .state) slot row .pin) ≡ false
       → Dirty (outcome s c .state) slot (pageIn (slotAt s slot .content)) ⊎ (backTold (outcome s c .answer) ≡ pageIn (slotAt s slot .content) + 1)
   unfolding written
-  write-kept row r w = go (outcome s c) (writes s (facts s z) page slot b c refused (outcome s c) (effect s (facts s z) c))
+  write-not-lost row r w = go (outcome s c) (writes s (facts s z) page slot b c (outcome s c) again (effect s c))
     where
       page : ℕ
       page = pageIn (slotAt s slot .content)

@@ -17,24 +17,23 @@ use Rattle.model.specs.declared.Mode.{Mode}
 use Rattle.model.specs.declared.Outcome.{Outcome}
 use Rattle.model.specs.declared.Row.{Row}
 use Rattle.model.specs.declared.State.{State}
-use Rattle.model.specs.Parties.{rowOf, modeOf}
 use Rattle.model.specs.State.{rowAt, holdingAt}
 use Rattle.model.specs.Words.{holds, pins, slotOf}
 use Rattle.model.proofs.PutLaws.{row-same}
 use Rattle.rules.specs.Sound.{awaits, sound}
 use Rattle.rules.specs.Answers.{word, value, mayUse, told}
-use Rattle.rules.specs.Refusals.{startRefusal, beginRefusal, requestRefusal, retryRefusal, unpinRefusal, endRefusal, tickRefusal, lookRefusal, viewRefusal, countRefusal}
-use Rattle.rules.specs.Calls.{unless, started, begun, unpinned, ended, ticked, waiting, requested, servedAgain, retried, looked, lookedAt, viewed, counted}
+use Rattle.rules.specs.Calls.{waiting, servedAgain, looked}
 use Rattle.model.specs.declared.Call.{Call}
-use Rattle.model.specs.declared.Call.the-variants.{Start, Begin, Request, Retry, Unpin, End, Tick, Look, View, Count}
 use Rattle.rules.specs.Run.{outcome}
+use Rattle.rules.specs.Content.{rowNamed}
 use Rattle.rules.specs.Requests.{Names}
 use Rattle.rules.specs.Arrivals.{AllArrived}
 use Rattle.rules.proofs.Facts.SoundFacts.{Sound, RowSound, facts}
-use Rattle.rules.proofs.Leaves.RefusalFacts.{unless-is, request-taken, retry-taken, look-taken}
+use Rattle.rules.proofs.Leaves.ContentLaws.{asks-names}
+use Rattle.rules.proofs.Leaves.CallEffects.{refused, looks, views, counts, Effect, unchanged, starts, begins, unpins, ends, ticks, serves, effect}
 use Rattle.rules.proofs.Promises.CallCases.{viewed-is}
 use Rattle.rules.proofs.Promises.Serving.{Serving, waits, waits-g, joins, fills, serving}
-use Rattle.rules.proofs.Keeping.Kept.{kept-sound}
+use Rattle.rules.proofs.Stays.StaysSound.{stays-sound}
 use Rattle.rules.proofs.Promises.Granting.{Grant, grant, granted-answer, never-waits, grant-ready, grant-fetch}
 use Rattle.rules.proofs.Promises.Arrived.{idle-arrived}
 
@@ -71,25 +70,21 @@ module _ (s : State) (z : Sound s) where
   again-says row b (Killed cause) = inl (10, refl)
 
   reply : (c : Call) (row : ℕ) → Names c row → Reply row (outcome s c)
-  unfolding outcome requested retried lookedAt
-  reply (Start slots delay) row n = true-false (sym (n .kind))
-  reply (Begin level number deadline) row n = true-false (sym (n .kind))
-  reply (Request level number page mode) row n =
-      unless-is (Reply row) (requestRefusal s level number page mode) s _ (λ k. inl (suc k, refl))
-      (λ e.
-      let b = request-taken s level number page mode e .names .row-is in
-      rw (n .row-is) (inr (b, served-says (rowOf level number) page (modeOf mode) b _ (serving s (rowOf level number) page (modeOf mode)))))
-  reply (Retry level number) row n =
-      unless-is (Reply row) (retryRefusal s level number) s _ (λ k. inl (suc k, refl))
-      (λ e. rw (n .row-is) (again-says (rowOf level number) (retry-taken s level number e .row-is) (rowAt s (rowOf level number) .condition)))
-  reply (Unpin level number page) row n = true-false (sym (n .kind))
-  reply (End level number) row n = true-false (sym (n .kind))
-  reply Tick row n = true-false (sym (n .kind))
-  reply (Look level number) row n =
-      unless-is (Reply row) (lookRefusal level number) s _ (λ k. inl (suc k, refl))
-      (λ e. rw (n .row-is) (inr (look-taken level number e .row-is, says-look refl)))
-  reply (View level page) row n = true-false (sym (n .kind))
-  reply (Count level) row n = true-false (sym (n .kind))
+  reply c row n = go (outcome s c) (effect s c)
+    where
+      go : (o : Outcome) → Effect s c o → Reply row o
+      go o (unchanged a (refused k q) e) = inl (suc k, rw (e, q))
+      go o (unchanged a (looks level number q m w) e) = inr (rw (n .row-is, q) (m .row-is), rw (e, n .row-is, q) (says-look w))
+      go o (unchanged a (views level page q w) e) = true-false (sym (rw q at (n .kind)))
+      go o (unchanged a (counts level k q w) e) = true-false (sym (rw q at (n .kind)))
+      go o (starts slots delay q t e) = true-false (sym (rw q at (n .kind)))
+      go o (begins level number deadline q t e) = true-false (sym (rw q at (n .kind)))
+      go o (unpins level number page slot q t f p e) = true-false (sym (rw q at (n .kind)))
+      go o (ends level number q m e) = true-false (sym (rw q at (n .kind)))
+      go o (ticks q h e) = true-false (sym (rw q at (n .kind)))
+      go o (serves r page mode b a m e) =
+          let w : row ≡ r = n .row-is ∙ sym (a .row-is) in
+          rw (w, e) (inr (b, served-says r page mode b _ (serving s r page mode)))
 
 -- ---- ready and idle
 
@@ -110,33 +105,30 @@ says-idle x a e (says-wait page mode k i) = true-false (sym (rw k at e))
 says-idle x a e (says-look k) = looked-idle x (rw k at e)
 
 -- no other call is answered so
-refused-or : {P : Type 0} (n : ℕ) (s : State) (o : Outcome) → mayUse (o .answer) ≡ false → mayUse (unless n s o .answer) ≡ true → P
+used-names : (s : State) (c : Call) (o : Outcome) → Effect s c o → mayUse (o .answer) ≡ true → Names c (rowNamed c)
 unfolding mayUse word
-refused-or {P} n s o k = unless-is (λ x. mayUse (x .answer) ≡ true → P) n s o (λ _ e. true-false (sym e)) (λ _ e. true-false (sym e ∙ k))
+used-names s c o (unchanged a (refused k q) e) u = true-false (sym (rw (e, q) at u))
+used-names s c o (unchanged a (looks level number q m w) e) u = record { kind = rw q; row-is = refl }
+used-names s c o (unchanged a (views level page q w) e) u =
+    true-false (sym (rw (e, w) at u) ∙ viewed-is (λ x. mayUse x ≡ false) refl (λ _. refl) (λ _. refl) (λ _. refl) (λ _. refl) s level (slotOf s page))
+used-names s c o (unchanged a (counts level n q w) e) u = true-false (sym (rw (e, w) at u))
+used-names s c o (starts slots delay q t e) u = true-false (sym (rw e at u))
+used-names s c o (begins level number deadline q t e) u = true-false (sym (rw e at u))
+used-names s c o (unpins level number page slot q t f p e) u = true-false (sym (rw e at u))
+used-names s c o (ends level number q m e) u = true-false (sym (rw e at u))
+used-names s c o (ticks q h e) u = true-false (sym (rw e at u))
+used-names s c o (serves row page mode b a m e) u = record { kind = asks-names s c row page mode a .kind; row-is = refl }
 
 -- an answer that says that a page may be used goes to a request, retry or look of a row, and every page that the row holds has arrived
 pub may-use-arrived : (s : State) → sound s ≡ true → (c : Call) → mayUse (outcome s c .answer) ≡ true → (row : ℕ) × Names c row × AllArrived (outcome s c .state) row
-unfolding outcome started begun unpinned ended ticked viewed counted mayUse word
-may-use-arrived s z c = go c
+unfolding mayUse word
+may-use-arrived s z c e =
+    let n = used-names s c (outcome s c) (effect s c) e in
+    (rowNamed c, n, go (reply s (facts s z) c (rowNamed c) n))
   where
-    named : (c : Call) (row : ℕ) → Names c row → mayUse (outcome s c .answer) ≡ true → (row : ℕ) × Names c row × AllArrived (outcome s c .state) row
-    named c row n e = last (reply s (facts s z) c row n)
-      where
-        last : Reply row (outcome s c) → (row : ℕ) × Names c row × AllArrived (outcome s c .state) row
-        last (inl x) = true-false (sym (rw (x .1) at e))
-        last (inr x) = (row, n, idle-arrived (outcome s c .state) (facts (outcome s c .state) (kept-sound s c z)) row (x .0) (says-idle _ _ e (x .1)))
-
-    go : (c : Call) → mayUse (outcome s c .answer) ≡ true → (row : ℕ) × Names c row × AllArrived (outcome s c .state) row
-    go (Start slots delay) = refused-or (startRefusal slots delay) s _ refl
-    go (Begin level number deadline) = refused-or (beginRefusal s level number deadline) s _ refl
-    go (Request level number page mode) = named (Request level number page mode) (rowOf level number) (record { kind = refl; row-is = refl })
-    go (Retry level number) = named (Retry level number) (rowOf level number) (record { kind = refl; row-is = refl })
-    go (Unpin level number page) = refused-or (unpinRefusal s level number page) s _ refl
-    go (End level number) = refused-or (endRefusal s level number) s _ refl
-    go Tick = refused-or (tickRefusal s) s _ refl
-    go (Look level number) = named (Look level number) (rowOf level number) (record { kind = refl; row-is = refl })
-    go (View level page) = refused-or (viewRefusal level page) s _ (viewed-is (λ a. mayUse a ≡ false) refl (λ _. refl) (λ _. refl) (λ _. refl) (λ _. refl) s level (slotOf s page))
-    go (Count level) = refused-or (countRefusal level) s _ refl
+    go : Reply (rowNamed c) (outcome s c) → AllArrived (outcome s c .state) (rowNamed c)
+    go (inl x) = true-false (sym (rw (x .1) at e))
+    go (inr x) = idle-arrived (outcome s c .state) (facts (outcome s c .state) (stays-sound s c z)) (rowNamed c) (x .0) (says-idle _ _ e (x .1))
 
 -- ---- fetch
 
@@ -172,4 +164,4 @@ fetching-told s z c row slot n b i h a = go (reply s (facts s z) c row n)
   where
     go : Reply row (outcome s c) → (word (outcome s c .answer) ≡ 0) ⊎ (told (outcome s c .answer) ≡ record { word = 4; value = holdingAt (outcome s c .state) slot row .arrival })
     go (inl x) = inl (rw (x .1))
-    go (inr x) = inr (says-due _ _ _ (late-fetching (outcome s c .state) (facts (outcome s c .state) (kept-sound s c z)) row slot b i h a) (x .1))
+    go (inr x) = inr (says-due _ _ _ (late-fetching (outcome s c .state) (facts (outcome s c .state) (stays-sound s c z)) row slot b i h a) (x .1))

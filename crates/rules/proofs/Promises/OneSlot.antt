@@ -11,8 +11,8 @@ use Rattle.model.specs.declared.Call.{Call}
 use Rattle.rules.specs.Run.{after}
 use Rattle.rules.proofs.Facts.SoundFacts.{facts}
 use Rattle.rules.proofs.Leaves.PageLaws.{one-place}
-use Rattle.rules.proofs.Keeping.KeptFresh.{fresh-sound}
-use Rattle.rules.proofs.Keeping.Kept.{run-sound}
+use Rattle.rules.proofs.Stays.StaysFresh.{fresh-sound}
+use Rattle.rules.proofs.Stays.StaysSound.{run-sound}
 
 -- no page in two slots
 pub one-slot : (s : State) → sound s ≡ true → (page i j : ℕ) → i < 64 → j < 64

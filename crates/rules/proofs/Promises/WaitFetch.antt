@@ -29,10 +29,11 @@ use Rattle.rules.specs.Run.{outcome}
 use Rattle.rules.specs.Requests.{Asks}
 use Rattle.rules.specs.Waits.{Outranked, HeldUpTo, NoSlot}
 use Rattle.rules.proofs.Facts.SoundFacts.{Sound, facts}
-use Rattle.rules.proofs.Leaves.PageLaws.{found-slot, not-found}
+use Rattle.rules.proofs.Leaves.PageLaws.{found-slot, found-below, not-found}
+use Rattle.rules.proofs.Leaves.CallEffects.{Effect, unchanged, starts, begins, unpins, ends, ticks, serves, effect}
 use Rattle.rules.proofs.Promises.Serving.{Serving, waits, waits-g, joins, fills, serving}
 use Rattle.rules.proofs.Choosing.ChoiceSteps.{neither, no-step-a, no-step-b, c-or-d}
-use Rattle.rules.proofs.Promises.CallCases.{isServed, Effect, stays, starts, begins, unpins, ends, ticks, serves, effect}
+use Rattle.rules.proofs.Promises.CallCases.{isServed, still-unserved}
 use Rattle.rules.proofs.Promises.Granting.{Grant, grant, never-waits, grant-fetch}
 
 -- ---- the slots where none is chosen
@@ -62,16 +63,16 @@ none-chosen s row e slot b =
 -- no call but a request and a retry answers ready, fetch or wait
 pub served-alone : (s : State) → sound s ≡ true → (c : Call) → isServed (outcome s c .answer) ≡ true
     → (row : ℕ) × (page : ℕ) × (mode : Mode) × Asks s c row page mode × (row < 32) × (outcome s c ≡ served s row page mode)
-served-alone s z c = go (outcome s c) (effect s (facts s z) c)
+served-alone s z c = go (outcome s c) (effect s c)
   where
     go : (o : Outcome) → Effect s c o → isServed (o .answer) ≡ true → (row : ℕ) × (page : ℕ) × (mode : Mode) × Asks s c row page mode × (row < 32) × (o ≡ served s row page mode)
-    go o (stays a h e) k = true-false (sym (rw e at k) ∙ h)
-    go o (starts slots delay h e) k = true-false (sym (rw e at k))
-    go o (begins level number deadline q h e) k = true-false (sym (rw e at k))
-    go o (unpins row slot h i e) k = true-false (sym (rw e at k))
-    go o (ends row h e) k = true-false (sym (rw e at k))
-    go o (ticks e) k = true-false (sym (rw e at k))
-    go o (serves row page mode h a e) k = (row, page, mode, a, h, e)
+    go o (unchanged a h e) k = true-false (sym (rw e at k) ∙ still-unserved s c a h)
+    go o (starts slots delay q t e) k = true-false (sym (rw e at k))
+    go o (begins level number deadline q t e) k = true-false (sym (rw e at k))
+    go o (unpins level number page slot q t f p e) k = true-false (sym (rw e at k))
+    go o (ends level number q n e) k = true-false (sym (rw e at k))
+    go o (ticks q h e) k = true-false (sym (rw e at k))
+    go o (serves row page mode h a m e) k = (row, page, mode, a, h, e)
 
 -- one that is not told to wait is granted
 pub granted-alone : (s : State) → sound s ≡ true → (c : Call) → isServed (outcome s c .answer) ≡ true → (outcome s c .answer ≡ Wait → ⊥)
@@ -90,7 +91,7 @@ must-wait s z row page mode slot e v w =
     let k = x .2 in
     record {
       slot = slot;
-      slot-is = omega (arith, f .0, z .size-most);
+      slot-is = found-below s z page slot e;
       has-it = has-page page (slotAt s slot .content) (f .1) (f .2);
       sees = v;
       other = x .0;

@@ -31,15 +31,15 @@ use Rattle.model.proofs.Ranges.{ConditionOk, ContentOk, HoldingOk, RowOk, SlotO
 use Rattle.rules.specs.Sound.{awaits, sound}
 use Rattle.rules.specs.Calls.{unpinnedAt, deliveredRow, isLate, waiting, granted, pinnersKilled, filled}
 use Rattle.model.specs.declared.Call.{Call}
-use Rattle.rules.specs.Run.{Narrow, outcome}
+use Rattle.rules.specs.Run.{outcome}
 use Rattle.rules.specs.Content.{Fits}
 use Rattle.rules.proofs.Facts.SoundFacts.{Sound, Awaiting, RowSound, facts}
+use Rattle.rules.proofs.Leaves.CallEffects.{Effect, unchanged, starts, begins, unpins, ends, ticks, serves, effect}
 use Rattle.rules.proofs.Leaves.GrantLaws.{grantedRow, granted-row}
 use Rattle.rules.proofs.Leaves.TickLaws.{later, ticked-row}
 use Rattle.rules.proofs.Promises.Serving.{Serving, waits, waits-g, joins, fills, serving}
-use Rattle.rules.proofs.Keeping.Kept.{kept-sound}
-use Rattle.rules.proofs.Keeping.KeptChoice.{chosen-free}
-use Rattle.rules.proofs.Promises.CallCases.{Effect, stays, starts, begins, unpins, ends, ticks, serves, effect}
+use Rattle.rules.proofs.Stays.StaysSound.{stays-sound}
+use Rattle.rules.proofs.Stays.StaysChoice.{chosen-free}
 use Rattle.rules.proofs.Promises.Granting.{killed-ground, filled-ground}
 
 -- what holds of each element of a list and of the default, holds at every place
@@ -50,6 +50,10 @@ everywhere P l d n e z f i = elim (decLt i n) [
 ]
 
 -- ---- the deadlines
+
+-- each row's deadline is an unsigned 32-bit number
+abbrev pub Narrow : State → Type 0
+Narrow s = (row : ℕ) → rowAt s row .deadline < 2 ^ 32
 
 pub fresh-narrow : (slots delay : ℕ) → Narrow (fresh slots delay)
 fresh-narrow slots delay row = rw (fresh-row slots delay row) (omega arith)
@@ -82,21 +86,22 @@ module _ (s : State) (z : Sound s) (narrow : Narrow s) (q : ℕ) (b : q < 32) wh
 
   call-narrow : (c : Call) → Fits c → (o : Outcome) → Effect s c o → rowAt (o .state) q .deadline < 2 ^ 32
   unfolding unpinnedAt deliveredRow released
-  call-narrow c f o (stays a x e) = rw e (narrow q)
-  call-narrow c f o (starts slots delay x e) = rw e (fresh-narrow slots delay q)
-  call-narrow c f o (begins level number deadline k r e) =
-      rw (e, row-put s (z .sized) (rowOf level number) _ q r) (either (eqb q (rowOf level number)) _ (rowAt s q) ((rw k at f) .deadline) (narrow q))
-  call-narrow c f o (unpins row slot r i e) = rw e (narrow q)
-  call-narrow c f o (ends row r e) =
-      rw (e, row-put (released (eqb row) s) (sized-released (eqb row) s (z .sized)) row freeRow q r) (either (eqb q row) freeRow (rowAt s q) (omega arith) (narrow q))
-  call-narrow c f o (ticks e) =
+  call-narrow c f o (unchanged a x e) = rw e (narrow q)
+  call-narrow c f o (starts slots delay k x e) = rw e (fresh-narrow slots delay q)
+  call-narrow c f o (begins level number deadline k t e) =
+      rw (e, row-put s (z .sized) (rowOf level number) _ q (t .names .row-is)) (either (eqb q (rowOf level number)) _ (rowAt s q) ((rw k at f) .deadline) (narrow q))
+  call-narrow c f o (unpins level number page slot k t i p e) = rw e (narrow q)
+  call-narrow c f o (ends level number k n e) =
+      let row = rowOf level number in
+      rw (e, row-put (released (eqb row) s) (sized-released (eqb row) s (z .sized)) row freeRow q (n .row-is)) (either (eqb q row) freeRow (rowAt s q) (omega arith) (narrow q))
+  call-narrow c f o (ticks k x e) =
       rw (e, ticked-row s (z .sized) q b) (either (isLate (later s) q) (killedRow Late) (deliveredRow (s .clock + 1) (rowAt s q)) (omega arith) (narrow q))
-  call-narrow c f o (serves row page mode r a e) = served-narrow row page mode r o (rw (← e) at (serving s row page mode))
+  call-narrow c f o (serves row page mode r a x e) = served-narrow row page mode r o (rw (← e) at (serving s row page mode))
 
-pub kept-narrow : (s : State) (c : Call) → sound s ≡ true → Fits c → Narrow s → Narrow (outcome s c .state)
-kept-narrow s c z f narrow =
-    everywhere (λ x. x .deadline < 2 ^ 32) (outcome s c .state .rows) freeRow 32 (facts (outcome s c .state) (kept-sound s c z) .sized .rows) (omega arith)
-    (λ row b. call-narrow s (facts s z) narrow row b c f (outcome s c) (effect s (facts s z) c))
+pub stays-narrow : (s : State) (c : Call) → sound s ≡ true → Fits c → Narrow s → Narrow (outcome s c .state)
+stays-narrow s c z f narrow =
+    everywhere (λ x. x .deadline < 2 ^ 32) (outcome s c .state .rows) freeRow 32 (facts (outcome s c .state) (stays-sound s c z) .sized .rows) (omega arith)
+    (λ row b. call-narrow s (facts s z) narrow row b c f (outcome s c) (effect s c))
 
 -- ---- the other numbers
 

@@ -1,4 +1,4 @@
-use Rattle.serve.specs.Replies.{slotFilled}
+use Rattle.serve.specs.Inner.Replies.{slotFilled}
 use borrow.Author.Needs.{needs}
 use Rattle.serve.proofs.fill_slot.Statement.{statement}
 use Rattle.serve.proofs.fill_slot.Tie as tie

@@ -1,4 +1,4 @@
-use Rattle.serve.specs.Replies.{granting}
+use Rattle.serve.specs.Inner.Replies.{granting}
 use borrow.Author.Needs.{needs}
 use Rattle.serve.proofs.grant.Statement.{statement}
 use Rattle.serve.proofs.grant.Tie as tie

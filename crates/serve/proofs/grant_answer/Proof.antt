@@ -1,5 +1,5 @@
 use Rattle.seq.proofs.Tests.{tests}
-use Rattle.serve.specs.Elements.{grantedAnswer}
+use Rattle.serve.specs.Inner.Granted.{grantedAnswer}
 use Rattle.serve.proofs.grant_answer.Statement.{statement}
 use Rattle.serve.proofs.grant_answer.Tie as tie
 use Rattle.serve.proofs.grant_answer.Reads as reads

@@ -1,5 +1,5 @@
 use Rattle.seq.proofs.Tests.{tests}
-use Rattle.serve.specs.Elements.{grantedRow}
+use Rattle.serve.specs.Inner.Granted.{grantedRow}
 use Rattle.serve.proofs.grant_row.Statement.{statement}
 use Rattle.serve.proofs.grant_row.Tie as tie
 use Rattle.serve.proofs.grant_row.Reads as reads

@@ -1,5 +1,5 @@
 use borrow.Author.Needs.{needs}
-use Rattle.serve.specs.Elements.{heldNow}
+use Rattle.serve.specs.Inner.Granted.{heldNow}
 use Rattle.serve.proofs.hold.Statement.{statement}
 use Rattle.serve.proofs.hold.Tie as tie
 use Rattle.serve.proofs.hold.Reads as reads

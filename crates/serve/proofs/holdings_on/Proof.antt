@@ -6,7 +6,7 @@ use Rattle.seq.specs.Each.{eachBelow}
 use Rattle.seq.proofs.EachLaws.{each-below-none}
 use Rattle.seq.proofs.BuildLaws.{build-turn, build-all}
 use Rattle.model.specs.State.{emptyHolding, holdingAt}
-use Rattle.serve.specs.SlotHoldings.{holdingsOn}
+use Rattle.serve.specs.Inner.SlotHoldings.{holdingsOn}
 use Rattle.serve.proofs.holdings_on.Statement.{statement}
 use Rattle.serve.proofs.holdings_on.Tie as tie
 use Rattle.serve.proofs.holdings_on.Reads as reads

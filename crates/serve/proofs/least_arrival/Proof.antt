@@ -7,13 +7,12 @@ use lib.Dec.{ltb}
 use Rattle.seq.specs.Below.{anyBelow, pickBelow, atFound}
 use Rattle.seq.proofs.BelowLaws.{any-test-turn}
 use Rattle.seq.proofs.ValueLaws.{value-turn}
-use Rattle.serve.specs.Elements.{seenTest, lesser}
-use Rattle.serve.specs.SlotHoldings.{heldBy, leastIn}
+use Rattle.serve.specs.Inner.SlotHoldings.{seenTest, lesser}
+use Rattle.serve.specs.Inner.SlotHoldings.{heldBy, leastIn}
 use Rattle.serve.proofs.least_arrival.Statement.{statement}
 use Rattle.serve.proofs.least_arrival.Tie as tie
 use Rattle.serve.proofs.least_arrival.Reads as reads
 use Rattle.serve.proofs.least_arrival.Lts as lts
-use Rattle.seq.proofs.either.Reads as either-reads
 use Rattle.serve.proofs.is_seen.Reads as is-seen-reads
 use Rattle.serve.proofs.lesser_arrival.Reads as lesser-arrival-reads
 
@@ -39,9 +38,6 @@ is-seen-requires c κs = search needs
 lesser-arrival-requires : tie.Need-lesser-arrival-requires Inv-loop μ-loop
 lesser-arrival-requires c κs = search needs
 
-either-requires : tie.Need-either-requires Inv-loop μ-loop
-either-requires c κs = search needs
-
 add-r : tie.Need-add-r Inv-loop μ-loop
 add-r c = omega arith
 
@@ -50,12 +46,13 @@ loop-less c = omega arith
 
 loop-again : tie.Need-loop-again Inv-loop μ-loop
 unfolding lesser
-loop-again c = let held = c .before .before .before .before .before .before .args .t1 in
-    let p : ℕ → Bool = λ row. seenTest (c .before .before .before .before .before .before .args .level) row (heldBy held row) in
-    let w = c .before .before .before .before .before .loop in (
+loop-again c = let held = c .before .before .before .before .before .args .t1 in
+    let p : ℕ → Bool = λ row. seenTest (c .before .before .before .before .before .args .level) row (heldBy held row) in
+    let w = c .before .before .before .before .loop in (
       omega arith,
-      any-test-turn p (w .r) (w .found) (c .before .before .is-seen .result) (c .either .result) (w .inv .1) (c .before .before .is-seen .ensures) (c .either .ensures),
-      value-turn p (λ row. heldBy held row .arrival) ltb 0 (w .r) (c .before .before .is-seen .result) (heldBy held (w .r) .arrival) (w .found) (w .least) (c .before .lesser-arrival .result) (c .before .before .is-seen .ensures) refl (w .inv .1) (w .inv .2) (c .before .lesser-arrival .ensures),
+      any-test-turn p (w .r) (w .found) (c .before .is-seen .result) _ (w .inv .1) (c .before .is-seen .ensures) refl,
+      value-turn p (λ row. heldBy held row .arrival) ltb 0 (w .r) (c .before .is-seen .result) (heldBy held (w .r) .arrival) (w .found) (w .least) (c .lesser-arrival .result)
+          (c .before .is-seen .ensures) refl (w .inv .1) (w .inv .2) (c .lesser-arrival .ensures),
     )
 
 returns : tie.Need-returns Inv-loop μ-loop
@@ -73,7 +70,6 @@ least-arrival-spec =
     array-copy-out-h
     is-seen-requires
     lesser-arrival-requires
-    either-requires
     add-r
     loop-less
     loop-again

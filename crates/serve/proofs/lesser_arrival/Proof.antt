@@ -1,5 +1,5 @@
 use Rattle.seq.proofs.Tests.{tests}
-use Rattle.serve.specs.Elements.{lesser}
+use Rattle.serve.specs.Inner.SlotHoldings.{lesser}
 use Rattle.serve.proofs.lesser_arrival.Statement.{statement}
 use Rattle.serve.proofs.lesser_arrival.Tie as tie
 use Rattle.serve.proofs.lesser_arrival.Reads as reads

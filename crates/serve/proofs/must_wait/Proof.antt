@@ -1,53 +1,48 @@
-use mathlib.Core.Path.{_≡_, refl, _∙_}
+use mathlib.Core.Path.{_≡_, refl, _∙_, ap}
+use mathlib.Core.Bool.{Bool, _&&_, _||_}
 use Prim.Native.Nat.{_≤_, _-_}
 use native.Mathlib.Omega.{arith}
 use borrow.Author.Needs.{needs}
 use lib.ListN.{getD}
 use Rattle.seq.specs.Below.{anyBelow}
-use Rattle.seq.proofs.BelowLaws.{any-test-turn}
-use Rattle.model.specs.State.{freeRow}
-use Rattle.serve.specs.Elements.{barTest}
-use Rattle.serve.specs.SlotHoldings.{heldBy, mustWaitIn}
+use Rattle.seq.proofs.BelowLaws.{any-turn}
+use Rattle.model.specs.Parties.{better}
+use Rattle.model.specs.Inner.Changed.{marked}
+use Rattle.choice.specs.Inner.Summary.{noRank}
+use Rattle.serve.specs.Inner.SlotHoldings.{mustWaitIn}
 use Rattle.serve.proofs.must_wait.Statement.{statement}
 use Rattle.serve.proofs.must_wait.Tie as tie
 use Rattle.serve.proofs.must_wait.Reads as reads
 use Rattle.serve.proofs.must_wait.Lts as lts
-use Rattle.seq.proofs.either.Reads as either-reads
-use Rattle.serve.proofs.is_barred.Reads as is-barred-reads
+use Rattle.model.proofs.is_better.Reads as is-better-reads
 
 abbrev Inv-loop : tie.InvT-loop
-Inv-loop row mode held rows deadline wait₀ r₀ wait r = (r ≤ 32) × (wait ≡ anyBelow r (λ other. barTest row deadline mode other (getD rows other freeRow .deadline) (heldBy held other)))
+Inv-loop row marks ranks requester wait₀ r₀ wait r = (r ≤ 32) × (wait ≡ anyBelow r (λ other. marked marks other && better (getD ranks other noRank) requester))
 
 abbrev μ-loop : tie.MeasureT-loop
-μ-loop row mode held rows deadline wait₀ r₀ wait r = 32 - r
+μ-loop row marks ranks requester wait₀ r₀ wait r = 32 - r
 
-mul-own : tie.Need-mul-own Inv-loop μ-loop
-mul-own c = omega arith
+mul-requester : tie.Need-mul-requester Inv-loop μ-loop
+mul-requester c = omega arith
 
-array-copy-out-own : tie.Need-array-copy-out-own Inv-loop μ-loop
-array-copy-out-own c = omega arith
+array-copy-out-requester : tie.Need-array-copy-out-requester Inv-loop μ-loop
+array-copy-out-requester c = omega arith
 
 loop-holds : tie.Need-loop-holds Inv-loop μ-loop
 unfolding anyBelow
 loop-holds c = (omega arith, refl)
 
-mul-h : tie.Need-mul-h Inv-loop μ-loop
-mul-h c = omega arith
+array-read-marked : tie.Need-array-read-marked Inv-loop μ-loop
+array-read-marked c = omega arith
 
-array-copy-out-h : tie.Need-array-copy-out-h Inv-loop μ-loop
-array-copy-out-h c = omega arith
+mul-rank : tie.Need-mul-rank Inv-loop μ-loop
+mul-rank c = omega arith
 
-mul-x : tie.Need-mul-x Inv-loop μ-loop
-mul-x c = omega arith
+array-copy-out-rank : tie.Need-array-copy-out-rank Inv-loop μ-loop
+array-copy-out-rank c = omega arith
 
-array-copy-out-x : tie.Need-array-copy-out-x Inv-loop μ-loop
-array-copy-out-x c = omega arith
-
-is-barred-requires : tie.Need-is-barred-requires Inv-loop μ-loop
-is-barred-requires c κs = search needs
-
-either-requires : tie.Need-either-requires Inv-loop μ-loop
-either-requires c κs = search needs
+is-better-requires : tie.Need-is-better-requires Inv-loop μ-loop
+is-better-requires c κs = search needs
 
 add-r : tie.Need-add-r Inv-loop μ-loop
 add-r c = omega arith
@@ -56,10 +51,12 @@ loop-less : tie.Need-loop-less Inv-loop μ-loop
 loop-less c = omega arith
 
 loop-again : tie.Need-loop-again Inv-loop μ-loop
-loop-again c = let a = c .before .before .before .before .before .before .before .args in (
-  omega arith,
-  any-test-turn (λ other. barTest (a .row) (getD (a .t2) (a .row) freeRow .deadline) (a .mode) other (getD (a .t2) other freeRow .deadline) (heldBy (a .t1) other)) (c .before .before .before .before .before .loop .r) (c .before .before .before .before .before .loop .wait) (c .before .is-barred .result) (c .either .result) (c .before .before .before .before .before .loop .inv .1) (c .before .is-barred .ensures) (c .either .ensures),
-)
+loop-again c = let a = c .before .before .before .before .before .args in
+    let w = c .before .before .before .loop in (
+      omega arith,
+      any-turn (λ other. marked (a .t1) other && better (getD (a .t2) other noRank) (getD (a .t2) (a .row) noRank)) (w .r) (w .wait) _ (w .inv .1)
+          (ap (λ (x : Bool). w .wait || (marked (a .t1) (w .r) && x)) (c .is-better .ensures)),
+    )
 
 returns : tie.Need-returns Inv-loop μ-loop
 unfolding mustWaitIn
@@ -71,15 +68,13 @@ must-wait-spec =
     (tie.spec
     Inv-loop
     μ-loop
-    mul-own
-    array-copy-out-own
+    mul-requester
+    array-copy-out-requester
     loop-holds
-    mul-h
-    array-copy-out-h
-    mul-x
-    array-copy-out-x
-    is-barred-requires
-    either-requires
+    array-read-marked
+    mul-rank
+    array-copy-out-rank
+    is-better-requires
     add-r
     loop-less
     loop-again

@@ -4,13 +4,12 @@ use native.Mathlib.Omega.{arith}
 use borrow.Author.Needs.{needs}
 use Rattle.seq.specs.Below.{anyBelow}
 use Rattle.seq.proofs.BelowLaws.{any-test-turn}
-use Rattle.serve.specs.Elements.{seenTest}
-use Rattle.serve.specs.SlotHoldings.{heldBy, seenIn}
+use Rattle.serve.specs.Inner.SlotHoldings.{seenTest}
+use Rattle.serve.specs.Inner.SlotHoldings.{heldBy, seenIn}
 use Rattle.serve.proofs.see.Statement.{statement}
 use Rattle.serve.proofs.see.Tie as tie
 use Rattle.serve.proofs.see.Reads as reads
 use Rattle.serve.proofs.see.Lts as lts
-use Rattle.seq.proofs.either.Reads as either-reads
 use Rattle.serve.proofs.is_seen.Reads as is-seen-reads
 
 abbrev Inv-loop : tie.InvT-loop
@@ -32,9 +31,6 @@ array-copy-out-h c = omega arith
 is-seen-requires : tie.Need-is-seen-requires Inv-loop μ-loop
 is-seen-requires c κs = search needs
 
-either-requires : tie.Need-either-requires Inv-loop μ-loop
-either-requires c κs = search needs
-
 add-r : tie.Need-add-r Inv-loop μ-loop
 add-r c = omega arith
 
@@ -42,7 +38,9 @@ loop-less : tie.Need-loop-less Inv-loop μ-loop
 loop-less c = omega arith
 
 loop-again : tie.Need-loop-again Inv-loop μ-loop
-loop-again c = (omega arith, any-test-turn (λ row. seenTest (c .before .before .before .before .before .args .level) row (heldBy (c .before .before .before .before .before .args .t1) row)) (c .before .before .before .before .loop .r) (c .before .before .before .before .loop .found) (c .before .is-seen .result) (c .either .result) (c .before .before .before .before .loop .inv .1) (c .before .is-seen .ensures) (c .either .ensures))
+loop-again c = let a = c .before .before .before .before .args in
+    let w = c .before .before .before .loop in
+    (omega arith, any-test-turn (λ row. seenTest (a .level) row (heldBy (a .t1) row)) (w .r) (w .found) (c .is-seen .result) _ (w .inv .1) (c .is-seen .ensures) refl)
 
 returns : tie.Need-returns Inv-loop μ-loop
 unfolding seenIn
@@ -58,7 +56,6 @@ see-spec =
     mul-h
     array-copy-out-h
     is-seen-requires
-    either-requires
     add-r
     loop-less
     loop-again

@@ -1,12 +1,12 @@
 use borrow.Author.Needs.{needs}
 use Rattle.seq.proofs.Tests.{tests}
-use Rattle.serve.specs.SlotHoldings.{seesDormantIn}
+use Rattle.serve.specs.Inner.SlotHoldings.{seesDormantIn}
 use Rattle.serve.proofs.SlotLaws.{not-dormant, is-dormant}
 use Rattle.serve.proofs.see_dormant.Statement.{statement}
 use Rattle.serve.proofs.see_dormant.Tie as tie
 use Rattle.serve.proofs.see_dormant.Reads as reads
 use Rattle.serve.proofs.see_dormant.Lts as lts
-use Rattle.serve.proofs.is_filled.Reads as is-filled-reads
+use Rattle.choice.proofs.is_filled.Reads as is-filled-reads
 use Rattle.serve.proofs.see.Reads as see-reads
 
 see-requires : tie.Need-see-requires

@@ -1,4 +1,4 @@
-use Rattle.serve.specs.Replies.{rowsTaken}
+use Rattle.serve.specs.Inner.Replies.{rowsTaken}
 use borrow.Author.Needs.{needs}
 use Rattle.serve.proofs.take_rows.Statement.{statement}
 use Rattle.serve.proofs.take_rows.Tie as tie

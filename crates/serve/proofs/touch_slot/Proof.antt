@@ -1,5 +1,5 @@
 use borrow.Author.Needs.{needs}
-use Rattle.serve.specs.Elements.{touchedSlot}
+use Rattle.serve.specs.Inner.Granted.{touchedSlot}
 use Rattle.serve.proofs.touch_slot.Statement.{statement}
 use Rattle.serve.proofs.touch_slot.Tie as tie
 use Rattle.serve.proofs.touch_slot.Reads as reads

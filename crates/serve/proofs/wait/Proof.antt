@@ -1,4 +1,4 @@
-use Rattle.serve.specs.Replies.{waitReply}
+use Rattle.serve.specs.Inner.Replies.{waitReply}
 use borrow.Author.Needs.{needs}
 use Rattle.serve.proofs.wait.Statement.{statement}
 use Rattle.serve.proofs.wait.Tie as tie

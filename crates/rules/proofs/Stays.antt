@@ -1,0 +1,14 @@
+pub mod StaysFresh
+pub mod StaysBase
+pub mod StaysChange
+pub mod StaysRows
+pub mod StaysDrop
+pub mod StaysOwn
+pub mod StaysTick
+pub mod StaysNew
+pub mod StaysGrant
+pub mod StaysFill
+pub mod StaysChoice
+pub mod StaysTaken
+pub mod StaysServe
+pub mod StaysSound

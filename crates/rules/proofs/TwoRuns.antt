@@ -1,3 +1,0 @@
-pub mod StateRuns
-pub mod BlindRuns
-pub mod Blind

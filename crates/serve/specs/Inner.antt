@@ -1,0 +1,3 @@
+pub mod SlotHoldings
+pub mod Granted
+pub mod Replies
