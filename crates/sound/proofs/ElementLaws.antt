@@ -18,7 +18,7 @@ use Rattle.model.specs.State.{rowAt, slotAt, holdingAt}
 use Rattle.model.specs.Words.{isFilled, holds, pins}
 use Rattle.model.proofs.StateLaws.{Sized}
 use Rattle.rules.specs.Sound.{soundNumbers, arrived, awaits, soundContent, soundSlot, soundCondition, soundRow, soundHolding, soundPins, soundPages, sound}
-use Rattle.sound.specs.Elements.{inRange, contentTest, slotTest, placeTaken, dueIn, arrivedTest, awaitsTest, fetchingTest, waitingTest, conditionTest, rowTest, fitTest, heldTest, holdingTest}
+use Rattle.sound.specs.Inner.Tests.{inRange, contentTest, slotTest, placeTaken, dueIn, arrivedTest, awaitsTest, fetchingTest, waitingTest, conditionTest, rowTest, fitTest, heldTest, holdingTest}
 use Rattle.sound.proofs.PageLaws.{pages-apart}
 
 pub numbers-test : (s : State) → Sized s → inRange (s .size) (s .delay) (s .clock) ≡ soundNumbers s

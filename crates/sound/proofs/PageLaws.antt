@@ -19,7 +19,7 @@ use Rattle.model.specs.declared.State.{State}
 use Rattle.model.specs.State.{emptySlot, slotAt}
 use Rattle.model.specs.Words.{isFilled, pageIn, hasPage}
 use Rattle.rules.specs.Sound.{soundContent, soundSlot, samePage, soundPages}
-use Rattle.sound.specs.Elements.{placeIn, seenAt, noPages, placeTaken}
+use Rattle.sound.specs.Inner.Tests.{placeIn, seenAt, noPages, placeTaken}
 
 -- what is noted after the first n slots
 abbrev pub Noted : List Slot → ℕ → List Bool → Type 0

@@ -17,7 +17,7 @@ use Rattle.model.specs.State.{holdingAt}
 use Rattle.model.specs.Words.{isPin, isWrite, conflict}
 use Rattle.model.proofs.PinLaws.{write-pin, conflict-comm, no-two-pins}
 use Rattle.rules.specs.Sound.{soundPins}
-use Rattle.sound.specs.Elements.{pinWeight, weightBelow}
+use Rattle.sound.specs.Inner.Tests.{pinWeight, weightBelow}
 
 -- a pin beside a write pin
 write-first : (p q : Pin) → isWrite p ≡ true → isPin q ≡ true → conflict p q ≡ true

@@ -1,1 +1,2 @@
-pub mod Elements
+-- for the code
+pub mod Inner

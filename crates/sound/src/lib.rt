@@ -13,7 +13,7 @@ ghost use Prim.Native.Nat.{_+_, _<_, _≤_};
 ghost use Rattle.seq.specs.Below.{allBelow};
 ghost use Rattle.model.specs.Parties.{mayAccess};
 ghost use Rattle.rules.specs.Sound.{pinAllowed, soundSlot, soundRow, soundHolding, soundPins, sound};
-ghost use Rattle.sound.specs.Elements.{inRange, slotTest, placeIn, noPages, placeTaken, dueIn, arrivedTest, awaitsTest, fetchingTest, waitingTest, rowTest, fitTest, heldTest, holdingTest, pinWeight};
+ghost use Rattle.sound.specs.Inner.Tests.{inRange, slotTest, placeIn, noPages, placeTaken, dueIn, arrivedTest, awaitsTest, fetchingTest, waitingTest, rowTest, fitTest, heldTest, holdingTest, pinWeight};
 
 fn unless(a: bool, b: bool) -> bool
     ensures { λ r. ⌜ r ≡ a && not b ⌝ }
@@ -189,11 +189,11 @@ fn is_awaited(h: Holding, due: u32) -> bool
     false
 }
 
-// A fetching row, by whether all its holdings have arrived or are awaited, and how many are awaited.
-fn is_fetching_sound(due: u32, deadline: u32, clock: u32, expected: bool, number: usize) -> bool
-    ensures { λ r. ⌜ r ≡ fetchingTest due deadline clock expected number ⌝ }
+// A fetching row, by whether its deadline is past, whether all its holdings have arrived or are awaited, and how many are awaited.
+fn is_fetching_sound(due: u32, past: bool, clock: u32, expected: bool, number: usize) -> bool
+    ensures { λ r. ⌜ r ≡ fetchingTest due past clock expected number ⌝ }
 {
-    if deadline <= clock {
+    if past {
         return false;
     }
     if due <= clock {
@@ -205,19 +205,12 @@ fn is_fetching_sound(due: u32, deadline: u32, clock: u32, expected: bool, number
     false
 }
 
-// A waiting row, by whether all its holdings have arrived.
-fn is_waiting_sound(
-    page: u32,
-    mode: Mode,
-    deadline: u32,
-    level: usize,
-    clock: u32,
-    settled: bool,
-) -> bool
+// A waiting row, by whether its deadline is past, and whether all its holdings have arrived.
+fn is_waiting_sound(page: u32, mode: Mode, past: bool, level: usize, settled: bool) -> bool
     requires { ⌜ level < 4 ⌝ }
-    ensures { λ r. ⌜ r ≡ waitingTest page mode deadline level clock settled ⌝ }
+    ensures { λ r. ⌜ r ≡ waitingTest page mode past level settled ⌝ }
 {
-    if deadline <= clock {
+    if past {
         return false;
     }
     if settled {
@@ -242,21 +235,22 @@ fn is_row_sound(
     ensures { λ r. ⌜ r ≡ rowTest x level clock settled expected number ⌝ }
 {
     let c = x.condition;
+    let past = model::is_past(clock, x.deadline);
     match c {
         Condition::Free => {
             return x.deadline == 0;
         }
         Condition::Idle => {
-            if x.deadline <= clock {
+            if past {
                 return false;
             }
             return settled;
         }
         Condition::Fetching(due) => {
-            return is_fetching_sound(due, x.deadline, clock, expected, number);
+            return is_fetching_sound(due, past, clock, expected, number);
         }
         Condition::Waiting { page, mode } => {
-            return is_waiting_sound(page, mode, x.deadline, level, clock, settled);
+            return is_waiting_sound(page, mode, past, level, settled);
         }
         Condition::Killed(_) => {
             return x.deadline == 0;

@@ -6,15 +6,10 @@ use native.Mathlib.Omega.{arith}
 use borrow.Author.Needs.{needs}
 use Rattle.seq.specs.Below.{allBelow}
 use Rattle.seq.proofs.BelowLaws.{all-turn}
-use Rattle.sound.specs.Elements.{placeTaken}
+use Rattle.sound.specs.Inner.Tests.{placeTaken}
 use Rattle.sound.proofs.PageLaws.{Noted, noted-none, noted-more, noted-taken}
 use Rattle.sound.proofs.are_pages_apart.Statement.{statement}
 use Rattle.sound.proofs.are_pages_apart.Tie as tie
-use Rattle.sound.proofs.are_pages_apart.Reads as reads
-use Rattle.sound.proofs.are_pages_apart.Lts as lts
-use Rattle.sound.proofs.no_pages.Reads as no-pages-reads
-use Rattle.sound.proofs.place_of.Reads as place-of-reads
-use Rattle.sound.proofs.unless.Reads as unless-reads
 
 abbrev Inv-loop : tie.InvT-loop
 Inv-loop slots seen₀ ok₀ i₀ seen ok i = (i ≤ 64) × (ok ≡ allBelow i (λ slot. not (placeTaken slots slot))) × Noted slots i seen
@@ -22,36 +17,15 @@ Inv-loop slots seen₀ ok₀ i₀ seen ok i = (i ≤ 64) × (ok ≡ allBelow i (
 abbrev μ-loop : tie.MeasureT-loop
 μ-loop slots seen₀ ok₀ i₀ seen ok i = 64 - i
 
-no-pages-requires : tie.Need-no-pages-requires Inv-loop μ-loop
-no-pages-requires c κs = search needs
-
 loop-holds : tie.Need-loop-holds Inv-loop μ-loop
 unfolding allBelow
 loop-holds c = (omega arith, refl, noted-none (c .before .before .args .s .slots) (c .no-pages .result) (c .no-pages .ensures))
-
-mul-x : tie.Need-mul-x Inv-loop μ-loop
-mul-x c = omega arith
-
-array-copy-out-x : tie.Need-array-copy-out-x Inv-loop μ-loop
-array-copy-out-x c = omega arith
-
-place-of-requires : tie.Need-place-of-requires Inv-loop μ-loop
-place-of-requires c κs = search needs
 
 array-read-taken : tie.Need-array-read-taken Inv-loop μ-loop
 array-read-taken c = omega (arith, c .before .before .before .loop .inv .2 .0, c .place-of .ensures .1)
 
 array-write-seen : tie.Need-array-write-seen Inv-loop μ-loop
 array-write-seen c = omega (arith, c .before .before .before .loop .inv .2 .0, c .place-of .ensures .1)
-
-unless-requires : tie.Need-unless-requires Inv-loop μ-loop
-unless-requires c κs = search needs
-
-add-i : tie.Need-add-i Inv-loop μ-loop
-add-i c = omega arith
-
-loop-less : tie.Need-loop-less Inv-loop μ-loop
-loop-less c = omega arith
 
 loop-again : tie.Need-loop-again Inv-loop μ-loop
 loop-again c = let slots = c .before .before .before .before .before .before .before .args .s .slots in
@@ -69,17 +43,5 @@ pub are-pages-apart-spec : {M : Type 1} → statement M
 are-pages-apart-spec =
     tie.close
     (tie.spec
-    Inv-loop
-    μ-loop
-    no-pages-requires
-    loop-holds
-    mul-x
-    array-copy-out-x
-    place-of-requires
-    array-read-taken
-    array-write-seen
-    unless-requires
-    add-i
-    loop-less
-    loop-again
-    returns)
+    Inv-loop μ-loop (λ c κs. search needs) loop-holds (λ c. omega arith) (λ c. omega arith) (λ c κs. search needs) array-read-taken array-write-seen
+    (λ c κs. search needs) (λ c. omega arith) (λ c. omega arith) loop-again returns)

@@ -1,13 +1,7 @@
-use Rattle.sound.specs.Elements.{arrivedTest}
+use Rattle.sound.specs.Inner.Tests.{arrivedTest}
 use borrow.Author.Needs.{needs}
 use Rattle.sound.proofs.has_arrived.Statement.{statement}
 use Rattle.sound.proofs.has_arrived.Tie as tie
-use Rattle.sound.proofs.has_arrived.Reads as reads
-use Rattle.sound.proofs.has_arrived.Lts as lts
-use Rattle.model.proofs.is_held.Reads as is-held-reads
-
-is-held-requires : tie.Need-is-held-requires
-is-held-requires c κs = search needs
 
 returns : tie.Need-returns
 unfolding arrivedTest
@@ -18,4 +12,4 @@ unfolding arrivedTest
 returns-2 c = simp (c .if1 .left, ← c .before .is-held .ensures)
 
 pub has-arrived-spec : {M : Type 1} → statement M
-has-arrived-spec = tie.close (tie.spec is-held-requires returns returns-2)
+has-arrived-spec = tie.close (tie.spec (λ c κs. search needs) returns returns-2)

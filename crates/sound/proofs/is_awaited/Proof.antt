@@ -1,13 +1,7 @@
-use Rattle.sound.specs.Elements.{awaitsTest}
+use Rattle.sound.specs.Inner.Tests.{awaitsTest}
 use borrow.Author.Needs.{needs}
 use Rattle.sound.proofs.is_awaited.Statement.{statement}
 use Rattle.sound.proofs.is_awaited.Tie as tie
-use Rattle.sound.proofs.is_awaited.Reads as reads
-use Rattle.sound.proofs.is_awaited.Lts as lts
-use Rattle.model.proofs.is_pin.Reads as is-pin-reads
-
-is-pin-requires : tie.Need-is-pin-requires
-is-pin-requires c κs = search needs
 
 returns : tie.Need-returns
 unfolding awaitsTest
@@ -18,4 +12,4 @@ unfolding awaitsTest
 returns-2 c = simp (c .if1 .left, ← c .before .is-pin .ensures)
 
 pub is-awaited-spec : {M : Type 1} → statement M
-is-awaited-spec = tie.close (tie.spec is-pin-requires returns returns-2)
+is-awaited-spec = tie.close (tie.spec (λ c κs. search needs) returns returns-2)

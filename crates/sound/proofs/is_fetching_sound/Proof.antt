@@ -1,13 +1,11 @@
 use Rattle.seq.proofs.Tests.{tests}
-use Rattle.sound.specs.Elements.{fetchingTest}
+use Rattle.sound.specs.Inner.Tests.{fetchingTest}
 use Rattle.sound.proofs.is_fetching_sound.Statement.{statement}
 use Rattle.sound.proofs.is_fetching_sound.Tie as tie
-use Rattle.sound.proofs.is_fetching_sound.Reads as reads
-use Rattle.sound.proofs.is_fetching_sound.Lts as lts
 
 returns : tie.Need-returns
 unfolding fetchingTest
-returns c = simp (tests, c .if1 .taken)
+returns c = simp (c .if1 .taken)
 
 returns-2 : tie.Need-returns-2
 unfolding fetchingTest

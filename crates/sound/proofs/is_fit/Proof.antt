@@ -1,21 +1,12 @@
 use Rattle.seq.proofs.Tests.{tests}
-use Rattle.sound.specs.Elements.{fitTest}
+use Rattle.sound.specs.Inner.Tests.{fitTest}
 use borrow.Author.Needs.{needs}
 use Rattle.sound.proofs.is_fit.Statement.{statement}
 use Rattle.sound.proofs.is_fit.Tie as tie
-use Rattle.sound.proofs.is_fit.Reads as reads
-use Rattle.sound.proofs.is_fit.Lts as lts
-use Rattle.sound.proofs.is_pin_allowed.Reads as is-pin-allowed-reads
-
-is-pin-allowed-requires : tie.Need-is-pin-allowed-requires
-is-pin-allowed-requires c κs = search needs
 
 returns : tie.Need-returns
 unfolding fitTest
 returns c = simp (tests, c .if2 .taken, c .before .before .if1 .taken, ← c .before .before .before .is-pin-allowed .ensures)
-
-cast-if3 : tie.Need-cast-if3
-cast-if3 c = search needs
 
 returns-2 : tie.Need-returns-2
 unfolding fitTest
@@ -34,6 +25,4 @@ unfolding fitTest
 returns-5 c = simp (c .if1 .left, ← c .before .is-pin-allowed .ensures)
 
 pub is-fit-spec : {M : Type 1} → statement M
-is-fit-spec =
-    tie.close
-    (tie.spec is-pin-allowed-requires returns cast-if3 returns-2 returns-3 returns-4 returns-5)
+is-fit-spec = tie.close (tie.spec (λ c κs. search needs) returns (λ c. search needs) returns-2 returns-3 returns-4 returns-5)

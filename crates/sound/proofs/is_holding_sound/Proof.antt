@@ -1,22 +1,8 @@
 use Rattle.seq.proofs.Tests.{tests}
-use Rattle.sound.specs.Elements.{holdingTest}
+use Rattle.sound.specs.Inner.Tests.{holdingTest}
 use borrow.Author.Needs.{needs}
 use Rattle.sound.proofs.is_holding_sound.Statement.{statement}
 use Rattle.sound.proofs.is_holding_sound.Tie as tie
-use Rattle.sound.proofs.is_holding_sound.Reads as reads
-use Rattle.sound.proofs.is_holding_sound.Lts as lts
-use Rattle.model.proofs.is_held.Reads as is-held-reads
-use Rattle.model.proofs.is_live.Reads as is-live-reads
-use Rattle.sound.proofs.is_held_sound.Reads as is-held-sound-reads
-
-is-held-requires : tie.Need-is-held-requires
-is-held-requires c κs = search needs
-
-is-live-requires : tie.Need-is-live-requires
-is-live-requires c κs = search needs
-
-is-held-sound-requires : tie.Need-is-held-sound-requires
-is-held-sound-requires c κs = search needs
 
 returns : tie.Need-returns
 unfolding holdingTest
@@ -31,6 +17,4 @@ unfolding holdingTest
 returns-3 c = simp (tests, c .if2 .left, c .before .before .if1 .left, ← c .before .before .before .is-held .ensures)
 
 pub is-holding-sound-spec : {M : Type 1} → statement M
-is-holding-sound-spec =
-    tie.close
-    (tie.spec is-held-requires is-live-requires is-held-sound-requires returns returns-2 returns-3)
+is-holding-sound-spec = tie.close (tie.spec (λ c κs. search needs) (λ c κs. search needs) (λ c κs. search needs) returns returns-2 returns-3)

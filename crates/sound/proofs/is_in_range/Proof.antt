@@ -1,9 +1,7 @@
 use Rattle.seq.proofs.Tests.{tests}
-use Rattle.sound.specs.Elements.{inRange}
+use Rattle.sound.specs.Inner.Tests.{inRange}
 use Rattle.sound.proofs.is_in_range.Statement.{statement}
 use Rattle.sound.proofs.is_in_range.Tie as tie
-use Rattle.sound.proofs.is_in_range.Reads as reads
-use Rattle.sound.proofs.is_in_range.Lts as lts
 
 returns : tie.Need-returns
 unfolding inRange

@@ -1,20 +1,12 @@
 use Rattle.seq.proofs.Tests.{tests}
-use Rattle.sound.specs.Elements.{slotTest}
+use Rattle.sound.specs.Inner.Tests.{slotTest}
 use borrow.Author.Needs.{needs}
 use Rattle.sound.proofs.is_slot_sound.Statement.{statement}
 use Rattle.sound.proofs.is_slot_sound.Tie as tie
-use Rattle.sound.proofs.is_slot_sound.Reads as reads
-use Rattle.sound.proofs.is_slot_sound.Lts as lts
-
-enum-told : tie.Need-enum-told
-enum-told c = search needs
 
 returns : tie.Need-returns
 unfolding slotTest
 returns c = simp (c .before .enum-told .given .1)
-
-enum-known-c : tie.Need-enum-known-c
-enum-known-c c = search needs
 
 returns-2 : tie.Need-returns-2
 unfolding slotTest
@@ -28,9 +20,6 @@ returns-4 : tie.Need-returns-4
 unfolding slotTest
 returns-4 c = simp (tests, c .if3 .taken, c .before .before .if2 .left, c .before .before .before .if1 .left, c .before .before .before .before .before .c .given .1)
 
-cast-if4 : tie.Need-cast-if4
-cast-if4 c = search needs
-
 returns-5 : tie.Need-returns-5
 unfolding slotTest
 returns-5 c = simp (tests, c .if4 .taken, c .before .if3 .left, c .before .before .before .if2 .left, c .before .before .before .before .if1 .left, c .before .before .before .before .before .before .c .given .1)
@@ -43,12 +32,4 @@ pub is-slot-sound-spec : {M : Type 1} → statement M
 is-slot-sound-spec =
     tie.close
     (tie.spec
-    enum-told
-    returns
-    enum-known-c
-    returns-2
-    returns-3
-    returns-4
-    cast-if4
-    returns-5
-    returns-6)
+    (λ c. search needs) returns (λ c. search needs) returns-2 returns-3 returns-4 (λ c. search needs) returns-5 returns-6)

@@ -1,18 +1,12 @@
 use Rattle.seq.proofs.Tests.{tests}
-use Rattle.sound.specs.Elements.{waitingTest}
+use Rattle.sound.specs.Inner.Tests.{waitingTest}
 use borrow.Author.Needs.{needs}
 use Rattle.sound.proofs.is_waiting_sound.Statement.{statement}
 use Rattle.sound.proofs.is_waiting_sound.Tie as tie
-use Rattle.sound.proofs.is_waiting_sound.Reads as reads
-use Rattle.sound.proofs.is_waiting_sound.Lts as lts
-use Rattle.model.proofs.is_allowed.Reads as is-allowed-reads
 
 returns : tie.Need-returns
 unfolding waitingTest
-returns c = simp (tests, c .if1 .taken)
-
-is-allowed-requires : tie.Need-is-allowed-requires
-is-allowed-requires c κs = search needs
+returns c = simp (c .if1 .taken)
 
 returns-2 : tie.Need-returns-2
 unfolding waitingTest
@@ -24,8 +18,7 @@ returns-3 c = simp (tests, c .if3 .left, c .before .if2 .taken, c .before .befor
 
 returns-4 : tie.Need-returns-4
 unfolding waitingTest
-returns-4 c = simp (tests, c .if2 .left, c .before .if1 .left)
+returns-4 c = simp (c .if2 .left, c .before .if1 .left)
 
 pub is-waiting-sound-spec : {M : Type 1} → statement M
-is-waiting-sound-spec =
-    tie.close (tie.spec returns is-allowed-requires returns-2 returns-3 returns-4)
+is-waiting-sound-spec = tie.close (tie.spec returns (λ c κs. search needs) returns-2 returns-3 returns-4)

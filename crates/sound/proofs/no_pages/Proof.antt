@@ -1,9 +1,7 @@
 use mathlib.Core.Path.{refl}
-use Rattle.sound.specs.Elements.{noPages}
+use Rattle.sound.specs.Inner.Tests.{noPages}
 use Rattle.sound.proofs.no_pages.Statement.{statement}
 use Rattle.sound.proofs.no_pages.Tie as tie
-use Rattle.sound.proofs.no_pages.Reads as reads
-use Rattle.sound.proofs.no_pages.Lts as lts
 
 returns : tie.Need-returns
 unfolding noPages

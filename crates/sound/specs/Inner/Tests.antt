@@ -1,5 +1,5 @@
--- The tests of what sound means, most of one element of the state and the numbers that it is compared with.
--- `latest` is the tick clock + delay.
+-- For the code; proved equal to soundSlot, soundRow, soundHolding, soundPins and soundPages, proofs/ElementLaws, PinLaws and PageLaws: the tests of what sound means, most of
+-- one element of the state and the numbers that it is compared with. `latest` is the tick clock + delay.
 use mathlib.Core.Bool.{Bool, false, cond, _&&_, _||_, not}
 use mathlib.Core.List.{List}
 use Prim.Native.Nat.{ℕ, zero, suc, _+_}
@@ -62,15 +62,13 @@ arrivedTest clock h = not (isHeld (h .pin)) || leb (h .arrival) clock
 unfoldable pub awaitsTest : ℕ → Holding → Bool
 awaitsTest due h = isPin (h .pin) && eqb (h .arrival) due
 
--- a fetching row, by whether all its holdings have arrived or are awaited, and how many are awaited
-unfoldable pub fetchingTest : ℕ → ℕ → ℕ → Bool → ℕ → Bool
-fetchingTest due deadline clock expected number =
-    not (isPast clock deadline) && ltb clock due && eqb number 1 && expected
+-- a fetching row, by whether its deadline is past, whether all its holdings have arrived or are awaited, and how many are awaited
+unfoldable pub fetchingTest : ℕ → Bool → ℕ → Bool → ℕ → Bool
+fetchingTest due past clock expected number = not past && ltb clock due && eqb number 1 && expected
 
--- a waiting row, by whether all its holdings have arrived
-unfoldable pub waitingTest : ℕ → Mode → ℕ → ℕ → ℕ → Bool → Bool
-waitingTest page mode deadline level clock settled =
-    not (isPast clock deadline) && settled && leb page 4095 && mayAccess level page mode
+-- a waiting row, by whether its deadline is past, and whether all its holdings have arrived
+unfoldable pub waitingTest : ℕ → Mode → Bool → ℕ → Bool → Bool
+waitingTest page mode past level settled = not past && settled && leb page 4095 && mayAccess level page mode
 
 -- a row's condition, by whether all its holdings have arrived, whether all have arrived or are awaited, and how many are awaited
 abbrev pub conditionTest : Condition → ℕ → ℕ → ℕ → Bool → Bool → ℕ → Bool
@@ -78,9 +76,9 @@ conditionTest Free deadline level clock settled expected number = eqb deadline 0
 conditionTest (Killed cause) deadline level clock settled expected number = eqb deadline 0
 conditionTest Idle deadline level clock settled expected number = not (isPast clock deadline) && settled
 conditionTest (Fetching due) deadline level clock settled expected number =
-    fetchingTest due deadline clock expected number
+    fetchingTest due (isPast clock deadline) clock expected number
 conditionTest (Waiting page mode) deadline level clock settled expected number =
-    waitingTest page mode deadline level clock settled
+    waitingTest page mode (isPast clock deadline) level settled
 
 unfoldable pub rowTest : Row → ℕ → ℕ → Bool → Bool → ℕ → Bool
 rowTest x level clock settled expected number = conditionTest (x .condition) (x .deadline) level clock settled expected number
