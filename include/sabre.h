@@ -36,7 +36,7 @@
  * write there. How long a call runs on the machine is no part of an answer, and
  * may depend on the whole state.
  *
- * The stack. A call needs up to 184 KiB of the caller's stack. Nothing is allocated
+ * The stack. A call needs up to 160 KiB of the caller's stack. Nothing is allocated
  * elsewhere, and no call recurses. `host stack` measures it (host/README.md) and
  * fails at 512 KiB.
  */

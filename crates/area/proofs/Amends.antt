@@ -172,8 +172,8 @@ module _ (some : ℕ → Bool) (x : ℕ → Holding) (n : ℕ) where
     | no q ↦ rw (ne-eqb (k % 32) n q) (left-other k q)
   ]
 
-  left-kept : some n ≡ false → (k : ℕ) → rowsLeft some x n k ≡ rowsLeft some x (suc n) k
-  left-kept e k = elim (ℕ-discrete (k % 32) n) [
+  left-next : some n ≡ false → (k : ℕ) → rowsLeft some x n k ≡ rowsLeft some x (suc n) k
+  left-next e k = elim (ℕ-discrete (k % 32) n) [
     | yes q ↦
         let was : rowsLeft some x n k ≡ x k = rw (q, le-ltb n n (omega arith)) in
         was ∙ sym (left-here k false e q)
@@ -219,7 +219,7 @@ module _ (s : State) (r : List ℕ) where
           ap (rowDropped n 64) h
           ∙ row-drop (rowsLeft some x n) n (omega arith) 64 (omega arith)
           ∙ ap (λ (w : List ℕ). w ++ r) (laid-same s (λ k. cond (dropsAt n 64 k) emptyHolding (rowsLeft some x n k)) (rowsLeft some x (suc n)) (left-dropped some x n e))
-      go false e h = h ∙ ap (λ (w : List ℕ). w ++ r) (laid-same s (rowsLeft some x n) (rowsLeft some x (suc n)) (λ k _. left-kept some x n e k))
+      go false e h = h ∙ ap (λ (w : List ℕ). w ++ r) (laid-same s (rowsLeft some x n) (rowsLeft some x (suc n)) (λ k _. left-next some x n e k))
 
   -- the 32 holdings of a slot
   slot-put : (x : ℕ → Holding) (slot : ℕ) (held : List Holding) → slot < 64

@@ -4,7 +4,7 @@ use mathlib.Core.Bool.{Bool, true, false, _&&_}
 use mathlib.Core.List.{List, [], _∷_, _++_, append-assoc}
 use Prim.Native.Nat.{ℕ, _+_, _*_, _<_, _≤_}
 use native.Mathlib.Omega.{arith}
-use lib.ListN.{length, drop, set, replicate, length-append}
+use lib.ListN.{length, drop, replicate, length-append}
 use Rattle.seq.specs.Below.{allBelow}
 use Rattle.seq.proofs.BelowLaws.{all-more}
 use Rattle.words.specs.Bytes.{wordAt, hasWords, wordBytes, zeroWords, spliced}
@@ -12,9 +12,8 @@ use Rattle.words.proofs.ByteLaws.{AllUnder}
 use Rattle.words.proofs.SpliceLaws.{spliced-more}
 use Rattle.model.specs.declared.Row.{Row}
 use Rattle.model.specs.declared.Slot.{Slot}
-use Rattle.model.specs.declared.Holding.{Holding}
 use Rattle.model.specs.declared.State.{State}
-use Rattle.model.specs.State.{emptyHoldings, fresh, withHoldings}
+use Rattle.model.specs.State.{emptyHoldings, fresh}
 use Rattle.area.specs.Layout.{mark, version, low, headerWords, decoded, encoded, exact}
 use Rattle.area.specs.Inner.Exact.{exactRows, exactSlots, exactHoldings}
 use Rattle.area.proofs.Elements.{header-wide}
@@ -50,29 +49,14 @@ exact-tests a f x y z p q g u l ef ex ey ez ep eq eg =
     let m : g ≡ ((h && (w && v)) && (exactRows a && exactSlots a)) && exactHoldings a = rw (← ef, ← ex, ← ey, ← ez, ← ep, ← eq) eg in
     m ∙ reordered h w v (exactRows a) (exactSlots a) (exactHoldings a) ∙ sym (exact-pieces a u l)
 
--- the holdings read one after another into their place in the state
-pub holdings-still : (s : State) (l : List Holding) → s .holdings ≡ l → s ≡ withHoldings s l
-holdings-still s l e = λ i. record { size = s .size; delay = s .delay; clock = s .clock; rows = s .rows; slots = s .slots; holdings = e i }
-
-pub holdings-next : (s₀ s : State) (l m : List Holding) (k : ℕ) (x : Holding) → s ≡ withHoldings s₀ l → set l k x ≡ m → withHoldings s (set (s .holdings) k x) ≡ withHoldings s₀ m
-holdings-next s₀ s l m k x e f = rw (e, f)
-
+-- one test more
 pub tests-next : (p : ℕ → Bool) (k : ℕ) (e₀ e t r : Bool) → e ≡ e₀ && allBelow k p → t ≡ p k → r ≡ e && t → r ≡ e₀ && allBelow (k + 1) p
 tests-next p k e₀ e t r a b c = rw (all-more p k, ← b) (rw a at c ∙ and-assoc e₀ (allBelow k p) t)
 
--- the fresh state that decode begins with
-module _ (s : State) (size delay : ℕ) (e : s ≡ fresh size delay) where
-  pub fresh-size : s .size ≡ size
-  unfolding fresh
-  fresh-size = λ i. e i .size
-
-  pub fresh-delay : s .delay ≡ delay
-  unfolding fresh
-  fresh-delay = λ i. e i .delay
-
-  pub fresh-holdings : s .holdings ≡ emptyHoldings
-  unfolding fresh
-  fresh-holdings = λ i. e i .holdings
+-- the holdings of the fresh state over which decode reads
+pub fresh-holdings : (s : State) (size delay : ℕ) → s ≡ fresh size delay → s .holdings ≡ emptyHoldings
+unfolding fresh
+fresh-holdings s size delay e = λ i. e i .holdings
 
 -- the state that decode builds
 pub decode-state : (a : List ℕ) (s : State) → s .size ≡ wordAt a 16 → s .delay ≡ low (wordAt a 24) → s .clock ≡ low (wordAt a 32)

@@ -302,7 +302,8 @@ fn is_frame(a: &[u8], size: usize, delay: u32, clock: u32) -> bool
     false
 }
 
-// The state that an area of at least 65,536 bytes names, and whether its bytes are exactly that state's. The holdings are read into their place.
+// The state that an area of at least 65,536 bytes names, and whether its bytes are exactly that state's. Its holdings are read over those of a fresh
+// state.
 pub fn decode(a: &[u8], whole: &mut bool) -> State
     requires { ⌜ 65536 ≤ length (now a) ⌝ }
     ensures { λ r. ⌜ (r ≡ decoded (now (a .entry))) × (now (whole .exit) ≡ exact (now (a .entry))) ⌝ }
@@ -316,19 +317,24 @@ pub fn decode(a: &[u8], whole: &mut bool) -> State
     let mut same = seq::both(frame, seq::both(r.exact, s.exact));
     let rows = r.rows;
     let slots = s.slots;
-    let mut state = model::fresh_state(size, delay);
-    state.clock = clock;
-    state.rows = rows;
-    state.slots = slots;
+    let fresh = model::fresh_state(size, delay);
+    let mut holdings = fresh.holdings;
     for k in 0..2048usize {
         let at = 6656 + k * 24;
         let x = get_holding(a, at);
         let ws = holding_words(x);
         same = seq::both(same, words::has_words(a, at, &ws));
-        state.holdings[k] = x;
+        holdings[k] = x;
     }
     *whole = same;
-    state
+    State {
+        size,
+        delay,
+        clock,
+        rows,
+        slots,
+        holdings,
+    }
 }
 
 fn put_rows(a: &mut [u8], rows: [Row; 32])

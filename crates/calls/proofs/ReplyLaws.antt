@@ -33,24 +33,24 @@ use Rattle.model.proofs.ChangedLaws.{changed-dropped, changed-none, held-set}
 use Rattle.rules.specs.Calls.{unless, served, servedAgain}
 use Rattle.serve.specs.Inner.SlotHoldings.{holdingsOn}
 use Rattle.serve.proofs.SlotLaws.{held-by}
-use Rattle.calls.specs.Inner.Parts.{holdingsKept}
+use Rattle.calls.specs.Inner.Parts.{holdingsLeft}
 use Rattle.calls.proofs.RefusalLaws.{refused}
 
 module _ (s : State) (z : Sized s) where
   -- no holding changes
-  pub kept-after : (r : Reply) (rows : List Row) (a : Answer) → r ≡ holdingsKept (s .clock) rows (s .slots) a → outcomeOf s r ≡ record { state = withRows s rows; answer = a }
-  unfolding holdingsKept outcomeOf
-  kept-after r rows a e =
+  pub left-after : (r : Reply) (rows : List Row) (a : Answer) → r ≡ holdingsLeft (s .clock) rows (s .slots) a → outcomeOf s r ≡ record { state = withRows s rows; answer = a }
+  unfolding holdingsLeft outcomeOf
+  left-after r rows a e =
       ap (outcomeOf s) e
       ∙ (λ j. record { state = changed-none s z (s .clock) rows (s .slots) (replicate 32 false) (λ row _. replicate-at 32 row false) j; answer = a })
 
   -- the rows do not change either
-  pub same-after : (r : Reply) (a : Answer) (o : Outcome) → r ≡ holdingsKept (s .clock) (s .rows) (s .slots) a → a ≡ o .answer → o .state ≡ s → outcomeOf s r ≡ o
-  same-after r a o e f g = kept-after r (s .rows) a e ∙ (λ j. record { state = sym g j; answer = f j })
+  pub same-after : (r : Reply) (a : Answer) (o : Outcome) → r ≡ holdingsLeft (s .clock) (s .rows) (s .slots) a → a ≡ o .answer → o .state ≡ s → outcomeOf s r ≡ o
+  same-after r a o e f g = left-after r (s .rows) a e ∙ (λ j. record { state = sym g j; answer = f j })
 
   -- a refused call: n is the number that the code found, m that of the definition
-  pub refused-after : (r : Reply) (n m : ℕ) (o : Outcome) → r ≡ holdingsKept (s .clock) (s .rows) (s .slots) (Refused n) → n ≡ m → 0 < n → outcomeOf s r ≡ unless m s o
-  refused-after r n m o e f h = kept-after r (s .rows) (Refused n) e ∙ refused n m s o f h
+  pub refused-after : (r : Reply) (n m : ℕ) (o : Outcome) → r ≡ holdingsLeft (s .clock) (s .rows) (s .slots) (Refused n) → n ≡ m → 0 < n → outcomeOf s r ≡ unless m s o
+  refused-after r n m o e f h = left-after r (s .rows) (Refused n) e ∙ refused n m s o f h
 
   -- some rows do
   pub drop-after : (c : Change) (clock : ℕ) (rows : List Row) (slots : List Slot) (gone : List Bool) (a : Answer) → c ≡ holdingsDropped clock rows slots gone

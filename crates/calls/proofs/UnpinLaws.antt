@@ -32,12 +32,12 @@ use Rattle.serve.proofs.SlotLaws.{held-by}
 use Rattle.calls.proofs.RefusalLaws.{unpinFirst, unpin-last}
 
 module _ (s : State) (z : Sized s) (row slot : ℕ) (b : row < 32) (d : slot < 64) where
-  kept : Change
-  kept = record { clock = s .clock; rows = s .rows; slots = s .slots; gone = replicate 32 false; slot = slot; held = holdingsOn s slot }
+  same : Change
+  same = record { clock = s .clock; rows = s .rows; slots = s .slots; gone = replicate 32 false; slot = slot; held = holdingsOn s slot }
 
-  all-kept : each (holdingAfter kept) (s .holdings) ≡ s .holdings
-  unfolding holdingAfter kept
-  all-kept = each-still (holdingAfter kept) (s .holdings) emptyHolding (λ k m. elim (ℕ-discrete (k / 32) slot) [
+  all-same : each (holdingAfter same) (s .holdings) ≡ s .holdings
+  unfolding holdingAfter same
+  all-same = each-still (holdingAfter same) (s .holdings) emptyHolding (λ k m. elim (ℕ-discrete (k / 32) slot) [
     | yes p ↦
         let here : slot * 32 + k % 32 ≡ k = omega arith in
         rw (eq-eqb (k / 32) slot p, held-by s slot (k % 32) (omega arith), here)
@@ -50,11 +50,11 @@ module _ (s : State) (z : Sized s) (row slot : ℕ) (b : row < 32) (d : slot < 6
 
   set-changed : (held : List Holding) (y : Slot) (h : Holding) → held ≡ holdingsOn s slot
       → changed s (record { clock = s .clock; rows = s .rows; slots = set (s .slots) slot y; gone = replicate 32 false; slot = slot; held = set held row h }) ≡ putHolding (putSlot s slot y) slot row h
-  unfolding changed kept
+  unfolding changed same
   set-changed held y h e =
       let c : Change = record { clock = s .clock; rows = s .rows; slots = set (s .slots) slot y; gone = replicate 32 false; slot = slot; held = set held row h } in
       let t : each (holdingAfter c) (s .holdings) ≡ set (s .holdings) (slot * 32 + row) h =
-      sym (held-set s z kept c row h d b on-length refl refl (ap (λ (l : List Holding). set l row h) e)) ∙ ap (λ (l : List Holding). set l (slot * 32 + row) h) all-kept in
+      sym (held-set s z same c row h d b on-length refl refl (ap (λ (l : List Holding). set l row h) e)) ∙ ap (λ (l : List Holding). set l (slot * 32 + row) h) all-same in
       λ j. record { size = s .size; delay = s .delay; clock = s .clock; rows = s .rows; slots = set (s .slots) slot y; holdings = t j }
 
   -- p: whether the holding is a pin

@@ -54,7 +54,7 @@ use Rattle.model.specs.declared.Call.{Call}
 use Rattle.model.specs.declared.Call.the-variants.{Start, Begin, Request, Retry, Unpin, End, Tick, Look, View, Count}
 use Rattle.rules.specs.Run.{outcome}
 use Rattle.rules.proofs.Facts.SoundFacts.{Sound, facts}
-use Rattle.rules.proofs.Promises.Granting.{grant-ready, granted-answer}
+use Rattle.rules.proofs.Promises.Granting.{grant-fetch, grant-ready}
 use Rattle.rules.proofs.Promises.CallCases.{isServed}
 use Rattle.rules.proofs.Promises.WaitFetch.{granted-alone}
 use Rattle.area.specs.Layout.{encoded, decoded, exact}
@@ -120,10 +120,7 @@ fits-slot s z c = go (outcome s c .answer) refl
     fetched : (due slot : ℕ) (back : Back) → outcome s c .answer ≡ Fetch due slot back → slot < 64
     fetched due slot back w =
         let x = granted-alone s z c (ap isServed w) (λ e. let n : _≡_ {A = ℕ} 0 1 = cc in omega arith) in
-        let g = x .5 in
-        granted-answer (g .before) (x .0) (g .slot) (x .2) (g .arrival) (g .back) (Fetch due slot back) (ap (λ (o : Outcome). o .answer) (sym (g .same)) ∙ w)
-        (λ q k. true-false (cc))
-        (λ q k. let d : slot ≡ g .slot = cc in rw d (g .ground .slot-is))
+        grant-fetch s (x .0) (x .1) (x .2) (x .4) (outcome s c) (x .5) due slot back w .2
 
     readied : (slot : ℕ) (back : Back) → outcome s c .answer ≡ Ready slot back → slot < 64
     readied slot back w =

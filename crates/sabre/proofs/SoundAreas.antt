@@ -1,5 +1,5 @@
 -- What a sound area is, and the bytes of a sound state.
-use mathlib.Core.Path.{_≡_, refl, sym, ap, _∙_}
+use mathlib.Core.Path.{_≡_, sym}
 use mathlib.Core.Bool.{Bool, true, false, _&&_}
 use mathlib.Core.List.{List, _++_}
 use Prim.Native.Nat.{ℕ, _<_, _≤_}
@@ -45,16 +45,7 @@ pub short-unsound : (a : List ℕ) → length a < 65536 → soundArea a ≡ fals
 unfolding soundArea
 short-unsound a h = rw (lt-leb 65536 (length a) h)
 
-and-false : (b : Bool) → b && false ≡ false
-and-false true = refl
-and-false false = refl
-
--- what opening a long area comes to: its bytes and its state tested one after another
-module _ (a : List ℕ) (s : State) (e : s ≡ decoded a) (whole : Bool) (f : whole ≡ exact a) where
-  pub opened-whole : 65536 ≤ length a → whole ≡ true → (b : Bool) → b ≡ sound s → b ≡ soundArea a
-  unfolding soundArea
-  opened-whole l g b h = h ∙ rw (le-leb 65536 (length a) l, ← f, g) (ap sound e)
-
-  pub opened-inexact : whole ≡ false → false ≡ soundArea a
-  unfolding soundArea
-  opened-inexact g = sym (rw (← f, g) (and-false (leb 65536 (length a))))
+-- a long area, by the tests of its bytes and of its state
+pub long-sound : (a : List ℕ) (s : State) (e : Bool) → 65536 ≤ length a → s ≡ decoded a → e ≡ exact a → (b : Bool) → b ≡ e && sound s → soundArea a ≡ b
+unfolding soundArea
+long-sound a s e l f g b h = rw (le-leb 65536 (length a) l, ← f, ← g) (sym h)

@@ -1,5 +1,5 @@
-// The exported calls. Each makes its call by `make`: the lent area is opened, the call made on the state by value, and what it changes written over the
-// area. Look, view and count, which change nothing, go by `ask`.
+// The exported calls. Each makes its call by `make`: the lent area is read, the call made on the state by value, and what it changes written over the
+// area. Look, view and count, which change nothing, go by `ask`, and a start, which takes any bytes, by `start`.
 use model::Answer;
 use model::Back;
 use model::Call;
@@ -7,17 +7,18 @@ use model::Cause;
 use model::Reply;
 use model::State;
 ghost use mathlib.Core.Path.{_≡_};
-ghost use mathlib.Core.Bool.{true, cond};
+ghost use mathlib.Core.Bool.{true, cond, _&&_};
 ghost use mathlib.Core.List.{[], _∷_, _++_};
 ghost use Prim.Native.Nat.{_≤_};
 ghost use lib.ListN.{length, drop};
+ghost use Rattle.rules.specs.Sound.{sound};
 ghost use Rattle.rules.specs.Content.{isReading};
 ghost use Rattle.rules.specs.Answers.{causeWord, pageBack, slotTold};
 ghost use Rattle.model.specs.declared.Answer.the-variants.{Refused};
 ghost use Rattle.model.specs.declared.Call.the-variants.{Start, Begin, Request, Retry, Unpin, End, Tick, Look, View, Count};
 ghost use Rattle.model.specs.Inner.Changed.{changed};
 ghost use Rattle.area.specs.Layout.{encoded, decoded, exact};
-ghost use Rattle.sabre.specs.Lent.{soundArea, isRefused, answerOn, areaAfter, status, answerNumbers};
+ghost use Rattle.sabre.specs.Lent.{isRefused, answerOn, areaAfter, status, answerNumbers};
 
 fn cause_word(cause: Cause) -> u64
     ensures { λ r. ⌜ r ≡ causeWord cause ⌝ }
@@ -95,19 +96,14 @@ fn refuse(answer: &mut [u64; 4]) -> u32
     tell(answer, Answer::Refused(1))
 }
 
-// Opens an area of at least 65,536 bytes: the state that it names, and whether the area is sound.
-fn open(area: &[u8], sound: &mut bool) -> State
-    requires { ⌜ 65536 ≤ length (now area) ⌝ }
-    ensures { λ r. ⌜ (r ≡ decoded (now (area .entry))) × (now (sound .exit) ≡ soundArea (now (area .entry))) ⌝ }
+// Whether an area of at least 65,536 bytes is sound: its bytes are exactly those of the state that it names, and that state is sound.
+fn is_area_sound(exact: bool, s: State) -> bool
+    ensures { λ r. ⌜ r ≡ exact && sound s ⌝ }
 {
-    let mut whole = false;
-    let s = area::decode(area, &mut whole);
-    if whole {
-        *sound = sound::is_sound(s);
-        return s;
+    if exact {
+        return sound::is_sound(s);
     }
-    *sound = false;
-    s
+    false
 }
 
 // The answer told and, where the call is accepted, what it changes written over the area.
@@ -155,9 +151,9 @@ pub fn make(area: &mut [u8], c: Call, answer: &mut [u64; 4]) -> u32
     if area.len() < 65536 {
         return refuse(answer);
     }
-    let mut sound = false;
-    let s = open(area, &mut sound);
-    if sound {
+    let mut exact = false;
+    let s = area::decode(area, &mut exact);
+    if is_area_sound(exact, s) {
         let r = calls::make(s, c);
         return finish(area, answer, r);
     }
@@ -173,9 +169,9 @@ fn ask(area: &[u8], c: Call, answer: &mut [u64; 4]) -> u32
     if area.len() < 65536 {
         return refuse(answer);
     }
-    let mut sound = false;
-    let s = open(area, &mut sound);
-    if sound {
+    let mut exact = false;
+    let s = area::decode(area, &mut exact);
+    if is_area_sound(exact, s) {
         let x = calls::ask(s, c);
         return tell(answer, x);
     }
@@ -188,7 +184,7 @@ pub extern "C" fn sabre_start(area: &mut [u8], slots: u32, delay: u32, answer: &
     ensures told { λ _. ⌜ now (answer .exit) ≡ answerNumbers (answerOn (now (area .entry)) (Start slots delay)) ⌝ }
     ensures left { λ _. ⌜ now (area .exit) ≡ areaAfter (now (area .entry)) (Start slots delay) ⌝ }
 {
-    make(area, Call::Start { slots, delay }, answer)
+    start(area, slots, delay, answer)
 }
 
 #[no_mangle]

@@ -70,13 +70,14 @@ pub fn holdings_on(s: State, slot: usize) -> [Holding; 32]
     requires { ⌜ slot < 64 ⌝ }
     ensures { λ r. ⌜ r ≡ holdingsOn s slot ⌝ }
 {
+    let holdings = s.holdings;
     let mut held = [Holding {
         pin: Pin::Absent,
         arrival: 0,
         touch: 0,
     }; 32];
     for r in 0..32usize {
-        let h = s.holdings[slot * 32 + r];
+        let h = holdings[slot * 32 + r];
         held[r] = h;
     }
     held
@@ -408,7 +409,7 @@ fn take_rows(c: Change) -> Change
     let before = c.rows;
     let rows = model::kill_rows(before, gone, Cause::Taken);
     let all = c.held;
-    let held = model::kept_holdings(all, gone);
+    let held = model::remaining_holdings(all, gone);
     let slots = c.slots;
     Change {
         clock: c.clock,
@@ -471,7 +472,8 @@ pub fn serve(s: State, row: usize, page: u32, mode: Mode) -> Reply
     let slots = s.slots;
     let Found::At(slot) = choice::find_page(slots, size, page) else {
         let Found::At(chosen) = choice::choose(s, row) else {
-            return wait(clock, rows, slots, row, page, mode);
+            let same = s.slots;
+            return wait(clock, rows, same, row, page, mode);
         };
         let held = holdings_on(s, chosen);
         let gone = mark_rows(held, Kills::Pinning);
@@ -487,10 +489,11 @@ pub fn serve(s: State, row: usize, page: u32, mode: Mode) -> Reply
         return into_slot(c, row, page, mode, due);
     };
     let held = holdings_on(s, slot);
-    let x = slots[slot];
+    let x = s.slots[slot];
     let p = plan_steps(held, rows, x, row, mode, due);
     if p.wait {
-        return wait(clock, rows, slots, row, page, mode);
+        let same = s.slots;
+        return wait(clock, rows, same, row, page, mode);
     }
     let gone = p.marks;
     let arrival = p.arrival;

@@ -125,9 +125,9 @@ module _ (s : State) (row : ℕ) (past : (slot : ℕ) → slot < 64 → leb (hol
 pub row-again : (s : State) (row due m n k : ℕ) (quiet settled expected : Bool) (number : ℕ) → m ≡ 64 → k ≡ n → due ≡ dueIn (rowAt s row .condition)
     → quiet ≡ allBelow m (λ slot. leb (holdingAt s slot row .arrival) (s .clock)) → n ≡ cond quiet 0 64
     → settled ≡ allBelow k (λ slot. arrived s slot row) → expected ≡ allBelow k (λ slot. arrived s slot row || awaits s row due slot) → number ≡ countBelow k (awaits s row due)
-    → rowTest (rowAt s row) (levelOf row) (s .clock) settled expected number ≡ soundRow s row
+    → (t : Bool) → t ≡ rowTest (rowAt s row) (levelOf row) (s .clock) settled expected number → t ≡ soundRow s row
 unfolding allBelow countBelow
-row-again s row due m n k quiet settled expected number e f d q w x y z = go quiet refl
+row-again s row due m n k quiet settled expected number e f d q w x y z t h = h ∙ go quiet refl
   where
     go : (b : Bool) → quiet ≡ b → rowTest (rowAt s row) (levelOf row) (s .clock) settled expected number ≡ soundRow s row
     go false g = row-end s row due k settled expected number (f ∙ w ∙ rw g) d x y z
@@ -142,9 +142,10 @@ and-assoc : (a b c : Bool) → a && (b && c) ≡ a && b && c
 and-assoc true b c = refl
 and-assoc false b c = refl
 
-pub holding-test : (s : State) (slot row : ℕ) → holdingTest (levelOf row) (rowAt s row) (slotAt s slot) (holdingAt s slot row) (s .clock + s .delay) ≡ soundHolding s slot row
+pub holding-test : (s : State) (slot row latest : ℕ) (t : Bool) → latest ≡ s .clock + s .delay
+    → t ≡ holdingTest (levelOf row) (rowAt s row) (slotAt s slot) (holdingAt s slot row) latest → t ≡ soundHolding s slot row
 unfolding holdingTest heldTest fitTest soundHolding
-holding-test s slot row = simp and-assoc
+holding-test s slot row latest t e h = rw e at h ∙ simp and-assoc
 
 pages-joined : (s : State) → soundNumbers s && allBelow 64 (soundSlot s) && allBelow 64 (λ slot. not (placeTaken (s .slots) slot)) ≡ soundNumbers s && allBelow 64 (soundSlot s) && soundPages s
 pages-joined s = go (soundNumbers s)

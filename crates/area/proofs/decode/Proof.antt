@@ -7,11 +7,11 @@ use Rattle.seq.specs.Below.{allBelow}
 use Rattle.seq.specs.Each.{each, eachBelow}
 use Rattle.seq.proofs.EachLaws.{each-below-none}
 use Rattle.words.specs.Bytes.{hasWords}
-use Rattle.model.specs.State.{withHoldings, emptyHolding, emptyHoldings}
+use Rattle.model.specs.State.{emptyHolding, emptyHoldings}
 use Rattle.area.specs.Layout.{low, exact, decoded, holdingFrom, holdingWords}
 use Rattle.area.specs.Inner.Exact.{exactHoldings}
 use Rattle.area.proofs.LoopLaws.{empty-holdings-long, read-turn, read-all, read-test}
-use Rattle.area.proofs.AreaSteps.{fresh-size, fresh-delay, fresh-holdings, decode-state, exact-tests, holdings-still, holdings-next, tests-next, framed}
+use Rattle.area.proofs.AreaSteps.{fresh-holdings, decode-state, exact-tests, tests-next, framed}
 use Rattle.area.proofs.decode.Statement.{statement}
 use Rattle.area.proofs.decode.Tie as tie
 use Rattle.area.proofs.decode.Reads as reads
@@ -40,10 +40,10 @@ unfolding decoded
 all-read a = refl
 
 abbrev Inv-loop : tie.InvT-loop
-Inv-loop a whole size delay clock frame same₀ state₀ k₀ same state k = (k ≤ 2048) × (state ≡ withHoldings state₀ (eachBelow k (λ j _. holdingFrom a (6656 + j * 24)) emptyHoldings)) × (same ≡ same₀ && allBelow k (λ j. hasWords a (6656 + j * 24) (holdingWords (holdingFrom a (6656 + j * 24)))))
+Inv-loop a whole size delay clock frame same₀ rows slots holdings₀ k₀ same holdings k = (k ≤ 2048) × (holdings ≡ eachBelow k (λ j _. holdingFrom a (6656 + j * 24)) emptyHoldings) × (same ≡ same₀ && allBelow k (λ j. hasWords a (6656 + j * 24) (holdingWords (holdingFrom a (6656 + j * 24)))))
 
 abbrev μ-loop : tie.MeasureT-loop
-μ-loop a whole size delay clock frame same₀ state₀ k₀ same state k = 2048 - k
+μ-loop a whole size delay clock frame same₀ rows slots holdings₀ k₀ same holdings k = 2048 - k
 
 word-requires : tie.Need-word-requires Inv-loop μ-loop
 word-requires c κs = omega arith
@@ -80,7 +80,7 @@ fresh-state-requires c κs = omega arith
 
 loop-holds : tie.Need-loop-holds Inv-loop μ-loop
 unfolding allBelow
-loop-holds c = (omega arith, holdings-still _ _ (fresh-holdings _ _ _ (c .fresh-state .ensures) ∙ each-below-none (λ j _. holdingFrom (c .before .before .before .before .before .before .before .before .before .before .before .before .before .before .args .a .now) (6656 + j * 24)) emptyHoldings), sym (and-true _))
+loop-holds c = (omega arith, fresh-holdings _ _ _ (c .before .fresh-state .ensures) ∙ each-below-none (λ j _. holdingFrom (c .before .before .before .before .before .before .before .before .before .before .before .before .before .before .before .args .a .now) (6656 + j * 24)) emptyHoldings, sym (and-true _))
 
 mul-at : tie.Need-mul-at Inv-loop μ-loop
 mul-at c = omega arith
@@ -98,16 +98,16 @@ slice-aggregate-has-words : tie.Need-slice-aggregate-has-words Inv-loop μ-loop
 slice-aggregate-has-words c = omega arith
 
 has-words-requires : tie.Need-has-words-requires Inv-loop μ-loop
-has-words-requires c κs = omega (arith, c .before .before .before .before .before .before .before .before .before .before .before .before .before .before .before .before .before .before .before .pre)
+has-words-requires c κs = omega (arith, c .before .before .before .before .before .before .before .before .before .before .before .before .before .before .before .before .before .before .before .before .pre)
 
 both-requires-3 : tie.Need-both-requires-3 Inv-loop μ-loop
 both-requires-3 c κs = omega arith
 
-mul-x : tie.Need-mul-x Inv-loop μ-loop
-mul-x c = omega arith
+mul-holdings : tie.Need-mul-holdings Inv-loop μ-loop
+mul-holdings c = omega arith
 
-element-set-from-x : tie.Need-element-set-from-x Inv-loop μ-loop
-element-set-from-x c = omega arith
+array-set-from-holdings : tie.Need-array-set-from-holdings Inv-loop μ-loop
+array-set-from-holdings c = omega arith
 
 add-k : tie.Need-add-k Inv-loop μ-loop
 add-k c = omega arith
@@ -116,20 +116,30 @@ loop-less : tie.Need-loop-less Inv-loop μ-loop
 loop-less c = omega arith
 
 loop-again : tie.Need-loop-again Inv-loop μ-loop
-loop-again c = (
-  omega arith,
-  holdings-next (record { size = c .before .before .before .before .before .before .before .fresh-state .result .size; delay = c .before .before .before .before .before .before .before .fresh-state .result .delay; clock = c .before .before .before .before .before .before .before .before .before .before .before .before .before .before .before .low2 .result; rows = c .before .before .before .before .before .before .before .before .before .before .before .before .before .before .get-rows .result .rows; slots = c .before .before .before .before .before .before .before .before .before .before .before .before .before .get-slots .result .slots; holdings = c .before .before .before .before .before .before .before .fresh-state .result .holdings }) (c .before .before .before .before .before .before .loop .state) _ _ (c .before .before .before .before .before .before .loop .k) _ (c .before .before .before .before .before .before .loop .inv .1) (read-turn (λ j. holdingFrom (c .before .before .before .before .before .before .before .before .before .before .before .before .before .before .before .before .before .before .before .before .before .args .a .now) (6656 + j * 24)) emptyHoldings emptyHolding 2048 empty-holdings-long (c .before .before .before .before .before .before .loop .k) _ _ (omega arith) refl (c .before .before .before .before .get-holding .ensures)),
-  tests-next (λ j. hasWords (c .before .before .before .before .before .before .before .before .before .before .before .before .before .before .before .before .before .before .before .before .before .args .a .now) (6656 + j * 24) (holdingWords (holdingFrom (c .before .before .before .before .before .before .before .before .before .before .before .before .before .before .before .before .before .before .before .before .before .args .a .now) (6656 + j * 24)))) (c .before .before .before .before .before .before .loop .k) (c .before .before .before .before .before .before .before .before .before .before .both2 .result) (c .before .before .before .before .before .before .loop .same) _ _ (c .before .before .before .before .before .before .loop .inv .2)
-      (read-test holdingWords (c .before .before .before .before .before .before .before .before .before .before .before .before .before .before .before .before .before .before .before .before .before .args .a .now) (6656 + c .before .before .before .before .before .before .loop .k * 24) _ (c .before .before .before .before .get-holding .result) _ (c .before .before .before .holding-words .result) (c .before .has-words .ensures) (c .before .before .before .holding-words .ensures) (c .before .before .before .before .get-holding .ensures))
-      (c .both3 .ensures),
-)
+loop-again c = let a = c .before .before .before .before .before .before .before .before .before .before .before .before .before .before .before .before .before .before .before .before .before .before .args .a .now in
+    let w = c .before .before .before .before .before .before .loop in (
+      omega arith,
+      read-turn (λ j. holdingFrom a (6656 + j * 24)) emptyHoldings emptyHolding 2048 empty-holdings-long (w .k) (w .holdings) _ (omega arith) (w .inv .1) (c .before .before .before .before .get-holding .ensures),
+      tests-next (λ j. hasWords a (6656 + j * 24) (holdingWords (holdingFrom a (6656 + j * 24)))) (w .k) (c .before .before .before .before .before .before .before .before .before .before .before .both2 .result) (w .same) _ _ (w .inv .2)
+          (read-test holdingWords a (6656 + w .k * 24) _ (c .before .before .before .before .get-holding .result) _ (c .before .before .before .holding-words .result) (c .before .has-words .ensures) (c .before .before .before .holding-words .ensures) (c .before .before .before .before .get-holding .ensures))
+          (c .both3 .ensures),
+    )
 
 returns : tie.Need-returns Inv-loop μ-loop
 returns c =
-    let e : c .before .loop .k ≡ 2048 = omega arith in
-    let s = c .before .loop .inv .1 ∙ decode-state (c .before .before .before .before .before .before .before .before .before .before .before .before .before .before .before .before .args .a .now) _ (fresh-size _ _ _ (c .before .before .fresh-state .ensures) ∙ c .before .before .before .before .before .before .before .before .before .before .before .before .before .before .word .ensures) (fresh-delay _ _ _ (c .before .before .fresh-state .ensures) ∙ c .before .before .before .before .before .before .before .before .before .before .before .before .low .ensures ∙ ap low (c .before .before .before .before .before .before .before .before .before .before .before .before .before .word2 .ensures)) (c .before .before .before .before .before .before .before .before .before .before .low2 .ensures ∙ ap low (c .before .before .before .before .before .before .before .before .before .before .before .word3 .ensures)) (c .before .before .before .before .before .before .before .before .before .get-rows .ensures .0) (c .before .before .before .before .before .before .before .before .get-slots .ensures .0) (read-all (λ j. holdingFrom (c .before .before .before .before .before .before .before .before .before .before .before .before .before .before .before .before .args .a .now) (6656 + j * 24)) emptyHoldings emptyHolding 2048 empty-holdings-long (c .before .loop .k) _ e refl ∙ all-read (c .before .before .before .before .before .before .before .before .before .before .before .before .before .before .before .before .args .a .now)) in
-    let t = exact-tests (c .before .before .before .before .before .before .before .before .before .before .before .before .before .before .before .before .args .a .now) _ _ _ _ _ _ _ (λ i. omega (arith, c .before .before .before .before .before .before .before .before .before .before .before .before .before .before .before .shared-slice-known .given i)) (omega arith) (framed (c .before .before .before .before .before .before .before .before .before .before .before .before .before .before .before .before .args .a .now) _ _ _ _ (c .before .before .before .before .before .before .before .before .before .before .before .before .before .before .word .ensures) (c .before .before .before .before .before .before .before .before .before .before .before .before .low .ensures ∙ ap low (c .before .before .before .before .before .before .before .before .before .before .before .before .before .word2 .ensures)) (c .before .before .before .before .before .before .before .before .before .before .low2 .ensures ∙ ap low (c .before .before .before .before .before .before .before .before .before .before .before .word3 .ensures)) (c .before .before .before .before .before .before .before .is-frame .ensures)) (c .before .before .before .before .before .before .before .before .before .get-rows .ensures .1) (c .before .before .before .before .before .before .before .before .get-slots .ensures .1) (all-exact (c .before .before .before .before .before .before .before .before .before .before .before .before .before .before .before .before .args .a .now)) (c .before .before .before .before .before .before .both .ensures) (c .before .before .before .before .before .both2 .ensures) (c .before .loop .inv .2 ∙ rw e) in
-    (s, t)
+    let a = c .before .before .before .before .before .before .before .before .before .before .before .before .before .before .before .before .before .args .a .now in
+    let w = c .before .loop in
+    let e : w .k ≡ 2048 = omega arith in
+    let size = c .before .before .before .before .before .before .before .before .before .before .before .before .before .before .before .word .ensures in
+    let delay = c .before .before .before .before .before .before .before .before .before .before .before .before .before .low .ensures ∙ ap low (c .before .before .before .before .before .before .before .before .before .before .before .before .before .before .word2 .ensures) in
+    let clock = c .before .before .before .before .before .before .before .before .before .before .before .low2 .ensures ∙ ap low (c .before .before .before .before .before .before .before .before .before .before .before .before .word3 .ensures) in
+    let rows = c .before .before .before .before .before .before .before .before .before .before .get-rows .ensures in
+    let slots = c .before .before .before .before .before .before .before .before .before .get-slots .ensures in
+    let holdings = read-all (λ j. holdingFrom a (6656 + j * 24)) emptyHoldings emptyHolding 2048 empty-holdings-long (w .k) (w .holdings) e (w .inv .1) ∙ all-read a in
+    let framing = framed a _ _ _ _ size delay clock (c .before .before .before .before .before .before .before .before .is-frame .ensures) in (
+      decode-state a _ size delay clock (rows .0) (slots .0) holdings,
+      exact-tests a _ _ _ _ _ _ _ (λ i. omega (arith, c .before .before .before .before .before .before .before .before .before .before .before .before .before .before .before .before .shared-slice-known .given i)) (omega arith) framing (rows .1) (slots .1) (all-exact a) (c .before .before .before .before .before .before .before .both .ensures) (c .before .before .before .before .before .before .both2 .ensures) (w .inv .2 ∙ rw e),
+    )
 
 pub decode-spec : {M : Type 1} → statement M
 decode-spec =
@@ -156,8 +166,8 @@ decode-spec =
     slice-aggregate-has-words
     has-words-requires
     both-requires-3
-    mul-x
-    element-set-from-x
+    mul-holdings
+    array-set-from-holdings
     add-k
     loop-less
     loop-again

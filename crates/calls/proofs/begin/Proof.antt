@@ -5,7 +5,7 @@ use Rattle.model.proofs.Ranges.{state-ok}
 use Rattle.rules.specs.Refusals.{beginRefusal}
 use Rattle.rules.specs.Calls.{begun}
 use Rattle.calls.proofs.RefusalLaws.{taken}
-use Rattle.calls.proofs.ReplyLaws.{refused-after, kept-after}
+use Rattle.calls.proofs.ReplyLaws.{refused-after, left-after}
 use borrow.Author.Needs.{needs}
 use Rattle.calls.proofs.begin.Statement.{statement}
 use Rattle.calls.proofs.begin.Tie as tie
@@ -19,7 +19,7 @@ unfolding begun
 returns c =
     let b = c .before .before in
     let a = b .before .before .before .before .before .before .before .before in
-    refused-after (a .args .s) (state-ok (a .args .s) _ (a .good .0) .sized) (c .keep-holdings .result) _ _ _ (c .keep-holdings .ensures) (number b) (c .before .if1 .taken)
+    refused-after (a .args .s) (state-ok (a .args .s) _ (a .good .0) .sized) (c .leave-holdings .result) _ _ _ (c .leave-holdings .ensures) (number b) (c .before .if1 .taken)
 
 array-set-from-rows : tie.Need-array-set-from-rows
 array-set-from-rows c = let h = c .before .row-refusal .ensures .1 (c .if1 .left) in omega arith
@@ -29,7 +29,7 @@ unfolding begun
 returns-2 c =
     let b = c .before .before in
     let a = b .before .before .before .before .before .before .before .before in
-    kept-after (a .args .s) (state-ok (a .args .s) _ (a .good .0) .sized) (c .keep-holdings2 .result) _ Begun (c .keep-holdings2 .ensures)
+    left-after (a .args .s) (state-ok (a .args .s) _ (a .good .0) .sized) (c .leave-holdings2 .result) _ Begun (c .leave-holdings2 .ensures)
     ∙ rw (b .before .before .before .before .before .row-of .ensures) (taken _ _ _ _ (number b) (c .before .if1 .left))
 
 pub begin-spec : {M : Type 1} → statement M

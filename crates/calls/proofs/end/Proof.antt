@@ -21,7 +21,7 @@ unfolding ended
 returns c =
     let b = c .before .before .before in
     let a = b .before .before .before .before .before in
-    refused-after (a .args .s) (state-ok (a .args .s) _ (a .good .0) .sized) (c .keep-holdings .result) _ _ _ (c .keep-holdings .ensures) (number b) (c .before .before .if1 .taken)
+    refused-after (a .args .s) (state-ok (a .args .s) _ (a .good .0) .sized) (c .leave-holdings .result) _ _ _ (c .leave-holdings .ensures) (number b) (c .before .before .if1 .taken)
 
 array-write-gone : tie.Need-array-write-gone
 array-write-gone c = let h = c .before .row-refusal .ensures .1 (c .if1 .left) in omega arith

@@ -37,7 +37,7 @@ returns-7 : tie.Need-returns-7
 returns-7 c =
     let b = c .before .before .before .before .before in
     let k = c .before .before .before .before .match .keys7 in
-    same-after (b .args .s) (state-ok (b .args .s) _ (b .good .0) .sized) (c .keep-holdings .result) _ _ (c .keep-holdings .ensures) (c .before .before .before .ask .ensures) (it-reads (b .args .s) (b .args .c) k (b .pre .0) .1)
+    same-after (b .args .s) (state-ok (b .args .s) _ (b .good .0) .sized) (c .leave-holdings .result) _ _ (c .leave-holdings .ensures) (c .before .before .before .ask .ensures) (it-reads (b .args .s) (b .args .c) k (b .pre .0) .1)
 
 pub make-spec : {M : Type 1} → statement M
 make-spec =

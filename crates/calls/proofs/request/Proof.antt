@@ -27,7 +27,7 @@ unfolding requested
 returns c =
     let b = c .before .before in
     let a = b .before .before .before .before .before .before .before .before in
-    refused-after (a .args .s) (state-ok (a .args .s) _ (a .good .0) .sized) (c .keep-holdings .result) _ _ _ (c .keep-holdings .ensures)
+    refused-after (a .args .s) (state-ok (a .args .s) _ (a .good .0) .sized) (c .leave-holdings .result) _ _ _ (c .leave-holdings .ensures)
     (request-first (a .args .s) (a .args .level) (a .args .number) (a .args .page) (a .args .mode) _ (number b) (c .before .if1 .taken)) (c .before .if1 .taken)
 
 is-allowed-requires : tie.Need-is-allowed-requires
@@ -43,7 +43,7 @@ unfolding requested
 returns-2 c =
     let k = c .before .before in
     let a = k .before .before .before .before .before .before .before .before .before .before .before .before in
-    refused-after (a .args .s) (state-ok (a .args .s) _ (a .good .0) .sized) (c .keep-holdings2 .result) _ _ _ (c .keep-holdings2 .ensures) (number-2 k (k .before .before .before .if1 .left)) (c .before .if2 .taken)
+    refused-after (a .args .s) (state-ok (a .args .s) _ (a .good .0) .sized) (c .leave-holdings2 .result) _ _ _ (c .leave-holdings2 .ensures) (number-2 k (k .before .before .before .if1 .left)) (c .before .if2 .taken)
 
 serve-requires : tie.Need-serve-requires
 serve-requires c κs =

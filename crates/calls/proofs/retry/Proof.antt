@@ -19,7 +19,7 @@ unfolding retried
 returns c =
     let b = c .before .before .before in
     let a = b .before .before .before .before .before in
-    refused-after (a .args .s) (state-ok (a .args .s) _ (a .good .0) .sized) (c .keep-holdings .result) _ _ _ (c .keep-holdings .ensures) (number b) (c .before .before .if1 .taken)
+    refused-after (a .args .s) (state-ok (a .args .s) _ (a .good .0) .sized) (c .leave-holdings .result) _ _ _ (c .leave-holdings .ensures) (number b) (c .before .before .if1 .taken)
 
 returns-2 : tie.Need-returns-2
 returns-2 c =

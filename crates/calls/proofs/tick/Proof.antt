@@ -7,7 +7,7 @@ use Rattle.model.proofs.Ranges.{state-ok}
 use Rattle.rules.specs.Refusals.{tickRefusal}
 use Rattle.rules.specs.Calls.{ticked}
 use Rattle.calls.proofs.MarkLaws.{ticked-rows}
-use Rattle.calls.proofs.ReplyLaws.{kept-after, drop-after, rows-killed}
+use Rattle.calls.proofs.ReplyLaws.{left-after, drop-after, rows-killed}
 use borrow.Author.Needs.{needs}
 use Rattle.calls.proofs.tick.Statement.{statement}
 use Rattle.calls.proofs.tick.Tie as tie
@@ -16,7 +16,7 @@ returns : tie.Need-returns
 unfolding ticked tickRefusal
 returns c =
     let a = c .before .before .before .before .before in
-    kept-after (a .args .s) (state-ok (a .args .s) _ (a .good .0) .sized) (c .keep-holdings .result) _ _ (c .keep-holdings .ensures) ∙ simp (tests, c .before .before .if1 .taken)
+    left-after (a .args .s) (state-ok (a .args .s) _ (a .good .0) .sized) (c .leave-holdings .result) _ _ (c .leave-holdings .ensures) ∙ simp (tests, c .before .before .if1 .taken)
 
 returns-2 : tie.Need-returns-2
 unfolding ticked tickRefusal

@@ -5,7 +5,7 @@ use Rattle.model.proofs.Ranges.{state-ok}
 use Rattle.rules.specs.Refusals.{firstToApply}
 use Rattle.rules.specs.Calls.{unpinned}
 use Rattle.calls.proofs.RefusalLaws.{unpinFirst, unpin-first}
-use Rattle.calls.proofs.ReplyLaws.{kept-after, refused-after}
+use Rattle.calls.proofs.ReplyLaws.{left-after, refused-after}
 use Rattle.calls.proofs.UnpinLaws.{unpin-nowhere, unpin-found}
 use Rattle.calls.proofs.SlotLaws.{found-below}
 use borrow.Author.Needs.{needs}
@@ -20,7 +20,7 @@ unfolding unpinned
 returns c =
     let b = c .before .before in
     let a = b .before .before .before .before .before .before .before in
-    refused-after (a .args .s) (state-ok (a .args .s) _ (a .good .0) .sized) (c .keep-holdings .result) _ _ _ (c .keep-holdings .ensures)
+    refused-after (a .args .s) (state-ok (a .args .s) _ (a .good .0) .sized) (c .leave-holdings .result) _ _ _ (c .leave-holdings .ensures)
     (unpin-first (a .args .s) (a .args .level) (a .args .number) (a .args .page) _ (number b) (c .before .if1 .taken)) (c .before .if1 .taken)
 
 returns-2 : tie.Need-returns-2
@@ -29,7 +29,7 @@ returns-2 c =
     let f = c .before .before .before in
     let b = f .before .before in
     let a = b .before .before .before .before .before .before .before in
-    kept-after (a .args .s) (state-ok (a .args .s) _ (a .good .0) .sized) (c .keep-holdings2 .result) _ _ (c .keep-holdings2 .ensures)
+    left-after (a .args .s) (state-ok (a .args .s) _ (a .good .0) .sized) (c .leave-holdings2 .result) _ _ (c .leave-holdings2 .ensures)
     ∙ unpin-nowhere (a .args .s) (a .args .level) (a .args .number) (a .args .page) _ (f .find-page .result) (number b) (f .before .if1 .left) (f .find-page .ensures) (c .before .enum-told .given .1)
 
 unpin-at-requires : tie.Need-unpin-at-requires

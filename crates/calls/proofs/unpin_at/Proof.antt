@@ -2,7 +2,7 @@ use mathlib.Core.Path.{_∙_}
 use Rattle.model.specs.declared.Answer.the-variants.{Unpinned}
 use Rattle.model.specs.Inner.Changed.{outcomeOf}
 use Rattle.model.proofs.Ranges.{state-ok}
-use Rattle.calls.proofs.ReplyLaws.{kept-after}
+use Rattle.calls.proofs.ReplyLaws.{left-after}
 use Rattle.calls.proofs.UnpinLaws.{pin-is, unpin-changed}
 use borrow.Author.Needs.{needs}
 use Rattle.calls.proofs.unpin_at.Statement.{statement}
@@ -24,7 +24,7 @@ returns-2 c =
     let on = b .before .before .holdings-on in
     let a = b .before .before .before .before .before in
     let z = state-ok (a .args .s) _ (a .good .0) .sized in
-    kept-after (a .args .s) z (c .keep-holdings .result) _ _ (c .keep-holdings .ensures)
+    left-after (a .args .s) z (c .leave-holdings .result) _ _ (c .leave-holdings .ensures)
     ∙ rw (pin-is (a .args .s) z (a .args .row) (a .args .slot) (a .pre .0) (a .pre .1) (on .result) (b .is-pin .result) (on .ensures) (b .is-pin .ensures), c .before .if1 .left)
 
 pub unpin-at-spec : {M : Type 1} → statement M

@@ -21,8 +21,8 @@ use Rattle.serve.specs.Inner.SlotHoldings.{seenTest}
 use Rattle.serve.specs.Inner.SlotHoldings.{heldBy}
 
 -- a reply that changes no holding
-unfoldable pub holdingsKept : ℕ → List Row → List Slot → Answer → Reply
-holdingsKept clock rows slots answer = record { change = holdingsDropped clock rows slots (replicate 32 false); answer = answer }
+unfoldable pub holdingsLeft : ℕ → List Row → List Slot → Answer → Reply
+holdingsLeft clock rows slots answer = record { change = holdingsDropped clock rows slots (replicate 32 false); answer = answer }
 
 -- a live row whose deadline the clock has reached
 abbrev pub lateRow : ℕ → Row → Bool

@@ -120,13 +120,14 @@ module _ (s : State) (row page : ℕ) (mode : Mode) (mine : row < 32) (o : Outco
       ∙ rw (eq-eqb row row refl)
 
   -- else fetching until then
-  pub grant-fetch : (due slot : ℕ) (back : Back) → o .answer ≡ Fetch due slot back → (s .clock < due) × (rowAt (o .state) row .condition ≡ Fetching due)
+  pub grant-fetch : (due slot : ℕ) (back : Back) → o .answer ≡ Fetch due slot back → (s .clock < due) × (rowAt (o .state) row .condition ≡ Fetching due) × (slot < 64)
   grant-fetch due slot back e =
       granted-answer (g .before) row (g .slot) mode (g .arrival) (g .back) (Fetch due slot back) (ap (λ (x : Outcome). x .answer) (sym (g .same)) ∙ e)
       (λ q k. true-false (cc))
       (λ q k.
       let d : due ≡ g .arrival = cc in
-      (omega (arith, leb-false (g .arrival) (g .before .clock) q, g .ground .clock), ap (λ (x : Row). x .condition) own-row ∙ rw (q, d)))
+      let t : slot ≡ g .slot = cc in
+      (omega (arith, leb-false (g .arrival) (g .before .clock) q, g .ground .clock), ap (λ (x : Row). x .condition) own-row ∙ rw (q, d), rw t (g .ground .slot-is)))
 
   -- ready, the row idle: it has the page asked for, with the pin asked for or a stronger one
   pub grant-ready : (slot : ℕ) (back : Back) → o .answer ≡ Ready slot back

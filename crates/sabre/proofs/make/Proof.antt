@@ -1,15 +1,17 @@
 use borrow.Author.Needs.{needs}
-use mathlib.Core.Path.{_∙_, sym}
+use mathlib.Core.Path.{_≡_, _∙_}
 use mathlib.Core.Bool.{true, false}
-use Rattle.sabre.proofs.SoundAreas.{short-unsound}
+use Rattle.sabre.specs.Lent.{soundArea}
+use Rattle.sabre.proofs.SoundAreas.{short-unsound, long-sound}
 use Rattle.sabre.proofs.CallLaws.{not-start, unfit-by, sound-state, fits-clock, replied, amended, refused-1}
 use Rattle.sabre.proofs.make.Statement.{statement}
 use Rattle.sabre.proofs.make.Tie as tie
 use Rattle.sabre.proofs.make.Reads as reads
 use Rattle.sabre.proofs.make.Lts as lts
+use Rattle.area.proofs.decode.Reads as decode-reads
 use Rattle.calls.proofs.make.Reads as make-reads
 use Rattle.sabre.proofs.finish.Reads as finish-reads
-use Rattle.sabre.proofs.open.Reads as open-reads
+use Rattle.sabre.proofs.is_area_sound.Reads as is-area-sound-reads
 use Rattle.sabre.proofs.refuse.Reads as refuse-reads
 use Rattle.sabre.proofs.start.Reads as start-reads
 
@@ -35,27 +37,37 @@ returns-2 c =
     let p = refused-1 (c .before .before .before .before .before .args .area .now) (c .before .before .before .before .before .args .c) _ _ u (c .refuse .ensures .0) (c .refuse .ensures .1) in
     (p .returned, (p .told, p .left))
 
-open-requires : tie.Need-open-requires
-open-requires c κs = search needs
+decode-requires : tie.Need-decode-requires
+decode-requires c κs = search needs
+
+is-area-sound-requires : tie.Need-is-area-sound-requires
+is-area-sound-requires c κs = search needs
+
+opened : (w : tie.After-is-area-sound) → soundArea (w .before .before .before .before .before .before .before .args .area .now) ≡ w .is-area-sound .result
+opened w = long-sound (w .before .before .before .before .before .before .before .args .area .now) _ _ (w .before .before .before .before .if1 .left) (w .before .decode .ensures .0) (w .before .decode .ensures .1) _ (w .is-area-sound .ensures)
 
 make-requires : tie.Need-make-requires
-make-requires c κs =
-    let h = sym (c .before .«open» .ensures .1) ∙ c .if2 .taken in
-    let f = fits-clock _ (sound-state (c .before .before .before .before .before .before .before .args .area .now) _ (c .before .«open» .ensures .0) h) in
-    (not-start (c .before .before .before .before .before .before .before .args .c) (c .before .before .before .before .before .match .keys2), f .0, f .1)
+make-requires c κs = let w = c .before in
+    let o = w .before .before .before .before .before .before .before .args in
+    let h = opened w ∙ c .if2 .taken in
+    let f = fits-clock _ (sound-state (o .area .now) _ (w .before .decode .ensures .0) h) in
+    (not-start (o .c) (w .before .before .before .before .before .match .keys2), f .0, f .1)
 
 finish-requires : tie.Need-finish-requires
-finish-requires c κs =
-    replied (c .before .before .before .before .before .before .before .before .before .before .args .area .now) (c .before .before .before .before .before .before .before .before .before .before .args .c) _ (c .before .before .before .before .«open» .ensures .0) _ (sym (c .before .before .before .before .«open» .ensures .1) ∙ c .before .before .before .if2 .taken) (c .before .before .make .ensures)
+finish-requires c κs = let w = c .before .before .before .before in
+    let o = w .before .before .before .before .before .before .before .args in
+    let h = opened w ∙ c .before .before .before .if2 .taken in
+    replied (o .area .now) (o .c) _ (w .before .decode .ensures .0) _ h (c .before .before .make .ensures)
 
 same-length-2 : tie.Need-same-length-2
 same-length-2 c = search needs
 
 returns-3 : tie.Need-returns-3
-returns-3 c =
-    let n = not-start (c .before .before .before .before .before .before .before .before .before .before .before .before .before .args .c) (c .before .before .before .before .before .before .before .before .before .before .before .match .keys2) in
-    let u = unfit-by (c .before .before .before .before .before .before .before .before .before .before .before .before .before .args .area .now) (c .before .before .before .before .before .before .before .before .before .before .before .before .before .args .c) true n (sym (c .before .before .before .before .before .before .before .«open» .ensures .1) ∙ c .before .before .before .before .before .before .if2 .taken) in
-    let p = amended (c .before .before .before .before .before .before .before .before .before .before .before .before .before .args .area .now) (c .before .before .before .before .before .before .before .before .before .before .before .before .before .args .c) _ (c .before .before .before .before .before .before .before .«open» .ensures .0) _ _ _ _ u (c .before .before .before .before .before .make .ensures) (c .before .before .finish .ensures .0) (c .before .before .finish .ensures .1) (c .before .before .finish .ensures .2) in
+returns-3 c = let w = c .before .before .before .before .before .before .before in
+    let o = w .before .before .before .before .before .before .before .args in
+    let h = opened w ∙ c .before .before .before .before .before .before .if2 .taken in
+    let u = unfit-by (o .area .now) (o .c) true (not-start (o .c) (w .before .before .before .before .before .match .keys2)) h in
+    let p = amended (o .area .now) (o .c) _ (w .before .decode .ensures .0) _ _ _ _ u (c .before .before .before .before .before .make .ensures) (c .before .before .finish .ensures .0) (c .before .before .finish .ensures .1) (c .before .before .finish .ensures .2) in
     (p .returned, (p .told, p .left))
 
 refuse-requires-2 : tie.Need-refuse-requires-2
@@ -65,10 +77,11 @@ same-length-3 : tie.Need-same-length-3
 same-length-3 c = search needs
 
 returns-4 : tie.Need-returns-4
-returns-4 c =
-    let n = not-start (c .before .before .before .before .before .before .before .before .before .args .c) (c .before .before .before .before .before .before .before .match .keys2) in
-    let u = unfit-by (c .before .before .before .before .before .before .before .before .before .args .area .now) (c .before .before .before .before .before .before .before .before .before .args .c) false n (sym (c .before .before .before .«open» .ensures .1) ∙ c .before .before .if2 .left) in
-    let p = refused-1 (c .before .before .before .before .before .before .before .before .before .args .area .now) (c .before .before .before .before .before .before .before .before .before .args .c) _ _ u (c .refuse2 .ensures .0) (c .refuse2 .ensures .1) in
+returns-4 c = let w = c .before .before .before in
+    let o = w .before .before .before .before .before .before .before .args in
+    let h = opened w ∙ c .before .before .if2 .left in
+    let u = unfit-by (o .area .now) (o .c) false (not-start (o .c) (w .before .before .before .before .before .match .keys2)) h in
+    let p = refused-1 (o .area .now) (o .c) _ _ u (c .refuse2 .ensures .0) (c .refuse2 .ensures .1) in
     (p .returned, (p .told, p .left))
 
 pub make-spec : {M : Type 1} → statement M
@@ -81,7 +94,8 @@ make-spec =
     returns
     refuse-requires
     returns-2
-    open-requires
+    decode-requires
+    is-area-sound-requires
     make-requires
     finish-requires
     same-length-2

@@ -90,7 +90,7 @@ loop-again c = let s = c .before .before .before .before .before .before .before
     let f : c .before .before .before .loop3 .i ≡ c .before .before .before .before .again .result = omega arith in (
       omega arith,
       all-turn (soundRow s) (o .r) (o .valid) (c .before .is-row-sound .result) (c .both4 .result) (o .inv .1)
-          (c .before .is-row-sound .ensures ∙ row-again s (o .r) (c .before .before .before .before .before .before .before .due-of .result) (v .i) (c .before .before .before .before .again .result) (w .i) (v .quiet) (w .settled) (w .expected) (w .number) e f (c .before .before .before .before .before .before .before .due-of .ensures) (v .inv .1) (c .before .before .before .before .again .ensures .0) (w .inv .1) (w .inv .2) (w .inv .3))
+          (row-again s (o .r) (c .before .before .before .before .before .before .before .due-of .result) (v .i) (c .before .before .before .before .again .result) (w .i) (v .quiet) (w .settled) (w .expected) (w .number) e f (c .before .before .before .before .before .before .before .due-of .ensures) (v .inv .1) (c .before .before .before .before .again .ensures .0) (w .inv .1) (w .inv .2) (w .inv .3) (c .before .is-row-sound .result) (c .before .is-row-sound .ensures))
           (c .both4 .ensures),
     )
 
@@ -112,7 +112,7 @@ loop5-again c = let s = c .before .before .before .before .before .before .befor
     let w = c .before .before .before .before .before .before .loop5 in (
       omega arith,
       all-turn (soundHolding s i) r (w .fit) (c .before .before .is-holding-sound .result) (c .before .both5 .result) (w .inv .1)
-          (c .before .before .is-holding-sound .ensures ∙ ap (λ (n : ℕ). holdingTest (levelOf r) (rowAt s r) (slotAt s i) (holdingAt s i r) n) (c .before .before .before .before .before .before .before .before .latest-arrival .ensures) ∙ holding-test s i r)
+          (holding-test s i r (c .before .before .before .before .before .before .before .before .latest-arrival .result) (c .before .before .is-holding-sound .result) (c .before .before .before .before .before .before .before .before .latest-arrival .ensures) (c .before .before .is-holding-sound .ensures))
           (c .before .both5 .ensures),
       weight-turn (λ row. holdingAt s i row .pin) r (w .weight) (c .pin-weight .result) (w .inv .2) (c .pin-weight .ensures .0),
     )

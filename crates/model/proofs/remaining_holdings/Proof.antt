@@ -10,11 +10,11 @@ use Rattle.model.specs.State.{emptyHolding}
 use Rattle.model.specs.Inner.Changed.{marked}
 use native.Mathlib.Omega.{arith}
 use borrow.Author.Needs.{needs}
-use Rattle.model.proofs.kept_holdings.Statement.{statement}
-use Rattle.model.proofs.kept_holdings.Tie as tie
-use Rattle.model.proofs.kept_holdings.Reads as reads
-use Rattle.model.proofs.kept_holdings.Lts as lts
-use Rattle.model.proofs.kept_holding.Reads as kept-holding-reads
+use Rattle.model.proofs.remaining_holdings.Statement.{statement}
+use Rattle.model.proofs.remaining_holdings.Tie as tie
+use Rattle.model.proofs.remaining_holdings.Reads as reads
+use Rattle.model.proofs.remaining_holdings.Lts as lts
+use Rattle.model.proofs.remaining_holding.Reads as remaining-holding-reads
 
 abbrev keeping : List Bool → ℕ → Holding → Holding
 keeping marks row h = cond (marked marks row) emptyHolding h
@@ -34,11 +34,11 @@ mul-h c = omega arith
 array-copy-out-h : tie.Need-array-copy-out-h Inv-loop μ-loop
 array-copy-out-h c = omega arith
 
-array-read-kept-holding : tie.Need-array-read-kept-holding Inv-loop μ-loop
-array-read-kept-holding c = omega arith
+array-read-remaining-holding : tie.Need-array-read-remaining-holding Inv-loop μ-loop
+array-read-remaining-holding c = omega arith
 
-kept-holding-requires : tie.Need-kept-holding-requires Inv-loop μ-loop
-kept-holding-requires c κs = search needs
+remaining-holding-requires : tie.Need-remaining-holding-requires Inv-loop μ-loop
+remaining-holding-requires c κs = search needs
 
 mul-n : tie.Need-mul-n Inv-loop μ-loop
 mul-n c = omega arith
@@ -56,14 +56,14 @@ loop-again : tie.Need-loop-again Inv-loop μ-loop
 loop-again c =
     let l : length (c .before .before .before .before .args .t1) ≡ 32 = c .before .before .before .before .good .0 .1 .0 .1 in (
       omega arith,
-      rw (c .before .before .before .loop .inv .1, c .kept-holding .ensures) (each-below-more (keeping (c .before .before .before .before .args .t2)) (c .before .before .before .before .args .t1) (c .before .before .before .loop .r) emptyHolding (omega arith)),
+      rw (c .before .before .before .loop .inv .1, c .remaining-holding .ensures) (each-below-more (keeping (c .before .before .before .before .args .t2)) (c .before .before .before .before .args .t1) (c .before .before .before .loop .r) emptyHolding (omega arith)),
     )
 
 returns : tie.Need-returns Inv-loop μ-loop
 returns c = let l : length (c .before .before .args .t1) ≡ 32 = c .before .before .good .0 .1 .0 .1 in c .before .loop .inv .1 ∙ each-below-all (keeping (c .before .before .args .t2)) (c .before .before .args .t1) (c .before .loop .r) emptyHolding (omega arith)
 
-pub kept-holdings-spec : {M : Type 1} → statement M
-kept-holdings-spec =
+pub remaining-holdings-spec : {M : Type 1} → statement M
+remaining-holdings-spec =
     tie.close
     (tie.spec
     Inv-loop
@@ -71,8 +71,8 @@ kept-holdings-spec =
     loop-holds
     mul-h
     array-copy-out-h
-    array-read-kept-holding
-    kept-holding-requires
+    array-read-remaining-holding
+    remaining-holding-requires
     mul-n
     array-set-from-n
     add-r
