@@ -42,8 +42,8 @@ blind L r q e =
     let f = e .first in
     let g = e .second in
     let ks = keptCalls L (r .calls) in
-    let x = beside-kept L most (r .calls) ks refl (startedArea r) (startedArea r) (started-near L most r r f f refl refl) (f .fit) (f .not-again) in
-    let y = beside-kept L most (q .calls) ks (e .same-kept) (startedArea q) (startedArea r) (started-near L most q r g f (sym (e .same-slots)) (sym (e .same-delay))) (g .fit) (g .not-again) in
+    let x = beside-kept L most (r .calls) ks refl (startedArea r) (startedArea r) (started-near L most r r f f refl refl) (f .fit, f .not-again) in
+    let y = beside-kept L most (q .calls) ks (e .same-kept) (startedArea q) (startedArea r) (started-near L most q r g f (sym (e .same-slots)) (sym (e .same-delay))) (g .fit, g .not-again) in
     record {
       answers = x .answers ∙ sym (y .answers);
       delivered = λ level number l _. x .delivered level number l ∙ sym (y .delivered level number l);

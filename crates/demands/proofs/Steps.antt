@@ -6,6 +6,7 @@ use Prim.Native.Nat.{ℕ, zero, suc, _≤_}
 use borrow.Author.Tests.{le-ltb, le-leb}
 use lib.ListN.{length, drop}
 use Rattle.seq.proofs.Tests.{true-false}
+use Rattle.seq.specs.Machine.{lastOf}
 use Rattle.model.specs.declared.Answer.{Answer}
 use Rattle.model.specs.declared.Answer.the-variants.{Started}
 use Rattle.model.specs.declared.Back.{Back}
@@ -165,14 +166,14 @@ start-bytes a slots delay e =
 
 -- every list of calls leaves a sound area sound
 pub run-sound-on : (cs : List Call) (a : List ℕ) → soundArea a ≡ true → AllFit cs → soundArea (areaAfterAll a cs) ≡ true
-unfolding areaAfterAll
+unfolding areaAfterAll lastOf
 run-sound-on [] a z f = z
 run-sound-on (c ∷ cs) a z f = run-sound-on cs (areaAfter a c) (step-on a c z (f .0) .2) (f .1)
 
 -- so every area that a list of calls leaves from an accepted start on, whatever the area held before, is sound
 pub started-sound-on : (a : List ℕ) (slots delay : ℕ) (cs : List Call) → answerOn a (Start slots delay) ≡ Started → AllFit cs
     → soundArea (areaAfterAll a (Start slots delay ∷ cs)) ≡ true
-unfolding areaAfterAll
+unfolding areaAfterAll lastOf
 started-sound-on a slots delay cs e =
     let t = start-only a slots delay e in
     run-sound-on cs (areaAfter a (Start slots delay)) (start-on a slots delay (t .0) (t .1 .slots-least) (t .1 .slots-most) (t .1 .delay-least) (t .1 .delay-most) .2)

@@ -1,11 +1,13 @@
 -- Two areas that a clearance cannot tell apart: a kept call made on both, and any other call made on one, leaves such areas. A run beside the run of its kept calls alone.
 use mathlib.Core.Path.{_≡_, refl, ap}
-use mathlib.Core.Bool.{Bool, true, false, cond, _&&_, not}
-use mathlib.Core.List.{List, [], _∷_}
+use mathlib.Core.Bool.{Bool, true, false, _&&_, not}
+use mathlib.Core.List.{List, _∷_}
 use Prim.Native.Nat.{ℕ, _≤_}
 use native.Mathlib.Omega.{arith}
 use borrow.Author.Tests.{eqb-true, le-leb, not-true}
 use Rattle.seq.proofs.Tests.{and-true, parts, not-true-false}
+use Rattle.seq.specs.Machine.{throughout, noted, only}
+use Rattle.seq.proofs.MachineLaws.{beside-last, beside-noted}
 use Rattle.model.specs.declared.Call.{Call}
 use Rattle.model.specs.declared.Call.the-variants.{Look}
 use Rattle.rules.specs.Answers.{word, isStarted, Told, told}
@@ -69,42 +71,52 @@ module _ (L : ℕ) (most : L ≤ 3) where
         u .0,
       )
 
+  -- what is known of a run that is not started again, and of each of its calls
+  abbrev pub Good : List ℕ → List Call → Type 0
+  Good a cs = AllFit cs × (notStartedAgain a cs ≡ true)
+
+  abbrev Fine : List ℕ → Call → Type 0
+  Fine a c = Fits c × (isStarted (answerOn a c) ≡ false)
+
+  good-first : (a : List ℕ) (c : Call) (cs : List Call) → Good a (c ∷ cs) → Fine a c
+  unfolding notStartedAgain throughout
+  good-first a c cs g = (g .0 .0, not-true (isStarted (answerOn a c)) (and-true (not (isStarted (answerOn a c))) (notStartedAgain (areaAfter a c) cs) (g .1) .0))
+
+  good-rest : (a : List ℕ) (c : Call) (cs : List Call) → Good a (c ∷ cs) → Good (areaAfter a c) cs
+  unfolding notStartedAgain throughout
+  good-rest a c cs g = (g .0 .1, and-true (not (isStarted (answerOn a c))) (notStartedAgain (areaAfter a c) cs) (g .1) .1)
+
+  kept-step : (a b : List ℕ) → Near a b → (c : Call) → Fine a c → isKept L c ≡ true → Near (areaAfter a c) (areaAfter b c)
+  kept-step a b x c f k = near-kept a b x c (f .0) k
+
+  other-step : (a b : List ℕ) → Near a b → (c : Call) → Fine a c → isKept L c ≡ false → Near (areaAfter a c) b
+  other-step a b x c f k = near-other a b x c (f .0) k (f .1)
+
   -- a run beside the run of its kept calls alone
   pub record Beside (a : List ℕ) (cs : List Call) (b : List ℕ) (ks : List Call) : Type 0 where
     pub answers : keptAnswersOn L a cs ≡ keptAnswersOn L b ks
     pub delivered : (level number : ℕ) → level ≤ L → deliveriesOn a cs level number ≡ deliveriesOn b ks level number
     pub areas : Near (areaAfterAll a cs) (areaAfterAll b ks)
 
-  beside : (cs : List Call) (a b : List ℕ) → Near a b → AllFit cs → notStartedAgain a cs ≡ true → Beside a cs b (keptCalls L cs)
-  unfolding keptCalls keptAnswersOn deliveriesOn areaAfterAll notStartedAgain
-  beside [] a b x f n = record { answers = refl; delivered = λ level number l. refl; areas = x }
-  beside (c ∷ cs) a b x f n =
-      let s = and-true (not (isStarted (answerOn a c))) (notStartedAgain (areaAfter a c) cs) n in
-      go (isKept L c) refl (not-true (isStarted (answerOn a c)) (s .0)) (λ d y. beside cs (areaAfter a c) d y (f .1) (s .1))
+  beside : (cs : List Call) (a b : List ℕ) → Near a b → Good a cs → Beside a cs b (keptCalls L cs)
+  unfolding keptCalls keptAnswersOn deliveriesOn areaAfterAll
+  beside cs a b x g = record {
+    answers = same-notes (λ d c. isKept L c) (λ d c. told (answerOn d c)) (λ d e y c f k. refl) (λ d e y c f k. near-told d e y c k) (λ d c k. k);
+    delivered = λ level number l.
+        same-notes (λ d c. isDeliveryOn d c level number) (λ d c. decoded (areaAfter d c) .clock)
+        (λ d e y c f k. near-delivery d e y c k (kept-step d e y c f k) level number l)
+        (λ d e y c f k. near-clock (areaAfter d c) (areaAfter e c) (kept-step d e y c f k))
+        (λ d c k. unkept-delivery d c k level number l);
+    areas = beside-last areaAfter (isKept L) Good Fine Near good-first good-rest kept-step other-step cs a b x g;
+  }
     where
-      go : (k : Bool) → isKept L c ≡ k → isStarted (answerOn a c) ≡ false
-          → ((d : List ℕ) → Near (areaAfter a c) d → Beside (areaAfter a c) cs d (keptCalls L cs))
-          → Beside a (c ∷ cs) b (cond (isKept L c) (c ∷ keptCalls L cs) (keptCalls L cs))
-      go true k s h =
-          let y = near-kept a b x c (f .0) k in
-          let r = h (areaAfter b c) y in
-          let w = near-told a b x c k in
-          let u = near-clock (areaAfter a c) (areaAfter b c) y in
-          rw k (record {
-            answers = rw k (λ i. w i ∷ r .answers i);
-            delivered = λ level number l.
-                let d = near-delivery a b x c k y level number l in
-                λ i. cond (d i) (u i ∷ r .delivered level number l i) (r .delivered level number l i);
-            areas = r .areas;
-          })
-      go false k s h =
-          let r = h b (near-other a b x c (f .0) k s) in
-          rw k (record {
-            answers = rw k (r .answers);
-            delivered = λ level number l. rw (unkept-delivery a c k level number l) (r .delivered level number l);
-            areas = r .areas;
-          })
+      same-notes : {E : Type 0} (mark : List ℕ → Call → Bool) (entry : List ℕ → Call → E)
+          → ((d e : List ℕ) → Near d e → (c : Call) → Fine d c → isKept L c ≡ true → mark d c ≡ mark e c)
+          → ((d e : List ℕ) → Near d e → (c : Call) → Fine d c → isKept L c ≡ true → entry d c ≡ entry e c)
+          → ((d : List ℕ) (c : Call) → isKept L c ≡ false → mark d c ≡ false)
+          → noted areaAfter mark entry a cs ≡ noted areaAfter mark entry b (only (isKept L) cs)
+      same-notes mark entry m e n = beside-noted areaAfter (isKept L) Good Fine Near good-first good-rest kept-step other-step mark entry m e n cs a b x g
 
   -- so two runs with the same kept calls are compared by one run of those
-  pub beside-kept : (cs ks : List Call) → ks ≡ keptCalls L cs → (a b : List ℕ) → Near a b → AllFit cs → notStartedAgain a cs ≡ true → Beside a cs b ks
-  beside-kept cs ks e a b x f n = rw e (beside cs a b x f n)
+  pub beside-kept : (cs ks : List Call) → ks ≡ keptCalls L cs → (a b : List ℕ) → Near a b → Good a cs → Beside a cs b ks
+  beside-kept cs ks e a b x g = rw e (beside cs a b x g)

@@ -1,8 +1,9 @@
 -- Demand 3 and document 01, "Two runs side by side", over lent areas: each call gets the area as the one before left it.
 use mathlib.Core.Path.{_≡_}
-use mathlib.Core.Bool.{Bool, true, cond, _&&_, _||_, not}
+use mathlib.Core.Bool.{Bool, true, _&&_, _||_, not}
 use mathlib.Core.List.{List, [], _∷_}
 use Prim.Native.Nat.{ℕ, _≤_}
+use Rattle.seq.specs.Machine.{lastOf, throughout, noted}
 use Rattle.model.specs.declared.Answer.the-variants.{Started}
 use Rattle.model.specs.declared.Call.{Call}
 use Rattle.model.specs.declared.Call.the-variants.{Start, Look}
@@ -19,20 +20,15 @@ AllFit (c ∷ cs) = Fits c × AllFit cs
 
 -- the area that a list of calls leaves
 unfoldable pub areaAfterAll : List ℕ → List Call → List ℕ
-areaAfterAll a [] = a
-areaAfterAll a (c ∷ cs) = areaAfterAll (areaAfter a c) cs
+areaAfterAll a cs = lastOf areaAfter a cs
 
 -- not started again: no call of the list is answered started, so that each start in it is refused
 unfoldable pub notStartedAgain : List ℕ → List Call → Bool
-notStartedAgain a [] = true
-notStartedAgain a (c ∷ cs) = not (isStarted (answerOn a c)) && notStartedAgain (areaAfter a c) cs
+notStartedAgain a cs = throughout areaAfter (λ b c. not (isStarted (answerOn b c))) a cs
 
 -- what the kept calls are answered
 unfoldable pub keptAnswersOn : ℕ → List ℕ → List Call → List Told
-keptAnswersOn L a [] = []
-keptAnswersOn L a (c ∷ cs) =
-    let rest = keptAnswersOn L (areaAfter a c) cs in
-    cond (isKept L c) (told (answerOn a c) ∷ rest) rest
+keptAnswersOn L a cs = noted areaAfter (λ b c. isKept L c) (λ b c. told (answerOn b c)) a cs
 
 -- a row's delivery is a ready answer to its request or retry,
 -- or a tick over which a look at the row turns from fetch or wait to idle
@@ -48,10 +44,7 @@ isDeliveryOn a c level number = readyOn a c level number || turnsIdleOn a c leve
 -- the ticks of one row's deliveries, each the clock after that call. A call delivers to the row once or not at all and adds one tick or none,
 -- in the order of the calls: lists are equal where the row has as many deliveries in both runs, the first at the same tick, the second, and so on.
 unfoldable pub deliveriesOn : List ℕ → List Call → ℕ → ℕ → List ℕ
-deliveriesOn a [] level number = []
-deliveriesOn a (c ∷ cs) level number =
-    let rest = deliveriesOn (areaAfter a c) cs level number in
-    cond (isDeliveryOn a c level number) (decoded (areaAfter a c) .clock ∷ rest) rest
+deliveriesOn a cs level number = noted areaAfter (λ b c. isDeliveryOn b c level number) (λ b c. decoded (areaAfter b c) .clock) a cs
 
 -- a run: a start of an area, whatever the area held before, and a list of calls after it
 pub record Run : Type 0 where

@@ -1,7 +1,8 @@
 -- Document 01, "Two runs side by side", and demand 3: which calls of a run are kept for a clearance, and which are questions that it may ask afterwards.
-use mathlib.Core.Bool.{Bool, cond, _&&_, _||_}
-use mathlib.Core.List.{List, [], _∷_}
+use mathlib.Core.Bool.{Bool, _&&_, _||_}
+use mathlib.Core.List.{List}
 use Prim.Native.Nat.{ℕ}
+use Rattle.seq.specs.Machine.{only}
 use Rattle.model.specs.declared.Call.{Call}
 use Rattle.rules.specs.Content.{isTick, isReading, isMadeUpTo}
 
@@ -10,8 +11,7 @@ unfoldable pub isKept : ℕ → Call → Bool
 isKept L c = isTick c || isMadeUpTo L c
 
 unfoldable pub keptCalls : ℕ → List Call → List Call
-keptCalls L [] = []
-keptCalls L (c ∷ cs) = cond (isKept L c) (c ∷ keptCalls L cs) (keptCalls L cs)
+keptCalls L cs = only (isKept L) cs
 
 -- a look, view or count made at L or below
 unfoldable pub isQuestion : ℕ → Call → Bool

@@ -7,3 +7,4 @@ pub mod PairLaws
 pub mod BuildLaws
 pub mod EachLaws
 pub mod ValueLaws
+pub mod MachineLaws

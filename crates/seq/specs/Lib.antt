@@ -1,3 +1,4 @@
 pub mod Below
 pub mod Each
 pub mod Order
+pub mod Machine
