@@ -69,7 +69,7 @@ enum sabre_word {
     SABRE_CLOCK = 8,     /* tick */
     SABRE_NONE = 9,      /* look: the row is free */
     SABRE_IDLE = 10,     /* look */
-    SABRE_LATE = 11,     /* look: killed, its deadline has come */
+    SABRE_LATE = 11,     /* look: killed, its deadline has passed */
     SABRE_TAKEN = 12,    /* look: killed, another row needed its page or slot */
     SABRE_UNSEEN = 13,   /* view */
     SABRE_ACTIVE = 14,   /* view: held, and no pin is seen */
@@ -93,7 +93,7 @@ enum sabre_refusal {
     SABRE_REFUSAL_FREE = 9,         /* the row is free */
     SABRE_REFUSAL_KILLED = 10,      /* the row is killed */
     SABRE_REFUSAL_BUSY = 11,        /* the row is fetching or waiting */
-    SABRE_REFUSAL_PAST = 12,        /* the deadline is not above the clock */
+    SABRE_REFUSAL_PAST = 12,        /* the deadline is below the clock */
     SABRE_REFUSAL_READ_ABOVE = 13,  /* the page's class is above the level */
     SABRE_REFUSAL_WRITE_BELOW = 14, /* the page's class is below the level */
     SABRE_REFUSAL_NOT_PINNED = 15,  /* the row does not pin the page */
@@ -121,7 +121,8 @@ uint32_t sabre_start(uint8_t *area, size_t len, uint32_t slots, uint32_t delay, 
  * Begins a transaction in a free row.
  * level     0 (issue desk) to 3 (look-back room)
  * row       0 to 7, a row of that level
- * deadline  a tick above the clock; the row is killed as late when the clock is there
+ * deadline  at or above the clock; the row may finish at it, and the tick that takes the clock
+ *           above it kills the row as late
  * Answers begun. Refusals 1, 4, 5, 8, 12.
  */
 uint32_t sabre_begin(uint8_t *area, size_t len, uint32_t level, uint32_t row, uint32_t deadline, uint64_t answer[4]);
@@ -164,7 +165,7 @@ uint32_t sabre_end(uint8_t *area, size_t len, uint32_t level, uint32_t row, uint
 
 /*
  * The clock goes on by one; then fetching rows that are due become idle; then live rows
- * whose deadline has come are killed as late. The server's own call. A page counts as
+ * whose deadline is below the clock are killed as late. The server's own call. A page counts as
  * arrived at its arrival tick: tick on to there only once it has been read from disk.
  * Answers clock, the value is the new clock. Refusals 1, 17.
  */

@@ -1,9 +1,10 @@
-//! Session S, M1 to M11 and the examples of refusals 1 to 17 of document 01, call by call.
+//! Session S, M1 to M11 and the examples of refusals 1 to 17 of documents 01 and 02 (T-01), call by
+//! call.
 
 use crate::calls::*;
 use crate::compare::check;
 use crate::lent::Lent;
-use crate::model::{self, State, Tally};
+use crate::model::{self, Condition, Row, State, Tally};
 
 /// A call and the player's line for it; without a bar, no slot and no page to write back.
 type Step = (Call, &'static str);
@@ -105,6 +106,8 @@ fn cases() -> Vec<Case> {
                 (begin(0, 0, 1), "begun 0"),
                 (look(0, 0), "idle 0"),
                 (TICK, "clock 1"),
+                (look(0, 0), "idle 0"),
+                (TICK, "clock 2"),
                 (look(0, 0), "late 0"),
             ],
         ),
@@ -227,6 +230,7 @@ fn cases() -> Vec<Case> {
             "refusals 4 to 7",
             vec![
                 (start(1, 1), "started 0"),
+                (TICK, "clock 1"),
                 (begin(4, 8, 0), "refused 4"),
                 (begin(3, 8, 0), "refused 5"),
                 (Call::Request { level: 4, row: 8, page: 4096, mode: 2 }, "refused 4"),
@@ -245,6 +249,7 @@ fn cases() -> Vec<Case> {
                 (start(1, 1), "started 0"),
                 (begin(0, 0, 5), "begun 0"),
                 (begin(0, 0, 5), "refused 8"),
+                (TICK, "clock 1"),
                 (begin(0, 0, 0), "refused 8"),
             ],
         ),
@@ -264,6 +269,7 @@ fn cases() -> Vec<Case> {
                 (start(1, 1), "started 0"),
                 (begin(0, 0, 1), "begun 0"),
                 (TICK, "clock 1"),
+                (TICK, "clock 2"),
                 (read(0, 0, 7), "refused 10"),
                 (unpin(0, 0, 7), "refused 10"),
                 (retry(0, 0), "refused 10"),
@@ -284,7 +290,15 @@ fn cases() -> Vec<Case> {
         ),
         case(
             "refusal 12",
-            vec![(start(1, 1), "started 0"), (begin(0, 0, 0), "refused 12"), (begin(0, 0, 1), "begun 0")],
+            vec![
+                (start(1, 1), "started 0"),
+                (begin(0, 0, 0), "begun 0"),
+                (TICK, "clock 1"),
+                (begin(0, 1, 0), "refused 12"),
+                (begin(0, 1, 1), "begun 0"),
+                (look(0, 0), "late 0"),
+                (look(0, 1), "idle 0"),
+            ],
         ),
         case(
             "refusal 13",
@@ -326,7 +340,8 @@ fn cases() -> Vec<Case> {
                 (read(0, 0, 7), "fetch 4000000001 | 0 -"),
                 (TICK, "refused 17"),
                 (look(0, 0), "fetch 4000000001"),
-                (begin(0, 1, 4_000_000_000), "refused 12"),
+                (begin(0, 1, 3_999_999_999), "refused 12"),
+                (begin(0, 1, 4_000_000_000), "begun 0"),
             ],
         },
         // Points that the readings settle.
@@ -343,12 +358,46 @@ fn cases() -> Vec<Case> {
             "due and late on one tick leaves the page dirty",
             vec![
                 (start(1, 1), "started 0"),
-                (begin(0, 0, 1), "begun 0"),
+                (begin(0, 0, 0), "begun 0"),
                 (write(0, 0, 7), "fetch 1 | 0 -"),
                 (TICK, "clock 1"),
                 (look(0, 0), "late 0"),
                 (begin(0, 1, 9), "begun 0"),
                 (read(0, 1, 8), "fetch 2 | 0 7"),
+            ],
+        ),
+        case(
+            "a fetch due at its row's deadline is delivered, and the row is late one tick on",
+            vec![
+                (start(1, 1), "started 0"),
+                (begin(0, 0, 1), "begun 0"),
+                (write(0, 0, 7), "fetch 1 | 0 -"),
+                (TICK, "clock 1"),
+                (look(0, 0), "idle 0"),
+                (view(0, 7), "write 1"),
+                (unpin(0, 0, 7), "unpinned 0"),
+                (TICK, "clock 2"),
+                (look(0, 0), "late 0"),
+                (view(0, 7), "unseen 0"),
+                (view(3, 7), "dormant 1"),
+            ],
+        ),
+        case(
+            "fetching and waiting rows are live at their deadlines",
+            vec![
+                (start(1, 2), "started 0"),
+                (begin(0, 0, 1), "begun 0"),
+                (begin(0, 1, 2), "begun 0"),
+                (read(0, 0, 7), "fetch 2 | 0 -"),
+                (read(0, 1, 8), "wait 0"),
+                (TICK, "clock 1"),
+                (look(0, 0), "fetch 2"),
+                (TICK, "clock 2"),
+                (look(0, 0), "late 0"),
+                (look(0, 1), "wait 0"),
+                (retry(0, 1), "fetch 4 | 0 -"),
+                (TICK, "clock 3"),
+                (look(0, 1), "late 0"),
             ],
         ),
         case(
@@ -417,7 +466,22 @@ pub fn play_cases(manager: &Manager) -> Result<(), String> {
         }
         made += 1;
     }
-    println!("  {made} calls as document 01 says");
+    // An area is sound with a live row's deadline at the clock, and not below it.
+    for (deadline, expected) in [(4, Outcome::refused(1)), (5, Outcome::said(IDLE, 0))] {
+        let mut state = State::fresh(1, 1);
+        state.clock = 5;
+        state.rows.insert((0, 0), Row { condition: Condition::Idle, deadline });
+        let mut lent = Lent::new(0, SIZE, 0xEE);
+        lent.area().copy_from_slice(&state.bytes());
+        let fault = |text: String| format!("cases: deadline {deadline} at clock 5: {text}");
+        let got = model::call(&mut state.bytes(), &look(0, 0), &mut Tally::default());
+        if got != expected {
+            return Err(fault(format!("model: {}", got.line())));
+        }
+        check(manager, &mut lent, &state.bytes(), &look(0, 0), &expected).map_err(fault)?;
+        made += 1;
+    }
+    println!("  {made} calls as documents 01 and 02 (T-01) say");
     Ok(())
 }
 
@@ -425,7 +489,7 @@ pub fn play_cases(manager: &Manager) -> Result<(), String> {
 mod tests {
     use super::*;
 
-    /// The model alone, on states, against the lines of document 01.
+    /// The model alone, on states, against the lines of the documents.
     fn play_model(name: &str) {
         let case = cases().into_iter().find(|case| case.name == name).unwrap();
         let mut state = State::fresh(1, 1);
@@ -479,6 +543,8 @@ mod tests {
         readings:
             "a look answered fetch names no slot",
             "due and late on one tick leaves the page dirty",
+            "a fetch due at its row's deadline is delivered, and the row is late one tick on",
+            "fetching and waiting rows are live at their deadlines",
             "an end while fetching leaves a dormant page that arrives later, and a clean one",
             "a row's own unpinned slot can be taken";
     }

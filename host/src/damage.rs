@@ -219,7 +219,7 @@ fn damage(random: &mut Random, bytes: &mut [u8], state: &State) {
                 set_word(bytes, at + 16, random.below(3));
             }
             if random.percent(30) {
-                let deadline = state.clock + random.below(3);
+                let deadline = (state.clock + random.below(3)).saturating_sub(1);
                 set_word(bytes, at + 24, deadline);
             }
         }

@@ -1,5 +1,5 @@
-//! A model of document 01, written from its text with maps and lists. It is meant to be read
-//! beside the document, not to be fast.
+//! A model of documents 01 and 02 (T-01), written from their text with maps and lists. It is meant
+//! to be read beside the documents, not to be fast.
 
 use crate::calls::*;
 use std::collections::{BTreeMap, BTreeSet};
@@ -86,6 +86,11 @@ fn conflict(one: Pin, other: Pin) -> bool {
     one != Pin::None && other != Pin::None && (one == Pin::Write || other == Pin::Write)
 }
 
+/// A deadline is missed when it has passed: the clock is above it.
+fn missed(deadline: u64, clock: u64) -> bool {
+    clock > deadline
+}
+
 fn pin_of(mode: Mode) -> Pin {
     match mode {
         Mode::Read => Pin::Read,
@@ -131,8 +136,10 @@ impl Tally {
     }
 }
 
-/// Everything that the model notes of requests and kills. A good random run has them all.
+/// Everything that the model notes of begins, requests, kills and ticks. A good random run has them
+/// all.
 pub const EVENTS: &[&str] = &[
+    "begin: the deadline is the clock",
     "step 1: ready",
     "step 1: fetch",
     "step 1: wait",
@@ -181,6 +188,8 @@ pub const EVENTS: &[&str] = &[
     "killed waiting",
     "killed with several holdings",
     "tick: due and late at once",
+    "tick: a row is live at its deadline",
+    "tick: due at the deadline and delivered",
     "an unarrived write pin goes",
     "retry: ready",
     "retry: fetch",
@@ -289,7 +298,7 @@ impl State {
             }
         }
         if let Call::Begin { deadline, .. } = *call {
-            refuse(12, u64::from(deadline) <= self.clock);
+            refuse(12, missed(deadline.into(), self.clock));
         }
         if let Call::Request { level, page, mode, .. } = *call {
             let (level, page) = (u64::from(level), u64::from(page));
@@ -322,6 +331,9 @@ impl State {
                 Outcome::said(STARTED, 0)
             }
             Call::Begin { level, row, deadline } => {
+                if u64::from(deadline) == self.clock {
+                    tally.note("begin: the deadline is the clock");
+                }
                 let row = self.rows.get_mut(&id(level, row)).unwrap();
                 *row = Row { condition: Condition::Idle, deadline: deadline.into() };
                 Outcome::said(BEGUN, 0)
@@ -379,7 +391,7 @@ impl State {
         let late: Vec<RowId> = self
             .rows
             .iter()
-            .filter(|(_, row)| row.live() && row.deadline <= clock)
+            .filter(|(_, row)| row.live() && missed(row.deadline, clock))
             .map(|(id, _)| *id)
             .collect();
         for id in late {
@@ -387,6 +399,14 @@ impl State {
                 tally.note("tick: due and late at once");
             }
             self.kill(id, Cause::Late, tally);
+        }
+        for (id, row) in &self.rows {
+            if row.live() && row.deadline == clock {
+                tally.note("tick: a row is live at its deadline");
+                if arrived.contains(id) {
+                    tally.note("tick: due at the deadline and delivered");
+                }
+            }
         }
         Outcome::said(CLOCK, clock)
     }
@@ -864,7 +884,7 @@ pub const TOUCH_MOST: &str = "a holding's touch at most its slot's";
 pub const SLOT_TOUCH: &str = "a slot's touch at most the clock";
 pub const HOLDER_LEVEL: &str = "a holder's level at least the slot's lowest";
 pub const SLOT_ARRIVAL: &str = "a slot's arrival at most clock + delay";
-pub const DEADLINE: &str = "live rows' deadlines above the clock";
+pub const DEADLINE: &str = "live rows' deadlines at or above the clock";
 pub const FETCH_DUE: &str = "a fetching row's due tick above the clock";
 pub const FETCH_PIN: &str = "a fetching row pins a page that arrives when due";
 pub const FETCH_OTHERS: &str = "a fetching row's other holdings have arrived";
@@ -1092,7 +1112,7 @@ impl State {
         }
         for (id, row) in &self.rows {
             if row.live() {
-                need(DEADLINE, row.deadline > self.clock);
+                need(DEADLINE, !missed(row.deadline, self.clock));
             }
             let held = self.held_by(*id);
             let ahead = held.iter().filter(|(_, holding)| holding.arrival > self.clock).count();

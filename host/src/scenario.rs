@@ -113,10 +113,10 @@ impl Scenario {
 
     fn deadline(&self, random: &mut Random, clock: u64) -> u64 {
         let deadline = match random.below(20) {
-            0 => clock.saturating_sub(random.below(3)),
+            0 => clock.saturating_sub(random.between(1, 3)),
             1..=7 => (clock / self.span + 1) * self.span + self.span / 2,
             8 => u64::from(u32::MAX) - random.below(4),
-            _ => clock + 1 + random.below(self.span),
+            _ => clock + random.below(self.span),
         };
         deadline.min(u32::MAX.into())
     }
@@ -377,7 +377,7 @@ pub fn made_up(random: &mut Random) -> State {
         let deadline = if random.one_in(20) {
             u64::from(u32::MAX) - random.below(3)
         } else {
-            clock + 1 + random.below(span)
+            clock + random.below(span)
         };
         let mut row = Row { condition: Condition::Idle, deadline };
         match random.below(if most_live { 30 } else { 60 }) {

@@ -179,7 +179,7 @@ pub fn more_states() -> Vec<(&'static str, State)> {
     }
     let mut last = full;
     for row in last.rows.values_mut() {
-        row.deadline = last.clock + 1;
+        row.deadline = last.clock;
     }
     let list = vec![("full, three dormant", dormant), ("full, all late next", last)];
     for (name, state) in &list {

@@ -8,7 +8,9 @@ use borrow.Author.Tests.{ltb-true, ltb-false, le-ltb, lt-ltb, not-false}
 use lib.Dec.{ltb}
 use lib.ListN.{length}
 use Rattle.seq.proofs.Tests.{true-false, not-true-false, cond-same}
-use Rattle.model.specs.declared.Answer.the-variants.{Refused}
+use Rattle.model.specs.declared.Answer.the-variants.{Refused, RowFetching}
+use Rattle.model.specs.declared.Condition.{Condition}
+use Rattle.model.specs.declared.Condition.the-variants.{Free, Idle, Fetching, Waiting, Killed}
 use Rattle.model.specs.Parties.{rowOf}
 use Rattle.model.specs.State.{rowAt}
 use Rattle.rules.specs.Answers.{word}
@@ -107,3 +109,11 @@ look-named a level number e =
     go : (n : ℕ) → isRefused (unless n (decoded a) (record { state = decoded a; answer = looked (rowAt (decoded a) (rowOf level number) .condition) }) .answer) ≡ false → n ≡ 0
     go zero k = refl
     go (suc n) k = true-false k
+
+-- a look that tells fetch was made at a fetching row
+pub looked-fetching : (c : Condition) (due : ℕ) → looked c ≡ RowFetching due → c ≡ Fetching due
+looked-fetching Free due h = cc
+looked-fetching Idle due h = cc
+looked-fetching (Fetching d) due h = let m : d ≡ due = cc in rw m
+looked-fetching (Waiting page mode) due h = cc
+looked-fetching (Killed cause) due h = cc

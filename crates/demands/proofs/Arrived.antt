@@ -31,7 +31,7 @@ use Rattle.rules.proofs.Promises.MayUse as Uses
 use Rattle.area.specs.Layout.{decoded}
 use Rattle.sabre.specs.Lent.{answerOn, isRefused, areaAfter, soundArea}
 use Rattle.demands.specs.Runs.{readyOn, turnsIdleOn, isDeliveryOn}
-use Rattle.demands.proofs.Areas.{accepted-sound, sound-answer, look-answer, look-named}
+use Rattle.demands.proofs.Areas.{accepted-sound, sound-answer, look-answer, look-named, looked-fetching}
 use Rattle.demands.proofs.Refusals.{reading-leaves}
 use Rattle.demands.proofs.Steps.{other-sound, step-on}
 use Rattle.sabre.proofs.SoundAreas.{sound-area}
@@ -135,17 +135,10 @@ tick-due a level number due e k =
     let l = m .level-is in
     let n = m .number-is in
     let x = step-on a Tick z (omega arith) in
-    let p = fetching (rowAt (decoded a) (rowOf level number) .condition) (sym (look-answer a level number z l n) ∙ e) in
+    let p = looked-fetching (rowAt (decoded a) (rowOf level number) .condition) due (sym (look-answer a level number z l n) ∙ e) in
     let q = idle (rowAt (decoded (areaAfter a Tick)) (rowOf level number) .condition) (sym (look-answer (areaAfter a Tick) level number (x .2) l n) ∙ k) in
     rw (x .1) (States.tick-arrived (decoded a) (sound-area a z .sound-state) (rowOf level number) due (m .row-is) p (rw (x .1) at q) .0)
   where
-    fetching : (c : Condition) → looked c ≡ RowFetching due → c ≡ Fetching due
-    fetching Free h = cc
-    fetching Idle h = cc
-    fetching (Fetching d) h = let m : d ≡ due = cc in rw m
-    fetching (Waiting page mode) h = cc
-    fetching (Killed cause) h = cc
-
     idle : (c : Condition) → looked c ≡ RowIdle → c ≡ Idle
     idle Free h = cc
     idle Idle h = refl

@@ -1,22 +1,32 @@
--- A deadline is an unsigned 32-bit number: no sentence of sound says so, but the bytes of a sound area are exactly those of the state that it names.
-use mathlib.Core.Path.{_≡_, sym, _∙_, ap}
+-- Deadlines over lent areas. A deadline is an unsigned 32-bit number: no sentence of sound says so, but the bytes of a sound area are exactly those of the state that it names.
+-- Document 02, T-01: a tick makes a live row late exactly when the clock is above its deadline.
+use mathlib.Core.Path.{_≡_, refl, sym, _∙_, ap}
 use mathlib.Core.Bool.{true}
 use mathlib.Core.List.{List, _++_, append-assoc}
-use Prim.Native.Nat.{ℕ, _+_, _^_, _<_}
-use lib.Dec.{lit<}
+use Prim.Native.Nat.{ℕ, _+_, _^_, _<_, _≤_}
+use native.Mathlib.Omega.{arith}
+use lib.Dec.{ltb, lit<}
 use lib.ListN.{length, drop, length-append}
 use Rattle.words.specs.Bytes.{wordBytes, zeroWords}
 use Rattle.words.proofs.JoinLaws.{piece-word}
+use Rattle.model.specs.declared.Answer.the-variants.{RowIdle, RowFetching, Clock}
+use Rattle.model.specs.declared.Call.the-variants.{Tick, Look}
 use Rattle.model.specs.declared.State.{State}
+use Rattle.model.specs.Parties.{rowOf}
 use Rattle.model.specs.State.{rowAt}
+use Rattle.model.specs.Words.{isLive}
 use Rattle.model.proofs.Ranges.{StateOk}
+use Rattle.rules.specs.Answers.{word, isToldLate}
 use Rattle.rules.proofs.Promises.Widths.{sound-ok}
+use Rattle.rules.proofs.Promises.Deadlines as States
 use Rattle.area.specs.Layout.{headerWords, rowWords, encoded, decoded}
 use Rattle.area.proofs.Elements.{header-wide, row-wide, row-small, decoded-deadline}
 use Rattle.area.proofs.Pieces.{rowsBytes, slotsBytes, holdingsBytes, zeros-long}
 use Rattle.demands.specs.SlotWords.{deadlineWord}
-use Rattle.sabre.specs.Lent.{soundArea}
+use Rattle.sabre.specs.Lent.{answerOn, areaAfter, soundArea}
 use Rattle.sabre.proofs.SoundAreas.{sound-area, sound-area-bytes}
+use Rattle.demands.proofs.Areas.{accepted-sound, look-answer, look-named, looked-fetching}
+use Rattle.demands.proofs.Steps.{step-on}
 
 -- the third of six regions and what stands behind it
 third : (x₀ x₁ x₂ x₃ x₄ x₅ r : List ℕ) → (x₀ ++ (x₁ ++ (x₂ ++ (x₃ ++ (x₄ ++ x₅))))) ++ r ≡ (x₀ ++ x₁) ++ (x₂ ++ (x₃ ++ (x₄ ++ (x₅ ++ r))))
@@ -33,10 +43,43 @@ deadline-there s ok r row b =
     (h ++ zeroWords 59) (slotsBytes s ++ (holdingsBytes s ++ (zeroWords 1216 ++ r))) 512 32 row 3 e b (lit< tt)
 
 -- the deadline word of each row of a sound area
-pub deadline-fits : (a : List ℕ) → soundArea a ≡ true → (row : ℕ) → row < 32 → deadlineWord a row < 2 ^ 32
-deadline-fits a z row b =
+deadline-named : (a : List ℕ) → soundArea a ≡ true → (row : ℕ) → row < 32 → deadlineWord a row ≡ rowAt (decoded a) row .deadline
+deadline-named a z row b =
     let s = decoded a in
     let ok = sound-ok s (sound-area a z .sound-state) (decoded-deadline a) in
-    let w : deadlineWord a row ≡ rowAt s row .deadline =
-    ap (λ (x : List ℕ). deadlineWord x row) (sym (sound-area-bytes a z)) ∙ deadline-there s ok (drop 65536 a) row b in
-    rw w (decoded-deadline a row)
+    ap (λ (x : List ℕ). deadlineWord x row) (sym (sound-area-bytes a z)) ∙ deadline-there s ok (drop 65536 a) row b
+
+pub deadline-fits : (a : List ℕ) → soundArea a ≡ true → (row : ℕ) → row < 32 → deadlineWord a row < 2 ^ 32
+deadline-fits a z row b = rw (deadline-named a z row b) (decoded-deadline a row)
+
+-- a live row of a sound area has a deadline at or above the clock
+pub deadline-ahead : (a : List ℕ) → soundArea a ≡ true → (row : ℕ) → row < 32 → isLive (rowAt (decoded a) row .condition) ≡ true → decoded a .clock ≤ deadlineWord a row
+deadline-ahead a z row b l = rw (deadline-named a z row b) (States.deadline-ahead (decoded a) (sound-area a z .sound-state) row b l)
+
+-- after an accepted tick a row that was live is told to be late exactly where the clock that the tick tells is above its deadline
+pub late-exactly : (a : List ℕ) (clock : ℕ) → answerOn a Tick ≡ Clock clock → (level number : ℕ) → level ≤ 3 → number ≤ 7
+    → isLive (rowAt (decoded a) (rowOf level number) .condition) ≡ true
+    → isToldLate (answerOn (areaAfter a Tick) (Look level number)) ≡ ltb (deadlineWord a (rowOf level number)) clock
+unfolding word
+late-exactly a clock e level number l n live =
+    let z = accepted-sound a Tick refl (rw e) in
+    let x = step-on a Tick z (omega arith) in
+    let b : rowOf level number < 32 = omega arith in
+    rw (look-answer (areaAfter a Tick) level number (x .2) l n, x .1, deadline-named a z (rowOf level number) b)
+    (States.late-exactly (decoded a) (sound-area a z .sound-state) clock (sym (x .0) ∙ e) (rowOf level number) b live)
+
+-- a fetch that is due by the clock that a tick tells is delivered where that clock is not above the row's deadline
+pub due-delivered : (a : List ℕ) (clock : ℕ) → answerOn a Tick ≡ Clock clock → (level number due : ℕ) → answerOn a (Look level number) ≡ RowFetching due
+    → due ≤ clock → clock ≤ deadlineWord a (rowOf level number) → answerOn (areaAfter a Tick) (Look level number) ≡ RowIdle
+unfolding word
+due-delivered a clock e level number due f d l =
+    let z = accepted-sound a Tick refl (rw e) in
+    let x = step-on a Tick z (omega arith) in
+    let m = look-named a level number (rw f) in
+    let b = m .row-is in
+    let p = looked-fetching (rowAt (decoded a) (rowOf level number) .condition) due (sym (look-answer a level number z (m .level-is) (m .number-is)) ∙ f) in
+    rw (
+      look-answer (areaAfter a Tick) level number (x .2) (m .level-is) (m .number-is),
+      x .1,
+      States.due-delivered (decoded a) (sound-area a z .sound-state) clock (sym (x .0) ∙ e) (rowOf level number) due b p d (rw (deadline-named a z (rowOf level number) b) at l),
+    )

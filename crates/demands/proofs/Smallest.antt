@@ -193,7 +193,7 @@ gives a (Start slots delay) =
 gives a (Begin level number deadline) =
     let c = Begin level number deadline in
     let x = conditionAt (decoded a) level number in
-    first-row a c _ _ (λ _ i. firstToApply ((4, ltb 3 level) ∷ (5, ltb 7 number) ∷ (8, not (condition-same x .0 i)) ∷ (12, leb deadline (decoded a .clock)) ∷ []))
+    first-row a c _ _ (λ _ i. firstToApply ((4, ltb 3 level) ∷ (5, ltb 7 number) ∷ (8, not (condition-same x .0 i)) ∷ (12, ltb deadline (decoded a .clock)) ∷ []))
     (numbered (unfit a c) (beginRefusal (decoded a) level number deadline) (decoded a) _ (λ _. refl))
 gives a (Request level number page mode) =
     let c = Request level number page mode in

@@ -1,5 +1,5 @@
--- Document 01, "Refusals": its table row by row, over lent areas. Refusal 18 is the player's.
--- What it says of a row's condition, a pin and a class is said here anew, and not by the words of the definitions that it judges.
+-- Document 01, "Refusals": its table row by row, row 12 as T-01 of document 02 has it, over lent areas. Refusal 18 is the player's.
+-- What it says of a row's condition, a deadline, a pin and a class is said here anew, and not by the words of the definitions that it judges.
 use mathlib.Core.Bool.{Bool, true, false, _&&_, _||_, not}
 use mathlib.Core.List.{List, [], _∷_}
 use Prim.Native.Nat.{ℕ, _/_}
@@ -80,7 +80,7 @@ refusals a c =
     ∷ (9, (isRequest c || isUnpin c || isEnd c || isRetry c) && free condition)
     ∷ (10, (isRequest c || isUnpin c || isRetry c) && killed condition)
     ∷ (11, (isRequest c || isUnpin c) && fetchingOrWaiting condition)
-    ∷ (12, isBegin c && leb (x .deadline) (s .clock))
+    ∷ (12, isBegin c && ltb (x .deadline) (s .clock))
     ∷ (13, isRequest c && eqb (x .mode) 0 && ltb (x .level) class)
     ∷ (14, isRequest c && eqb (x .mode) 1 && ltb class (x .level))
     ∷ (15, isUnpin c && not (pinned s (rowNamed c) (x .page)))

@@ -1,4 +1,4 @@
--- Document 01, "The parties": rows, classes, the access rule, priority.
+-- Document 01, "The parties": rows, classes, the access rule, priority; T-01 of document 02, when a deadline has passed.
 use mathlib.Core.Bool.{Bool, cond}
 use Prim.Native.Nat.{ℕ, _+_, _*_, _/_, _%_}
 use lib.Dec.{leb, ltb, eqb}
@@ -42,9 +42,9 @@ mayAccess level page mode = allowed level (classOf page) mode
 abbrev pub lastClock : ℕ
 lastClock = 4000000000
 
--- a deadline that the clock has reached
+-- a deadline is missed when it has passed: the clock is above it
 abbrev pub isPast : ℕ → ℕ → Bool
-isPast clock deadline = leb deadline clock
+isPast clock deadline = ltb deadline clock
 
 -- a row's rank is what priority compares: level, then deadline, then row number
 abbrev pub rankOf : ℕ → ℕ → Rank

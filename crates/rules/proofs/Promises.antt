@@ -10,3 +10,4 @@ pub mod Drops
 pub mod Booking
 pub mod LetsGo
 pub mod Widths
+pub mod Deadlines

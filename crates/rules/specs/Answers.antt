@@ -81,7 +81,7 @@ value (PageWrite arrival) = arrival
 value (PageDormant arrival) = arrival
 value (Open count) = count
 
--- answers by their words: started; ready; fetch or wait; a look's idle
+-- answers by their words: started; ready; fetch or wait; a look's idle; a look's late
 abbrev pub isStarted : Answer → Bool
 isStarted a = eqb (word a) 1
 
@@ -93,6 +93,9 @@ isPending a = eqb (word a) 4 || eqb (word a) 5
 
 abbrev pub isIdle : Answer → Bool
 isIdle a = eqb (word a) 10
+
+abbrev pub isToldLate : Answer → Bool
+isToldLate a = eqb (word a) 11
 
 -- the answers that say that a page may be used: ready, and a look's idle
 unfoldable pub mayUse : Answer → Bool

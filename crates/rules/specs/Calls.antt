@@ -1,4 +1,4 @@
--- Document 01, "The calls": the answer and the next state of each call.
+-- Document 01, "The calls": the answer and the next state of each call, a tick's late rows as T-01 of document 02 has them.
 use mathlib.Core.Bool.{Bool, true, false, cond, _&&_, not}
 use Prim.Native.Nat.{ℕ, zero, suc, _+_, min}
 use lib.Dec.{leb, eqb}
@@ -96,7 +96,7 @@ ended s level number =
     unless (endRefusal s level number) s
     (record { state = putRow (released (eqb (rowOf level number)) s) (rowOf level number) freeRow; answer = Ended })
 
--- tick: clock + 1; then fetching rows with due ≤ clock become idle; then live rows with deadline ≤ clock are killed as late
+-- tick: clock + 1; then fetching rows with due ≤ clock become idle; then live rows with deadline < clock are killed as late
 abbrev pub delivered : ℕ → Condition → Condition
 delivered clock Free = Free
 delivered clock Idle = Idle

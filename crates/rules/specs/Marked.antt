@@ -1,5 +1,5 @@
--- Document 01, "The player", session S, and "Marked for the table", M1 to M11: each call with the line it must have.
--- Seven further runs, read off document 01's steps, have what M1 to M11 leave open: the order within steps b, c and d, e and f, and the other words.
+-- Document 01, "The player", session S, and "Marked for the table", M1 to M11, M5 as T-01 of document 02 has it: each call with the line it must have.
+-- Eight further runs, read off the documents' steps, have what M1 to M11 leave open: a deadline at the clock, the order within steps b, c and d, e and f, and the other words.
 use mathlib.Core.List.{List, [], _∷_, map}
 use Prim.Native.Nat.{ℕ, _+_}
 use Rattle.model.specs.State.{fresh}
@@ -135,9 +135,17 @@ m3 = Start 1 1 gives started! ∷ Begin 1 0 100 gives begun! ∷ Request 1 0 204
 abbrev pub m4 : List Played
 m4 = Start 1 1 gives started! ∷ Begin 1 0 100 gives begun! ∷ Request 1 0 1023 1 gives refused! 14 ∷ Request 1 0 4095 1 gives fetch! 1 0 ∷ []
 
--- M5 deadline 1 begun at clock 0 is late after one tick
+-- M5 deadline 1 begun at clock 0 is idle after one tick and late after two
 abbrev pub m5 : List Played
-m5 = Start 1 1 gives started! ∷ Begin 0 0 1 gives begun! ∷ Look 0 0 gives idle! ∷ Tick gives clock! 1 ∷ Look 0 0 gives late! ∷ []
+m5 =
+    Start 1 1 gives started!
+    ∷ Begin 0 0 1 gives begun!
+    ∷ Look 0 0 gives idle!
+    ∷ Tick gives clock! 1
+    ∷ Look 0 0 gives idle!
+    ∷ Tick gives clock! 2
+    ∷ Look 0 0 gives late!
+    ∷ []
 
 -- M6 one slot, equal deadlines at level 0: row 2 pins 7, row 3 waits for 8; the other way round row 3 is taken
 abbrev pub m6 : List Played
@@ -213,6 +221,23 @@ m11 =
     ∷ Request 0 0 7 0 gives fetch! 2 1
     ∷ Look 2 0 gives taken!
     ∷ View 1 1024 gives active! 1
+    ∷ []
+
+-- begin accepts a deadline equal to the clock, and refuses one below it by 12 (0 at clock 1); a fetch due at its row's deadline is delivered
+abbrev pub deadline-at-clock : List Played
+deadline-at-clock =
+    Start 1 1 gives started!
+    ∷ Begin 0 0 0 gives begun!
+    ∷ Begin 0 1 1 gives begun!
+    ∷ Request 0 1 7 0 gives fetch! 1 0
+    ∷ Tick gives clock! 1
+    ∷ Look 0 0 gives late!
+    ∷ Look 0 1 gives idle!
+    ∷ Begin 0 2 0 gives refused! 12
+    ∷ Begin 0 2 1 gives begun!
+    ∷ Tick gives clock! 2
+    ∷ Look 0 1 gives late!
+    ∷ Look 0 2 gives late!
     ∷ []
 
 -- step b, lowest level first: 7, held by level 0, goes before 1,024, held by level 1, though 7 is dirty, touched later and in the higher slot
@@ -350,6 +375,7 @@ table =
     ∷ m9
     ∷ m10
     ∷ m11
+    ∷ deadline-at-clock
     ∷ b-lowest-level
     ∷ b-clean-first
     ∷ b-least-touch

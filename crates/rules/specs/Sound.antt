@@ -1,4 +1,4 @@
--- Document 01, "State": what sound means. Its sentences stand beside the tests of the whole state, a slot, a row and a holding.
+-- Document 01, "State": what sound means, a live row's deadline as T-01 of document 02 has it. Its sentences stand beside the tests of the whole state, a slot, a row and a holding.
 use mathlib.Core.Bool.{Bool, true, cond, _&&_, _||_, not}
 use Prim.Native.Nat.{ℕ, _+_}
 use lib.Dec.{leb, ltb, eqb}
@@ -59,7 +59,11 @@ samePage s slot other =
 unfoldable pub soundPages : State → Bool
 soundPages s = allBelow 64 (λ slot. allBelow slot (λ other. not (samePage s slot other)))
 
--- a row: a free or killed one is zero but for its mark; a live row's deadline is above the clock;
+-- the deadline is at or above the clock
+abbrev pub inTime : State → ℕ → Bool
+inTime s deadline = not (isPast (s .clock) deadline)
+
+-- a row: a free or killed one is zero but for its mark; a live row's deadline is at or above the clock;
 -- a fetching row pins one page whose arrival is its due tick, above the clock, and its other holdings have arrived;
 -- all holdings of an idle or waiting row have arrived; a waiting row's mode is allowed for its page.
 -- A deadline is any number that its word names: that it is an unsigned 32-bit number is tested by no sentence here,
@@ -68,13 +72,13 @@ abbrev pub soundCondition : State → ℕ → Condition → ℕ → Bool
 soundCondition s row Free deadline = eqb deadline 0
 soundCondition s row (Killed cause) deadline = eqb deadline 0
 soundCondition s row Idle deadline =
-    not (isPast (s .clock) deadline) && allBelow 64 (λ slot. arrived s slot row)
+    inTime s deadline && allBelow 64 (λ slot. arrived s slot row)
 soundCondition s row (Fetching due) deadline =
-    not (isPast (s .clock) deadline) && ltb (s .clock) due
+    inTime s deadline && ltb (s .clock) due
     && eqb (countBelow 64 (awaits s row due)) 1
     && allBelow 64 (λ slot. arrived s slot row || awaits s row due slot)
 soundCondition s row (Waiting page mode) deadline =
-    not (isPast (s .clock) deadline) && allBelow 64 (λ slot. arrived s slot row)
+    inTime s deadline && allBelow 64 (λ slot. arrived s slot row)
     && leb page 4095 && mayAccess (levelOf row) page mode
 
 unfoldable pub soundRow : State → ℕ → Bool

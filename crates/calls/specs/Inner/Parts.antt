@@ -24,7 +24,7 @@ use Rattle.serve.specs.Inner.SlotHoldings.{heldBy}
 unfoldable pub holdingsLeft : ℕ → List Row → List Slot → Answer → Reply
 holdingsLeft clock rows slots answer = record { change = holdingsDropped clock rows slots (replicate 32 false); answer = answer }
 
--- a live row whose deadline the clock has reached
+-- a live row whose deadline has passed
 abbrev pub lateRow : ℕ → Row → Bool
 lateRow clock x = isLive (x .condition) && isPast clock (x .deadline)
 

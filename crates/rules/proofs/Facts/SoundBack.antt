@@ -3,26 +3,23 @@ use mathlib.Core.Path.{_≡_, refl, sym}
 use mathlib.Core.Bool.{Bool, true, false, _&&_, _||_, not}
 use Prim.Native.Nat.{ℕ, _+_, _<_, _≤_}
 use native.Mathlib.Omega.{arith}
-use borrow.Author.Tests.{lt-ltb, le-leb, eq-eqb, lt-leb}
+use borrow.Author.Tests.{lt-ltb, le-leb, eq-eqb}
 use lib.Dec.{leb, ltb}
 use lib.ListN.{length}
 use Rattle.seq.specs.Below.{allBelow, countBelow}
-use Rattle.seq.proofs.Tests.{and-true, both-true, not-true-false, or-true-right}
+use Rattle.seq.proofs.Tests.{false-not, and-true, both-true, not-true-false, or-true-right}
 use Rattle.seq.proofs.BelowLaws.{each-all, one-count, each-pairs}
 use Rattle.model.specs.declared.Condition.{Condition}
 use Rattle.model.specs.declared.Condition.the-variants.{Free, Idle, Fetching, Waiting, Killed}
 use Rattle.model.specs.declared.Content.{Content}
 use Rattle.model.specs.declared.Content.the-variants.{Empty, Filled}
 use Rattle.model.specs.declared.State.{State}
-use Rattle.model.specs.Parties.{levelOf, lastClock, isPast}
+use Rattle.model.specs.Parties.{levelOf, lastClock}
 use Rattle.model.specs.State.{rowAt, slotAt, holdingAt}
 use Rattle.model.specs.Words.{isFilled, pageIn, arrivalIn, lowestIn, hasPage, holds, conflict}
 use Rattle.model.proofs.ContentLaws.{page-has}
-use Rattle.rules.specs.Sound.{soundNumbers, arrived, awaits, soundContent, soundSlot, samePage, soundPages, soundCondition, soundRow, soundHolding, soundPins, sound}
+use Rattle.rules.specs.Sound.{soundNumbers, arrived, awaits, soundContent, soundSlot, samePage, soundPages, inTime, soundCondition, soundRow, soundHolding, soundPins, sound}
 use Rattle.rules.proofs.Facts.SoundFacts.{SlotSound, Settled, RowSound, Sound}
-
-false-not : (b : Bool) → b ≡ false → not b ≡ true
-false-not b e = rw e
 
 slot-back : (s : State) (i : ℕ) → SlotSound s i → soundSlot s i ≡ true
 unfolding soundSlot
@@ -59,10 +56,9 @@ arrived-back s i r h = go (holds s i r) refl
     go true e = rw e (le-leb (holdingAt s i r .arrival) (s .clock) (h e))
     go false e = rw e
 
-settled-back : (s : State) (r d : ℕ) → Settled s r d → not (isPast (s .clock) d) && allBelow 64 (λ slot. arrived s slot r) ≡ true
+settled-back : (s : State) (r d : ℕ) → Settled s r d → inTime s d && allBelow 64 (λ slot. arrived s slot r) ≡ true
 settled-back s r d h =
-    both-true (false-not (isPast (s .clock) d) (lt-leb d (s .clock) (h .deadline)))
-    (each-all (λ slot. arrived s slot r) 64 (λ i b. arrived-back s i r (h .arrived i b)))
+    both-true (h .deadline) (each-all (λ slot. arrived s slot r) 64 (λ i b. arrived-back s i r (h .arrived i b)))
 
 row-back : (s : State) (r : ℕ) (c : Condition) (d : ℕ) → RowSound s r c d → soundCondition s r c d ≡ true
 row-back s r Free d h = eq-eqb d 0 h
@@ -70,7 +66,7 @@ row-back s r (Killed cause) d h = eq-eqb d 0 h
 row-back s r Idle d h = settled-back s r d h
 row-back s r (Fetching due) d h =
     both-true (both-true (both-true
-    (false-not (isPast (s .clock) d) (lt-leb d (s .clock) (h .deadline)))
+    (h .deadline)
     (lt-ltb (s .clock) due (h .due)))
     (eq-eqb (countBelow 64 (awaits s r due)) 1 (one-count (awaits s r due) 64 (h .one))))
     (each-all (λ slot. arrived s slot r || awaits s r due slot) 64 (λ i b. go i b (awaits s r due i) refl))

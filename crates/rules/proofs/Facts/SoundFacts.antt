@@ -4,7 +4,7 @@ use mathlib.Core.Bool.{Bool, true, false, _&&_, _||_, not}
 use Prim.Native.Nat.{ℕ, _+_, _<_, _≤_}
 use native.Mathlib.Omega.{arith}
 use native.Mathlib.Decide.{ℕ-discrete}
-use borrow.Author.Tests.{ltb-true, leb-true, eqb-true, leb-false, not-true}
+use borrow.Author.Tests.{ltb-true, leb-true, eqb-true, not-true}
 use lib.Dec.{ltb, eqb}
 use lib.ListN.{length}
 use Rattle.seq.specs.Below.{allBelow, countBelow}
@@ -18,13 +18,13 @@ use Rattle.model.specs.declared.Pin.{Pin}
 use Rattle.model.specs.declared.Pin.the-variants.{Absent, Unpinned, Read, Write}
 use Rattle.model.specs.declared.Holding.{Holding}
 use Rattle.model.specs.declared.State.{State}
-use Rattle.model.specs.Parties.{levelOf, mayAccess, lastClock, isPast}
+use Rattle.model.specs.Parties.{levelOf, mayAccess, lastClock}
 use Rattle.model.specs.State.{emptyHolding, rowAt, slotAt, holdingAt}
 use Rattle.model.specs.Words.{isLive, isFilled, pageIn, arrivalIn, lowestIn, hasPage, isHeld, holds, conflict}
 use Rattle.model.proofs.StateLaws.{Sized}
 use Rattle.model.proofs.ContentLaws.{has-page}
 use Rattle.model.proofs.PinLaws.{conflict-comm}
-use Rattle.rules.specs.Sound.{soundNumbers, pinAllowed, arrived, awaits, soundContent, soundSlot, samePage, soundPages, soundCondition, soundRow, soundHolding, soundPins, sound}
+use Rattle.rules.specs.Sound.{soundNumbers, pinAllowed, arrived, awaits, soundContent, soundSlot, samePage, soundPages, inTime, soundCondition, soundRow, soundHolding, soundPins, sound}
 
 -- a slot
 pub record SlotSound (s : State) (slot : ℕ) : Type 0 where
@@ -37,11 +37,11 @@ pub record SlotSound (s : State) (slot : ℕ) : Type 0 where
 
 -- a row in each condition
 pub record Settled (s : State) (row d : ℕ) : Type 0 where
-  pub deadline : s .clock < d
+  pub deadline : inTime s d ≡ true
   pub arrived : (slot : ℕ) → slot < 64 → holds s slot row ≡ true → holdingAt s slot row .arrival ≤ s .clock
 
 pub record Awaiting (s : State) (row tick d : ℕ) : Type 0 where
-  pub deadline : s .clock < d
+  pub deadline : inTime s d ≡ true
   pub due : s .clock < tick
   pub one : One (awaits s row tick) 64
   pub others : (slot : ℕ) → slot < 64 → holds s slot row ≡ true → awaits s row tick slot ≡ false → holdingAt s slot row .arrival ≤ s .clock
@@ -129,11 +129,11 @@ row-facts : (s : State) (r : ℕ) (c : Condition) (d : ℕ) → soundCondition s
 row-facts s r Free d e = eqb-true d 0 e
 row-facts s r (Killed cause) d e = eqb-true d 0 e
 row-facts s r Idle d e = record {
-  deadline = leb-false d (s .clock) (not-true (isPast (s .clock) d) (search parts depth 20));
+  deadline = search parts depth 20;
   arrived = λ i b. arrived-fact s i r (all-each (λ slot. arrived s slot r) 64 i (search parts depth 20) b);
 }
 row-facts s r (Fetching due) d e = record {
-  deadline = leb-false d (s .clock) (not-true (isPast (s .clock) d) (search parts depth 20));
+  deadline = search parts depth 20;
   due = ltb-true (s .clock) due (search parts depth 20);
   one = count-one (awaits s r due) 64 (eqb-true (countBelow 64 (awaits s r due)) 1 (search parts depth 20));
   others = λ i b h w. last i h w (arrived s i r) refl (all-each (λ slot. arrived s slot r || awaits s r due slot) 64 i (search parts depth 20) b);
@@ -144,7 +144,7 @@ row-facts s r (Fetching due) d e = record {
     last i h w false q k = true-false (sym (rw (q, w) at k))
 row-facts s r (Waiting page mode) d e = (
   record {
-    deadline = leb-false d (s .clock) (not-true (isPast (s .clock) d) (search parts depth 20));
+    deadline = search parts depth 20;
     arrived = λ i b. arrived-fact s i r (all-each (λ slot. arrived s slot r) 64 i (search parts depth 20) b);
   },
   leb-true page 4095 (search parts depth 20),

@@ -85,7 +85,7 @@ start-taken slots delay e =
 pub record BeginTaken (s : State) (level number deadline : ℕ) : Type 0 where
   pub names : Named level number
   pub free : conditionAt s level number ≡ Free
-  pub later : s .clock < deadline
+  pub in-time : isPast (s .clock) deadline ≡ false
 
 pub begin-taken : (s : State) (level number deadline : ℕ) → beginRefusal s level number deadline ≡ 0 → BeginTaken s level number deadline
 unfolding beginRefusal
@@ -95,7 +95,7 @@ begin-taken s level number deadline e =
     record {
       names = named level number (n .0) (n .1 .0);
       free = is-free (conditionAt s level number) (not-false (isFree (conditionAt s level number)) (n .1 .1 .0));
-      later = leb-false deadline (s .clock) (n .1 .1 .1 .0);
+      in-time = n .1 .1 .1 .0;
     }
 
 pub record RequestTaken (s : State) (level number page mode : ℕ) : Type 0 where

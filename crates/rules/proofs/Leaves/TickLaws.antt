@@ -7,18 +7,32 @@ use lib.Dec.{leb}
 use Rattle.seq.proofs.Tests.{true-false}
 use Rattle.seq.proofs.EachLaws.{each-at, each-length}
 use Rattle.model.specs.declared.Cause.the-variants.{Late}
-use Rattle.model.specs.declared.Condition.the-variants.{Idle, Fetching}
+use Rattle.model.specs.declared.Condition.{Condition}
+use Rattle.model.specs.declared.Condition.the-variants.{Free, Idle, Fetching, Waiting, Killed}
 use Rattle.model.specs.declared.Row.{Row}
 use Rattle.model.specs.declared.State.{State}
 use Rattle.model.specs.State.{freeRow, emptyHolding, rowAt, slotAt, holdingAt}
+use Rattle.model.specs.Words.{isLive}
 use Rattle.model.specs.Changes.{dirtied, killedRow, wroteSlot}
 use Rattle.model.proofs.StateLaws.{Sized}
 use Rattle.model.proofs.ChangeLaws.{killed-row, killed-slot, killed-holding, killed-clock}
-use Rattle.rules.specs.Calls.{deliveredRow, deliveredRows, isLate, lateKilled, advanced}
+use Rattle.rules.specs.Calls.{delivered, deliveredRow, deliveredRows, isLate, lateKilled, advanced}
 
 -- the clock and the rows before the late ones are killed
 abbrev pub later : State → State
 later s = deliveredRows (advanced s)
+
+-- a delivered row is live as before
+pub delivered-live : (clock : ℕ) (x : Condition) → isLive (delivered clock x) ≡ isLive x
+delivered-live clock Free = refl
+delivered-live clock Idle = refl
+delivered-live clock (Waiting page mode) = refl
+delivered-live clock (Killed cause) = refl
+delivered-live clock (Fetching due) = go (leb due clock)
+  where
+    go : (b : Bool) → isLive (cond b Idle (Fetching due)) ≡ true
+    go true = refl
+    go false = refl
 
 module _ (s : State) (z : Sized s) where
   pub sized-later : Sized (later s)

@@ -1,17 +1,17 @@
 -- A call that changes one row's condition, or takes the pin of one of its holdings, leaves a sound state sound: begin, a wait, unpin.
 use mathlib.Core.Path.{_≡_, refl, sym, ap}
-use mathlib.Core.Bool.{true}
+use mathlib.Core.Bool.{true, false}
 use Prim.Native.Nat.{ℕ, _<_, _≤_}
 use native.Mathlib.Omega.{arith}
 use native.Mathlib.Decide.{ℕ-discrete}
-use Rattle.seq.proofs.Tests.{true-false}
+use Rattle.seq.proofs.Tests.{true-false, false-not}
 use Rattle.model.specs.declared.Mode.{Mode}
 use Rattle.model.specs.declared.Condition.the-variants.{Free, Idle, Waiting}
 use Rattle.model.specs.declared.Row.{Row}
 use Rattle.model.specs.declared.Slot.{Slot}
 use Rattle.model.specs.declared.Holding.{Holding}
 use Rattle.model.specs.declared.State.{State}
-use Rattle.model.specs.Parties.{levelOf, mayAccess}
+use Rattle.model.specs.Parties.{levelOf, mayAccess, isPast}
 use Rattle.model.specs.State.{rowAt, slotAt, holdingAt, putRow, putSlot, putHolding}
 use Rattle.model.specs.Words.{isLive, holds}
 use Rattle.model.specs.Changes.{written}
@@ -47,12 +47,12 @@ put-row-sound s row x b h live own others =
     ])
 
 -- begin: a free row has no holdings
-pub begun-sound : (s : State) (row deadline : ℕ) → row < 32 → Sound s → rowAt s row .condition ≡ Free → s .clock < deadline
+pub begun-sound : (s : State) (row deadline : ℕ) → row < 32 → Sound s → rowAt s row .condition ≡ Free → isPast (s .clock) deadline ≡ false
     → Sound (putRow s row (record { condition = Idle; deadline = deadline }))
-begun-sound s row deadline b h free late =
+begun-sound s row deadline b h free e =
     put-row-sound s row (record { condition = Idle; deadline = deadline }) b (base s h) refl
     (record {
-      deadline = late;
+      deadline = false-not (isPast (s .clock) deadline) e;
       arrived = λ i g w. true-false (sym (rw free at (h .held i row g b w .live)));
     })
     (λ r g _. h .row r g)

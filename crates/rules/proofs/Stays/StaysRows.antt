@@ -11,7 +11,7 @@ use Rattle.model.specs.declared.Holding.{Holding}
 use Rattle.model.specs.declared.State.{State}
 use Rattle.model.specs.State.{rowAt, holdingAt}
 use Rattle.model.specs.Words.{isPin, pins}
-use Rattle.rules.specs.Sound.{awaits}
+use Rattle.rules.specs.Sound.{awaits, inTime}
 use Rattle.rules.proofs.Facts.SoundFacts.{Settled, Awaiting, RowSound}
 use Rattle.rules.proofs.Stays.StaysBase.{HoldingStays, same, gone, loose, still-held}
 
@@ -23,7 +23,7 @@ unpinned-stays h k (loose v e) w = rw e
 
 module _ (s t : State) (r : ℕ) (old : (i : ℕ) → i < 64 → HoldingStays (holdingAt s i r) (holdingAt t i r)) where
   -- the holdings have arrived
-  pub settled-stays : (d d′ : ℕ) → s .clock ≤ t .clock → t .clock < d′ → Settled s r d → Settled t r d′
+  pub settled-stays : (d d′ : ℕ) → s .clock ≤ t .clock → inTime t d′ ≡ true → Settled s r d → Settled t r d′
   settled-stays d d′ c b h = record {
     deadline = b;
     arrived = λ i a w.
@@ -40,7 +40,7 @@ module _ (s t : State) (r : ℕ) (old : (i : ℕ) → i < 64 → HoldingStays (h
         go true e = rw (pinned i a e)
         go false e = rw (e, unpinned-stays (holdingAt s i r) (holdingAt t i r) (old i a) e)
 
-    pub awaiting-stays : (due d : ℕ) → s .clock ≤ t .clock → t .clock < d → t .clock < due → Awaiting s r due d → Awaiting t r due d
+    pub awaiting-stays : (due d : ℕ) → s .clock ≤ t .clock → inTime t d ≡ true → t .clock < due → Awaiting s r due d → Awaiting t r due d
     awaiting-stays due d c b u h = record {
       deadline = b;
       due = u;
@@ -53,9 +53,9 @@ module _ (s t : State) (r : ℕ) (old : (i : ℕ) → i < 64 → HoldingStays (h
     pub condition-stays : t .clock ≡ s .clock → (x : Condition) (d : ℕ) → RowSound s r x d → RowSound t r x d
     condition-stays c Free d h = h
     condition-stays c (Killed cause) d h = h
-    condition-stays c Idle d h = settled-stays d d (omega arith) (omega (arith, h .deadline)) h
-    condition-stays c (Fetching due) d h = awaiting-stays due d (omega arith) (omega (arith, h .deadline)) (omega (arith, h .due)) h
-    condition-stays c (Waiting page mode) d h = (settled-stays d d (omega arith) (omega (arith, h .0 .deadline)) (h .0), h .1, h .2)
+    condition-stays c Idle d h = settled-stays d d (omega arith) (rw c (h .deadline)) h
+    condition-stays c (Fetching due) d h = awaiting-stays due d (omega arith) (rw c (h .deadline)) (omega (arith, h .due)) h
+    condition-stays c (Waiting page mode) d h = (settled-stays d d (omega arith) (rw c (h .0 .deadline)) (h .0), h .1, h .2)
 
     pub row-stays : t .clock ≡ s .clock → rowAt t r ≡ rowAt s r → RowSound s r (rowAt s r .condition) (rowAt s r .deadline) → RowSound t r (rowAt t r .condition) (rowAt t r .deadline)
     row-stays c e h = rw e (condition-stays c (rowAt s r .condition) (rowAt s r .deadline) h)

@@ -27,7 +27,7 @@ stays-facts s c h = go (outcome s c) (effect s c)
     go : (o : Outcome) → Effect s c o → Sound (o .state)
     go o (unchanged a q e) = rw e h
     go o (starts slots delay q t e) = rw e (fresh-facts slots delay (t .slots-least) (t .slots-most) (t .delay-least) (t .delay-most))
-    go o (begins level number deadline q t e) = rw e (begun-sound s (rowOf level number) deadline (t .names .row-is) h (t .free) (t .later))
+    go o (begins level number deadline q t e) = rw e (begun-sound s (rowOf level number) deadline (t .names .row-is) h (t .free) (t .in-time))
     go o (unpins level number page slot q t f p e) =
         let row = rowOf level number in
         rw e (unpinned-sound s row slot (t .names .row-is) (found-below s h page slot f) h (t .idle) (pin-held (holdingAt s slot row .pin) p))

@@ -32,7 +32,7 @@ asking-killed some cause s row h e a =
       row-is = a .row-is;
       live = rw x (a .live);
       settled = rw x (settled-stays s (killed some cause s) row (λ i _. same (killed-holding some s (h .sized) cause i row (a .row-is) ∙ rw e))
-          (rowAt s row .deadline) (rowAt s row .deadline) (omega (arith, killed-clock some cause s)) (omega (arith, killed-clock some cause s, a .settled .deadline)) (a .settled));
+          (rowAt s row .deadline) (rowAt s row .deadline) (omega (arith, killed-clock some cause s)) (rw (killed-clock some cause s) (a .settled .deadline)) (a .settled));
     }
 
 module _ (s : State) (row : ℕ) (mode : Mode) (h : Sound s) (a : Asking s row) where
