@@ -109,8 +109,14 @@ int main(void)
         fail("the library has another layout than sabre.h");
     }
 
+    /* Few pages are confidential here: class 1 begins at page 3,000, and class 3 is empty. */
+    status = sabre_borders(area, sizeof area, 3000, 2048, 4096, answer);
+    expect_refusal(status, SABRE_REFUSAL_BORDERS);
+    expect(sabre_borders(area, sizeof area, 3000, 3500, 4096, answer), SABRE_BORDERS, 0);
+
     /* The look-back room reads page 7. */
     expect(sabre_begin(area, sizeof area, 3, 0, 100, answer), SABRE_BEGUN, 0);
+    expect_refusal(sabre_borders(area, sizeof area, 1024, 2048, 3072, answer), SABRE_REFUSAL_HAS_BEGUN);
     expect(sabre_request(area, sizeof area, 3, 0, 7, SABRE_MODE_READ, answer), SABRE_FETCH, 1);
     into_slot(7);
     expect(sabre_tick(area, sizeof area, answer), SABRE_CLOCK, 1);
@@ -133,18 +139,18 @@ int main(void)
     /* Level 1 may not read a page of class 2. After the refusal every byte is as before. */
     expect(sabre_begin(area, sizeof area, 1, 0, 60, answer), SABRE_BEGUN, 0);
     memcpy(before, area, sizeof area);
-    status = sabre_request(area, sizeof area, 1, 0, 2048, SABRE_MODE_READ, answer);
+    status = sabre_request(area, sizeof area, 1, 0, 3500, SABRE_MODE_READ, answer);
     expect_refusal(status, SABRE_REFUSAL_READ_ABOVE);
     if (memcmp(before, area, sizeof area) != 0) {
         fail("a refused call changed the area");
     }
 
     /* Level 1 takes the empty slot, then that of page 7, which is written back first. */
-    expect(sabre_request(area, sizeof area, 1, 0, 1024, SABRE_MODE_READ, answer), SABRE_FETCH, 3);
-    into_slot(1024);
+    expect(sabre_request(area, sizeof area, 1, 0, 3000, SABRE_MODE_READ, answer), SABRE_FETCH, 3);
+    into_slot(3000);
     expect(sabre_tick(area, sizeof area, answer), SABRE_CLOCK, 3);
-    expect(sabre_request(area, sizeof area, 1, 0, 1025, SABRE_MODE_READ, answer), SABRE_FETCH, 4);
-    into_slot(1025);
+    expect(sabre_request(area, sizeof area, 1, 0, 3001, SABRE_MODE_READ, answer), SABRE_FETCH, 4);
+    into_slot(3001);
     expect(sabre_count(area, sizeof area, 1, answer), SABRE_OPEN, 0);
 
     if (strcmp(disk[7], "bag issued") != 0) {

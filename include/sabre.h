@@ -1,5 +1,5 @@
 /*
- * The SABRE buffer manager of a record server: ten calls on a state that the
+ * The SABRE buffer manager of a record server: eleven calls on a state that the
  * server lends as bytes. Link with libsabre.a (x86-64).
  *
  * The state. `area` points to `len` bytes. The first 65,536 of them are the
@@ -54,7 +54,7 @@ extern "C" {
 #define SABRE_AREA_SIZE 65536
 
 /* The version of the layout of docs/LAYOUT.md, which stands in an area from byte 8 on. */
-#define SABRE_LAYOUT_VERSION 1
+#define SABRE_LAYOUT_VERSION 2
 
 /* answer[0]. Other words may be added at the end. */
 enum sabre_word {
@@ -76,7 +76,8 @@ enum sabre_word {
     SABRE_READ = 15,     /* view: pinned to read; not a mode */
     SABRE_WRITE = 16,    /* view: pinned to write; not a mode */
     SABRE_DORMANT = 17,  /* view, level 3 alone: in a slot, held by nobody */
-    SABRE_OPEN = 18      /* count */
+    SABRE_OPEN = 18,     /* count */
+    SABRE_BORDERS = 19
 };
 
 /* What a call returns. */
@@ -99,7 +100,9 @@ enum sabre_refusal {
     SABRE_REFUSAL_NOT_PINNED = 15,  /* the row does not pin the page */
     SABRE_REFUSAL_NOT_WAITING = 16, /* the row is idle or fetching */
     SABRE_REFUSAL_LAST_CLOCK = 17,  /* the clock is 4,000,000,000 */
-    SABRE_REFUSAL_RECORD = 18       /* bad record: the player's, no call returns it */
+    SABRE_REFUSAL_RECORD = 18,      /* bad record: the player's, no call returns it */
+    SABRE_REFUSAL_BORDERS = 19,     /* the borders fall, or exceed 4,096 */
+    SABRE_REFUSAL_HAS_BEGUN = 20    /* a row has begun since the start */
 };
 
 /* The mode of a request. */
@@ -110,7 +113,7 @@ enum sabre_mode {
 
 /*
  * Begins anew, whatever the area held before: clock 0, every row free, every
- * slot and holding empty. The server's own call.
+ * slot and holding empty, the borders 1,024, 2,048 and 3,072. The server's own call.
  * slots  1 to 64
  * delay  1 to 255, the ticks charged for every page that a level does not see
  * Answers started. Refusals 1 (a short area alone), 2, 3.
@@ -129,7 +132,7 @@ uint32_t sabre_begin(uint8_t *area, size_t len, uint32_t level, uint32_t row, ui
 
 /*
  * An idle row asks for a page.
- * page  0 to 4,095, its class is page / 1,024; reading needs level >= class, writing level <= class
+ * page  0 to 4,095; its class is that of sabre_borders; reading needs level >= class, writing level <= class
  * mode  SABRE_MODE_READ or SABRE_MODE_WRITE
  * Answers
  *   ready  the row pins the page and may use it now
@@ -193,6 +196,16 @@ uint32_t sabre_view(const uint8_t *area, size_t len, uint32_t level, uint32_t pa
  */
 uint32_t sabre_count(const uint8_t *area, size_t len, uint32_t level, uint64_t answer[4]);
 
+/*
+ * Sets the borders of the classes: class 0 lies below the first, class 1 below the second,
+ * class 2 below the third, class 3 at or above it. Equal borders give an empty class. The
+ * server's own call, for after a start and before the first begin that is accepted; until
+ * then it may be made again.
+ * first, second, third  at most 4,096, and none below the one before it
+ * Answers borders. Refusals 1, 19, 20.
+ */
+uint32_t sabre_borders(uint8_t *area, size_t len, uint32_t first, uint32_t second, uint32_t third, uint64_t answer[4]);
+
 /* The slot of an answer that a call has filled; -1 if there is none. For the server alone. */
 static inline int sabre_slot(const uint64_t answer[4])
 {
@@ -210,7 +223,8 @@ static inline const char *sabre_word_text(uint64_t word)
 {
     static const char *const texts[] = {
         "refused", "started", "begun", "ready", "fetch", "wait", "unpinned", "ended", "clock", "none",
-        "idle", "late", "taken", "unseen", "active", "read", "write", "dormant", "open"
+        "idle", "late", "taken", "unseen", "active", "read", "write", "dormant", "open",
+        "borders"
     };
 
     return word < sizeof texts / sizeof texts[0] ? texts[word] : "unknown";

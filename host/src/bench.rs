@@ -89,18 +89,18 @@ impl Entry {
 
 fn entries() -> Vec<Entry> {
     let mut all = states();
-    // Two sorts occur only with dormant slots, and a tick is longest where all rows are late.
-    let mut more = more_states();
-    let (_, last) = more.pop().unwrap();
-    let (_, dormant) = more.pop().unwrap();
-    all.push(("dormant", dormant));
-    all.push(("late", last));
+    // Two sorts occur only with dormant slots, a tick is longest where all rows are late, and
+    // borders are set where no row has begun.
+    all.extend(["dormant", "late", "fresh"].into_iter().zip(more_states()).map(
+        |(name, (_, state))| (name, state),
+    ));
     let mut list = Vec::new();
     for (name, state) in all {
         for (sort, call) in calls_on(&state) {
             match name {
                 "dormant" if !sort.contains("dormant") && !sort.contains("slot by b") => continue,
                 "late" if sort != "tick" => continue,
+                "fresh" if sort != "borders" => continue,
                 _ => {}
             }
             let bytes = state.bytes();

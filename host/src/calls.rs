@@ -1,4 +1,4 @@
-//! The ten calls, their answers and the words, as numbers.
+//! The eleven calls, their answers and the words, as numbers.
 
 /// The bytes that the server lends.
 pub const SIZE: usize = 65_536;
@@ -23,10 +23,12 @@ pub const READ: u64 = 15;
 pub const WRITE: u64 = 16;
 pub const DORMANT: u64 = 17;
 pub const OPEN: u64 = 18;
+pub const BORDERS: u64 = 19;
 
-pub const WORDS: [&str; 19] = [
+pub const WORDS: [&str; 20] = [
     "refused", "started", "begun", "ready", "fetch", "wait", "unpinned", "ended", "clock", "none",
     "idle", "late", "taken", "unseen", "active", "read", "write", "dormant", "open",
+    "borders",
 ];
 
 #[derive(Clone, Copy, Debug, PartialEq, Eq)]
@@ -41,10 +43,12 @@ pub enum Call {
     Look { level: u32, row: u32 },
     View { level: u32, page: u32 },
     Count { level: u32 },
+    Borders { first: u32, second: u32, third: u32 },
 }
 
-pub const KINDS: [&str; 10] =
-    ["start", "begin", "request", "retry", "unpin", "end", "tick", "look", "view", "count"];
+pub const KINDS: [&str; 11] = [
+    "start", "begin", "request", "retry", "unpin", "end", "tick", "look", "view", "count", "borders",
+];
 
 impl Call {
     /// The call's place in `KINDS`.
@@ -60,12 +64,13 @@ impl Call {
             Call::Look { .. } => 7,
             Call::View { .. } => 8,
             Call::Count { .. } => 9,
+            Call::Borders { .. } => 10,
         }
     }
 
     pub fn level(&self) -> Option<u32> {
         match *self {
-            Call::Start { .. } | Call::Tick => None,
+            Call::Start { .. } | Call::Borders { .. } | Call::Tick => None,
             Call::Begin { level, .. }
             | Call::Request { level, .. }
             | Call::Retry { level, .. }
@@ -128,7 +133,7 @@ impl Outcome {
     }
 }
 
-/// One implementation of the ten calls over lent bytes.
+/// One implementation of the eleven calls over lent bytes.
 pub struct Manager {
     pub name: &'static str,
     pub start: fn(&mut [u8], u32, u32, &mut [u64; 4]) -> u32,
@@ -141,6 +146,7 @@ pub struct Manager {
     pub look: fn(&[u8], u32, u32, &mut [u64; 4]) -> u32,
     pub view: fn(&[u8], u32, u32, &mut [u64; 4]) -> u32,
     pub count: fn(&[u8], u32, &mut [u64; 4]) -> u32,
+    pub borders: fn(&mut [u8], u32, u32, u32, &mut [u64; 4]) -> u32,
 }
 
 /// What the answer holds before a call; every call must write all four numbers.
@@ -161,6 +167,9 @@ impl Manager {
             Call::Unpin { level, row, page } => (self.unpin)(area, level, row, page, &mut answer),
             Call::End { level, row } => (self.end)(area, level, row, &mut answer),
             Call::Tick => (self.tick)(area, &mut answer),
+            Call::Borders { first, second, third } => {
+                (self.borders)(area, first, second, third, &mut answer)
+            }
             Call::Look { .. } | Call::View { .. } | Call::Count { .. } => {
                 return self.ask(area, call);
             }

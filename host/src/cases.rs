@@ -1,10 +1,13 @@
-//! Session S, M1 to M11 and the examples of refusals 1 to 17 of documents 01 and 02 (T-01), call by
-//! call.
+//! Session S, M1 to M11, the borders and the examples of refusals 1 to 17, 19 and 20 of documents 01
+//! and 02 (T-01, T-02), call by call.
 
 use crate::calls::*;
 use crate::compare::check;
 use crate::lent::Lent;
-use crate::model::{self, Condition, Row, State, Tally};
+use crate::model::{
+    self, set_word, Cause, Condition, Holding, Mode, Pin, Row, Slot, State, Tally, BEGUN_AT,
+    BORDERS_AT, HEADER_END,
+};
 
 /// A call and the player's line for it; without a bar, no slot and no page to write back.
 type Step = (Call, &'static str);
@@ -56,7 +59,38 @@ fn count(level: u32) -> Call {
     Call::Count { level }
 }
 
+fn borders(first: u32, second: u32, third: u32) -> Call {
+    Call::Borders { first, second, third }
+}
+
 const TICK: Call = Call::Tick;
+
+/// The pages on both sides of each border, by the access that their classes allow. Classes 1 and 2
+/// have two pages at least.
+fn both_sides(name: &'static str, set: bool, first: u32, second: u32, third: u32) -> Case {
+    let mut steps = vec![(start(6, 1), "started 0")];
+    if set {
+        steps.push((borders(first, second, third), "borders 0"));
+    }
+    for level in 0..4 {
+        steps.extend([0, 1].map(|row| (begin(level, row, 9), "begun 0")));
+    }
+    steps.extend([
+        (read(0, 0, first), "refused 13"),
+        (write(1, 0, first - 1), "refused 14"),
+        (read(1, 0, second), "refused 13"),
+        (write(2, 0, second - 1), "refused 14"),
+        (read(2, 0, third), "refused 13"),
+        (write(3, 0, third - 1), "refused 14"),
+        (read(0, 0, first - 1), "fetch 1 | 0 -"),
+        (write(1, 0, first), "fetch 1 | 1 -"),
+        (read(1, 1, second - 1), "fetch 1 | 2 -"),
+        (write(2, 0, second), "fetch 1 | 3 -"),
+        (read(2, 1, third - 1), "fetch 1 | 4 -"),
+        (write(3, 0, third), "fetch 1 | 5 -"),
+    ]);
+    Case { name, clock: None, steps }
+}
 
 fn cases() -> Vec<Case> {
     let case = |name, steps: Vec<Step>| Case { name, clock: None, steps };
@@ -344,6 +378,236 @@ fn cases() -> Vec<Case> {
                 (begin(0, 1, 4_000_000_000), "begun 0"),
             ],
         },
+        case(
+            "refusal 19",
+            vec![
+                (start(1, 1), "started 0"),
+                (borders(2048, 1024, 3072), "refused 19"),
+                (borders(1024, 3072, 2048), "refused 19"),
+                (borders(1, 0, 0), "refused 19"),
+                (borders(0, 0, 4097), "refused 19"),
+                (borders(0, 4097, 4097), "refused 19"),
+                (borders(4097, 4097, 4097), "refused 19"),
+                (borders(4097, 0, 0), "refused 19"),
+                (borders(0, 65_536, 65_536), "refused 19"),
+                (borders(0, 0, u32::MAX), "refused 19"),
+                (borders(u32::MAX, u32::MAX, u32::MAX), "refused 19"),
+                (begin(0, 0, 9), "begun 0"),
+                (borders(1, 0, 0), "refused 19"),
+                (borders(0, 0, 4097), "refused 19"),
+                (read(0, 0, 1024), "refused 13"),
+                (read(0, 0, 1023), "fetch 1 | 0 -"),
+            ],
+        ),
+        case(
+            "refusal 20",
+            vec![
+                (start(1, 1), "started 0"),
+                (begin(0, 0, 9), "begun 0"),
+                (borders(0, 0, 0), "refused 20"),
+                (borders(1024, 2048, 3072), "refused 20"),
+                (read(0, 0, 7), "fetch 1 | 0 -"),
+                (borders(0, 0, 0), "refused 20"),
+            ],
+        ),
+        case(
+            "refusal 20 where the row has ended",
+            vec![
+                (start(1, 1), "started 0"),
+                (begin(3, 7, 9), "begun 0"),
+                (end(3, 7), "ended 0"),
+                (borders(0, 0, 0), "refused 20"),
+                (TICK, "clock 1"),
+                (borders(0, 0, 0), "refused 20"),
+                (start(1, 1), "started 0"),
+                (borders(0, 0, 0), "borders 0"),
+                (begin(0, 0, 9), "begun 0"),
+                (read(0, 0, 0), "refused 13"),
+            ],
+        ),
+        case(
+            "refusal 20 where the row is late",
+            vec![
+                (start(1, 1), "started 0"),
+                (begin(0, 0, 0), "begun 0"),
+                (TICK, "clock 1"),
+                (look(0, 0), "late 0"),
+                (borders(0, 0, 0), "refused 20"),
+            ],
+        ),
+        both_sides("borders until set", false, 1024, 2048, 3072),
+        both_sides("borders with classes of two pages", true, 2, 4, 6),
+        both_sides("borders of a small hospital", true, 3900, 4000, 4095),
+        case(
+            "borders with classes of one page",
+            vec![
+                (start(4, 1), "started 0"),
+                (borders(1, 2, 3), "borders 0"),
+                (begin(0, 0, 9), "begun 0"),
+                (begin(1, 0, 9), "begun 0"),
+                (begin(2, 0, 9), "begun 0"),
+                (begin(3, 0, 9), "begun 0"),
+                (read(0, 0, 1), "refused 13"),
+                (write(1, 0, 0), "refused 14"),
+                (read(1, 0, 2), "refused 13"),
+                (write(2, 0, 1), "refused 14"),
+                (read(2, 0, 3), "refused 13"),
+                (write(3, 0, 2), "refused 14"),
+                (read(0, 0, 0), "fetch 1 | 0 -"),
+                (read(1, 0, 1), "fetch 1 | 1 -"),
+                (read(2, 0, 2), "fetch 1 | 2 -"),
+                (write(3, 0, 3), "fetch 1 | 3 -"),
+            ],
+        ),
+        case(
+            "borders with class 0 empty",
+            vec![
+                (start(2, 1), "started 0"),
+                (borders(0, 2000, 3000), "borders 0"),
+                (begin(0, 0, 9), "begun 0"),
+                (begin(1, 0, 9), "begun 0"),
+                (begin(1, 1, 9), "begun 0"),
+                (read(0, 0, 0), "refused 13"),
+                (write(1, 0, 0), "fetch 1 | 0 -"),
+                (read(1, 1, 1999), "fetch 1 | 1 -"),
+            ],
+        ),
+        case(
+            "borders with class 1 empty",
+            vec![
+                (start(3, 1), "started 0"),
+                (borders(100, 100, 300), "borders 0"),
+                (begin(1, 0, 9), "begun 0"),
+                (begin(1, 1, 9), "begun 0"),
+                (begin(2, 0, 9), "begun 0"),
+                (write(1, 0, 99), "refused 14"),
+                (read(1, 0, 100), "refused 13"),
+                (read(1, 0, 99), "fetch 1 | 0 -"),
+                (write(1, 1, 100), "fetch 1 | 1 -"),
+                (write(2, 0, 299), "fetch 1 | 2 -"),
+            ],
+        ),
+        case(
+            "borders with class 2 empty",
+            vec![
+                (start(3, 1), "started 0"),
+                (borders(100, 200, 200), "borders 0"),
+                (begin(1, 0, 9), "begun 0"),
+                (begin(2, 0, 9), "begun 0"),
+                (begin(3, 0, 9), "begun 0"),
+                (write(2, 0, 199), "refused 14"),
+                (read(2, 0, 200), "refused 13"),
+                (read(1, 0, 199), "fetch 1 | 0 -"),
+                (write(3, 0, 200), "fetch 1 | 1 -"),
+                (write(2, 0, 4095), "fetch 1 | 2 -"),
+            ],
+        ),
+        case(
+            "borders with class 3 empty",
+            vec![
+                (start(2, 1), "started 0"),
+                (borders(100, 200, 4096), "borders 0"),
+                (begin(2, 0, 9), "begun 0"),
+                (begin(3, 0, 9), "begun 0"),
+                (write(3, 0, 4095), "refused 14"),
+                (read(2, 0, 4095), "fetch 1 | 0 -"),
+                (read(3, 0, 0), "fetch 1 | 1 -"),
+            ],
+        ),
+        case(
+            "borders 0 0 0",
+            vec![
+                (start(3, 1), "started 0"),
+                (borders(0, 0, 0), "borders 0"),
+                (begin(0, 0, 9), "begun 0"),
+                (begin(2, 0, 9), "begun 0"),
+                (begin(3, 0, 9), "begun 0"),
+                (read(0, 0, 0), "refused 13"),
+                (read(2, 0, 0), "refused 13"),
+                (read(2, 0, 4095), "refused 13"),
+                (write(0, 0, 0), "fetch 1 | 0 -"),
+                (write(2, 0, 1), "fetch 1 | 1 -"),
+                (write(3, 0, 4095), "fetch 1 | 2 -"),
+            ],
+        ),
+        case(
+            "borders 4096 4096 4096",
+            vec![
+                (start(3, 1), "started 0"),
+                (borders(4096, 4096, 4096), "borders 0"),
+                (begin(0, 0, 9), "begun 0"),
+                (begin(0, 1, 9), "begun 0"),
+                (begin(1, 0, 9), "begun 0"),
+                (begin(3, 0, 9), "begun 0"),
+                (write(1, 0, 4095), "refused 14"),
+                (write(3, 0, 4095), "refused 14"),
+                (write(3, 0, 0), "refused 14"),
+                (read(0, 0, 4095), "fetch 1 | 0 -"),
+                (write(0, 1, 0), "fetch 1 | 1 -"),
+                (read(3, 0, 1), "fetch 1 | 2 -"),
+            ],
+        ),
+        case(
+            "borders set twice",
+            vec![
+                (start(1, 1), "started 0"),
+                (borders(0, 0, 0), "borders 0"),
+                (view(0, 0), "unseen 0"),
+                (TICK, "clock 1"),
+                (borders(100, 200, 300), "borders 0"),
+                (borders(300, 200, 100), "refused 19"),
+                (begin(0, 0, 9), "begun 0"),
+                (read(0, 0, 100), "refused 13"),
+                (read(0, 0, 99), "fetch 2 | 0 -"),
+            ],
+        ),
+        case(
+            "borders after a refused begin",
+            vec![
+                (start(1, 1), "started 0"),
+                (begin(4, 0, 9), "refused 4"),
+                (begin(0, 8, 9), "refused 5"),
+                (TICK, "clock 1"),
+                (begin(0, 0, 0), "refused 12"),
+                (borders(0, 0, 0), "borders 0"),
+                (begin(0, 0, 9), "begun 0"),
+                (read(0, 0, 0), "refused 13"),
+            ],
+        ),
+        case(
+            "a refused start leaves the borders",
+            vec![
+                (start(1, 1), "started 0"),
+                (borders(0, 0, 0), "borders 0"),
+                (start(65, 1), "refused 2"),
+                (start(1, 0), "refused 3"),
+                (begin(0, 0, 9), "begun 0"),
+                (start(65, 1), "refused 2"),
+                (borders(0, 0, 0), "refused 20"),
+                (read(0, 0, 0), "refused 13"),
+            ],
+        ),
+        case(
+            "a start sets the borders back",
+            vec![
+                (start(1, 1), "started 0"),
+                (borders(0, 0, 0), "borders 0"),
+                (start(1, 1), "started 0"),
+                (begin(0, 0, 9), "begun 0"),
+                (read(0, 0, 1024), "refused 13"),
+                (read(0, 0, 1023), "fetch 1 | 0 -"),
+            ],
+        ),
+        Case {
+            name: "borders at the last clock",
+            clock: Some(LAST_CLOCK),
+            steps: vec![
+                (TICK, "refused 17"),
+                (borders(4096, 4096, 4096), "borders 0"),
+                (begin(0, 0, u32::MAX), "begun 0"),
+                (read(0, 0, 4095), "fetch 4000000001 | 0 -"),
+            ],
+        },
         // Points that the readings settle.
         case(
             "a look answered fetch names no slot",
@@ -430,9 +694,118 @@ fn cases() -> Vec<Case> {
     ]
 }
 
+/// Areas by their names, and whether they are sound.
+fn areas() -> Vec<(&'static str, Vec<u8>, bool)> {
+    let idle = |deadline| Row { condition: Condition::Idle, deadline };
+    let begun = |change: &dyn Fn(&mut State)| {
+        let mut state = State::fresh(64, 1);
+        state.clock = 5;
+        state.begun = true;
+        change(&mut state);
+        state
+    };
+    let before = |change: &dyn Fn(&mut State)| {
+        let mut state = begun(change);
+        state.begun = false;
+        state.bytes()
+    };
+    let bordered = |first, second, third| {
+        before(&|state: &mut State| state.borders = [first, second, third])
+    };
+    let dormant = |state: &mut State| {
+        state.filled.insert(63, Slot { page: 7, arrival: 5, dirty: false, lowest: 0, touch: 5 });
+    };
+    // A row of that level that pins page 7, under those borders.
+    let pinned = |level, pin, first, second, third| {
+        begun(&|state: &mut State| {
+            dormant(state);
+            state.borders = [first, second, third];
+            state.rows.insert((level, 0), idle(9));
+            state.holdings.insert((63, (level, 0)), Holding { pin, arrival: 5, touch: 5 });
+        })
+        .bytes()
+    };
+    // A row of that level that waits for page 7.
+    let waiting = |level, mode, first, second, third| {
+        begun(&|state: &mut State| {
+            state.borders = [first, second, third];
+            let condition = Condition::Waiting { page: 7, mode };
+            state.rows.insert((level, 0), Row { condition, deadline: 9 });
+        })
+        .bytes()
+    };
+    let deadline = |deadline| {
+        begun(&|state: &mut State| {
+            state.rows.insert((0, 0), idle(deadline));
+        })
+        .bytes()
+    };
+    let with = |mut bytes: Vec<u8>, at, value| {
+        set_word(&mut bytes, at, value);
+        bytes
+    };
+    let mut version_1 = with(State::fresh(64, 1).bytes(), 8, 1);
+    version_1[BORDERS_AT..HEADER_END].fill(0);
+    let none = |_: &mut State| {};
+    vec![
+        ("a deadline below the clock", deadline(4), false),
+        ("a deadline at the clock", deadline(5), true),
+        ("version 1 of the layout", version_1.clone(), false),
+        ("the words of version 1 under version 2", with(version_1, 8, 2), true),
+        ("version 1 and borders", with(State::fresh(64, 1).bytes(), 8, 1), false),
+        ("version 3", with(State::fresh(64, 1).bytes(), 8, 3), false),
+        ("borders 0 0 0", bordered(0, 0, 0), true),
+        ("borders 4096 4096 4096", bordered(4096, 4096, 4096), true),
+        ("borders 0 0 4097", bordered(0, 0, 4097), false),
+        ("borders 4097 4097 4097", bordered(4097, 4097, 4097), false),
+        ("borders 1 0 0", bordered(1, 0, 0), false),
+        ("borders 0 1 0", bordered(0, 1, 0), false),
+        ("a border above 32 bits", bordered(0, 0, 1 << 32), false),
+        ("begun and every row free", begun(&none).bytes(), true),
+        ("a begun mark of 2", with(begun(&none).bytes(), BEGUN_AT, 2), false),
+        ("a begun mark above 32 bits", with(begun(&none).bytes(), BEGUN_AT, 1 << 32), false),
+        ("a word after the begun mark", with(begun(&none).bytes(), HEADER_END, 1), false),
+        ("not begun after ticks", before(&none), true),
+        (
+            "not begun and an idle row",
+            before(&|state: &mut State| {
+                state.rows.insert((0, 0), idle(9));
+            }),
+            false,
+        ),
+        (
+            "not begun and a killed row",
+            before(&|state: &mut State| {
+                let condition = Condition::Killed(Cause::Taken);
+                state.rows.insert((3, 7), Row { condition, deadline: 0 });
+            }),
+            false,
+        ),
+        ("not begun and a filled slot", before(&dormant), false),
+        ("begun and a dormant slot", begun(&dormant).bytes(), true),
+        ("level 0 reads class 0", pinned(0, Pin::Read, 8, 8, 8), true),
+        ("level 0 reads class 1", pinned(0, Pin::Read, 7, 8, 8), false),
+        ("level 1 reads class 1", pinned(1, Pin::Read, 7, 8, 8), true),
+        ("level 1 reads class 2", pinned(1, Pin::Read, 7, 7, 8), false),
+        ("level 2 reads class 2", pinned(2, Pin::Read, 7, 7, 8), true),
+        ("level 2 reads class 3", pinned(2, Pin::Read, 7, 7, 7), false),
+        ("level 2 holds class 3", pinned(2, Pin::None, 7, 7, 7), true),
+        ("level 1 writes class 0", pinned(1, Pin::Write, 8, 8, 8), false),
+        ("level 1 writes class 1", pinned(1, Pin::Write, 7, 8, 8), true),
+        ("level 2 writes class 1", pinned(2, Pin::Write, 7, 8, 8), false),
+        ("level 2 writes class 2", pinned(2, Pin::Write, 7, 7, 8), true),
+        ("level 3 writes class 2", pinned(3, Pin::Write, 7, 7, 8), false),
+        ("level 3 writes class 3", pinned(3, Pin::Write, 7, 7, 7), true),
+        ("level 0 waits to read class 0", waiting(0, Mode::Read, 8, 8, 8), true),
+        ("level 0 waits to read class 1", waiting(0, Mode::Read, 7, 8, 8), false),
+        ("level 3 waits to write class 2", waiting(3, Mode::Write, 7, 7, 8), false),
+        ("level 3 waits to write class 3", waiting(3, Mode::Write, 7, 7, 7), true),
+    ]
+}
+
 /// Plays every case through a manager and through the model.
 pub fn play_cases(manager: &Manager) -> Result<(), String> {
-    println!("cases: session S, M1 to M11, the refusals; {}", manager.name);
+    println!("cases: session S, M1 to M11, the borders, the refusals; {}", manager.name);
     let mut made = 0;
     for case in cases() {
         let mut lent = Lent::new(3, SIZE + 5, 0xEE);
@@ -457,7 +830,7 @@ pub fn play_cases(manager: &Manager) -> Result<(), String> {
     // Refusal 1: an area of 100 bytes.
     let mut lent = Lent::new(0, 100, 0xEE);
     let before = lent.state_bytes().to_vec();
-    for call in [start(1, 1), start(65, 256), begin(4, 8, 0), TICK, count(9)] {
+    for call in [start(1, 1), start(65, 256), begin(4, 8, 0), TICK, count(9), borders(1, 0, 0)] {
         check(manager, &mut lent, &before, &call, &Outcome::refused(1))
             .map_err(|text| format!("cases: refusal 1: {text}"))?;
         let got = model::call(&mut before.clone(), &call, &mut Tally::default());
@@ -466,22 +839,21 @@ pub fn play_cases(manager: &Manager) -> Result<(), String> {
         }
         made += 1;
     }
-    // An area is sound with a live row's deadline at the clock, and not below it.
-    for (deadline, expected) in [(4, Outcome::refused(1)), (5, Outcome::said(IDLE, 0))] {
-        let mut state = State::fresh(1, 1);
-        state.clock = 5;
-        state.rows.insert((0, 0), Row { condition: Condition::Idle, deadline });
-        let mut lent = Lent::new(0, SIZE, 0xEE);
-        lent.area().copy_from_slice(&state.bytes());
-        let fault = |text: String| format!("cases: deadline {deadline} at clock 5: {text}");
-        let got = model::call(&mut state.bytes(), &look(0, 0), &mut Tally::default());
-        if got != expected {
-            return Err(fault(format!("model: {}", got.line())));
+    for (name, area, sound) in areas() {
+        for call in [look(0, 0), borders(1, 0, 0), borders(1, 2, 3)] {
+            let mut lent = Lent::new(0, SIZE, 0xEE);
+            lent.area().copy_from_slice(&area);
+            let mut bytes = area.clone();
+            let fault = |text: String| format!("cases: {name}: {text}");
+            let expected = model::call(&mut bytes, &call, &mut Tally::default());
+            if (expected == Outcome::refused(1)) == sound {
+                return Err(fault(format!("model: {}", expected.line())));
+            }
+            check(manager, &mut lent, &bytes, &call, &expected).map_err(fault)?;
+            made += 1;
         }
-        check(manager, &mut lent, &state.bytes(), &look(0, 0), &expected).map_err(fault)?;
-        made += 1;
     }
-    println!("  {made} calls as documents 01 and 02 (T-01) say");
+    println!("  {made} calls as documents 01 and 02 (T-01, T-02) say");
     Ok(())
 }
 
@@ -540,6 +912,29 @@ mod tests {
         refusal_15: "refusal 15";
         refusal_16: "refusal 16";
         refusal_17: "refusal 17";
+        refusal_19: "refusal 19";
+        refusal_20:
+            "refusal 20",
+            "refusal 20 where the row has ended",
+            "refusal 20 where the row is late";
+        both_sides_of_a_border:
+            "borders until set",
+            "borders with classes of two pages",
+            "borders of a small hospital",
+            "borders with classes of one page";
+        equal_borders:
+            "borders with class 0 empty",
+            "borders with class 1 empty",
+            "borders with class 2 empty",
+            "borders with class 3 empty",
+            "borders 0 0 0",
+            "borders 4096 4096 4096";
+        when_borders_are_set:
+            "borders set twice",
+            "borders after a refused begin",
+            "a refused start leaves the borders",
+            "a start sets the borders back",
+            "borders at the last clock";
         readings:
             "a look answered fetch names no slot",
             "due and late on one tick leaves the page dirty",
@@ -566,7 +961,7 @@ mod tests {
         for length in [0, 1, 100, 65_535] {
             let mut area = State::fresh(1, 1).bytes();
             area.truncate(length);
-            for call in [start(1, 1), start(65, 256), TICK, count(4), begin(4, 8, 0)] {
+            for call in [start(1, 1), start(65, 256), TICK, count(4), begin(4, 8, 0), borders(1, 0, 0)] {
                 assert_eq!(model::call(&mut area, &call, &mut Tally::default()), Outcome::refused(1));
             }
         }
@@ -591,9 +986,12 @@ mod tests {
         assert_eq!(&bytes[..8], b"SABREBUF");
         let mut expected = vec![0; 65_536];
         expected[..8].copy_from_slice(b"SABREBUF");
-        expected[8] = 1;
+        expected[8] = 2;
         expected[16] = 64;
         expected[24] = 255;
+        expected[41] = 4;
+        expected[49] = 8;
+        expected[57] = 12;
         assert_eq!(bytes, expected);
     }
 }

@@ -60,7 +60,7 @@ fn refused_area(
     let mut call = scenario.call(random, state, LEVELS);
     let mut lent;
     if random.percent(50) {
-        let length = random.pick(&[0, 1, 40, 100, 512, 6_656, 55_808, 65_528, 65_535]);
+        let length = random.pick(&[0, 1, 40, 72, 100, 512, 6_656, 55_808, 65_528, 65_535]);
         lent = Lent::new(random.below(8) as usize, length, 0x5A);
         lent.area().copy_from_slice(&bytes[..length]);
     } else {
@@ -172,8 +172,11 @@ pub fn compare(manager: &Manager, calls: u64, seed: u64) -> Result<(), String> {
     };
     list("calls", &named(&KINDS, &tally.kinds));
     list("words", &named(&WORDS, &tally.words));
-    let refusals: Vec<(String, u64)> =
-        (1..=17).map(|number| (format!("refusal {number}"), tally.refusals[number])).collect();
+    // 18 is the player's.
+    let refusals: Vec<(String, u64)> = (1..=20)
+        .filter(|number| *number != 18)
+        .map(|number| (format!("refusal {number}"), tally.refusals[number]))
+        .collect();
     list("refusals", &refusals);
     let events: Vec<(String, u64)> =
         EVENTS.iter().map(|event| (event.to_string(), tally.of(event))).collect();

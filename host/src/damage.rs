@@ -4,7 +4,10 @@
 use crate::calls::*;
 use crate::compare::check;
 use crate::lent::Lent;
-use crate::model::{self, holding_at, row_at, set_word, slot_at, word, State, Tally, CLAUSES};
+use crate::model::{
+    self, holding_at, row_at, set_word, slot_at, word, State, Tally, BEGUN_AT, BORDERS_AT, CLAUSES,
+    HEADER_END, HOLDINGS_AT, ROWS_AT, SLOTS_AT, TAIL_AT,
+};
 use crate::random::Random;
 use crate::scenario::{made_up, wild, Scenario};
 use std::collections::BTreeMap;
@@ -90,14 +93,14 @@ fn near_number(random: &mut Random, old: u64) -> u64 {
 
 /// Changes something in the bytes.
 fn damage(random: &mut Random, bytes: &mut [u8], state: &State) {
-    match random.below(24) {
+    match random.below(27) {
         // single bytes anywhere
         0 => bytes[random.below(SIZE as u64) as usize] = random.next() as u8,
         1 => bytes[random.below(SIZE as u64) as usize] ^= 1 << random.below(8),
         // the header
-        2 => bytes[random.below(40) as usize] ^= 1 << random.below(8),
+        2 => bytes[random.below(HEADER_END as u64) as usize] ^= 1 << random.below(8),
         3 => {
-            let at = random.pick(&[0, 8, 16, 24, 32, 32]);
+            let at = random.pick(&[0, 8, 16, 24, 32, 32, 40, 48, 56, 64]);
             let value = if random.percent(50) {
                 number(random, state)
             } else {
@@ -115,7 +118,8 @@ fn damage(random: &mut Random, bytes: &mut [u8], state: &State) {
         },
         // unused bytes, the first and the last of them often
         5 => {
-            let (first, last) = random.pick(&[(40, 511), (55_808, 65_535)]);
+            let (first, last) =
+                random.pick(&[(HEADER_END as u64, 511), (TAIL_AT as u64, 65_535)]);
             let any = random.between(first, last);
             let at = random.pick(&[first, last, last - 7, any, any, any]);
             bytes[at as usize] ^= 1 << random.below(8);
@@ -207,6 +211,41 @@ fn damage(random: &mut Random, bytes: &mut [u8], state: &State) {
             set_word(bytes, at + 8, arrival);
             set_word(bytes, at + 16, 0);
         }
+        // borders: one moved, to another or near a page, two exchanged
+        23 => {
+            let place = |number: u64| BORDERS_AT + 8 * number as usize;
+            let at = place(random.below(3));
+            let value = match random.below(4) {
+                0 => word(bytes, place(random.below(3))),
+                1 => number(random, state),
+                2 => random.pick(&[0, 4095, 4096, 4097, 8192, (1 << 32) + 1024, 1 << 63]),
+                _ => word(bytes, slot_at(some_slot(random, state)) + 8).wrapping_add(random.below(2)),
+            };
+            if random.percent(70) {
+                set_word(bytes, at, value);
+            } else {
+                swap(bytes, at, place(random.below(3)), 8);
+            }
+        }
+        // not begun, over rows and slots, rows alone, slots alone or nothing
+        24 => {
+            set_word(bytes, BEGUN_AT, 0);
+            let (rows, slots) = (random.percent(50), random.percent(50));
+            if !rows {
+                bytes[ROWS_AT..SLOTS_AT].fill(0);
+            }
+            if !slots {
+                bytes[SLOTS_AT..HOLDINGS_AT].fill(0);
+            }
+            if !rows || !slots {
+                bytes[HOLDINGS_AT..TAIL_AT].fill(0);
+            }
+        }
+        // version 1 of the layout, which has no borders and no begun mark
+        25 => {
+            set_word(bytes, 8, 1);
+            bytes[BORDERS_AT..HEADER_END].fill(0);
+        }
         // a row whose numbers belong to another condition
         _ => {
             let at = row_at(some_row(random, state));
@@ -228,7 +267,7 @@ fn damage(random: &mut Random, bytes: &mut [u8], state: &State) {
 
 /// A call that shows as much as possible of a state: half of them on what is there.
 fn some_call(random: &mut Random, scenario: &Scenario, state: &State) -> Call {
-    let kind = random.pick(&[0, 1, 2, 2, 2, 3, 3, 4, 5, 6, 6, 7, 8, 9]);
+    let kind = random.pick(&[0, 1, 2, 2, 2, 3, 3, 4, 5, 6, 6, 7, 8, 9, 10]);
     scenario.call_of_kind(random, kind, state, LEVELS)
 }
 
@@ -309,13 +348,14 @@ fn call_on(
     })
 }
 
-/// Changes each byte of an area in turn. The area is another one every 256 bytes.
+/// Changes each byte of an area in turn. The area is another one for each word of the header, and
+/// then every 256 bytes.
 fn sweep(manager: &Manager, seed: u64, found: &mut Found, tally: &mut Tally) -> Result<(), String> {
     let random = &mut Random::new(seed, u64::MAX);
     let mut scenario = Scenario::random(random);
     let mut state = State::fresh(1, 1);
     for at in 0..SIZE {
-        if at % 256 == 0 {
+        if at % 256 == 0 || at < HEADER_END && at % 8 == 0 {
             scenario = Scenario::random(random);
             state = State::fresh(scenario.slots.into(), scenario.delay.into());
             for _ in 0..random.below(200) {

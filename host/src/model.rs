@@ -1,5 +1,5 @@
-//! A model of documents 01 and 02 (T-01), written from their text with maps and lists. It is meant
-//! to be read beside the documents, not to be fast.
+//! A model of documents 01 and 02 (T-01, T-02), written from their text with maps and lists. It is
+//! meant to be read beside the documents, not to be fast.
 
 use crate::calls::*;
 use std::collections::{BTreeMap, BTreeSet};
@@ -64,21 +64,48 @@ pub struct State {
     pub slots: u64,
     pub delay: u64,
     pub clock: u64,
+    /// The first, the second and the third.
+    pub borders: [u64; 3],
+    /// A row has begun since start.
+    pub begun: bool,
     pub rows: BTreeMap<RowId, Row>,
     /// The filled slots.
     pub filled: BTreeMap<u64, Slot>,
     pub holdings: BTreeMap<(u64, RowId), Holding>,
 }
 
-pub fn class(page: u64) -> u64 {
-    page / 1024
+/// The borders until others are set.
+pub const FIRST_BORDERS: [u64; 3] = [1024, 2048, 3072];
+
+/// Class 0 lies below the first border, class 1 below the second, class 2 below the third, class 3
+/// at or above it.
+fn class(borders: [u64; 3], page: u64) -> u64 {
+    let [first, second, third] = borders;
+    if page < first {
+        0
+    } else if page < second {
+        1
+    } else if page < third {
+        2
+    } else {
+        3
+    }
 }
 
-pub fn allowed(level: u64, page: u64, mode: Mode) -> bool {
+fn allowed(borders: [u64; 3], level: u64, page: u64, mode: Mode) -> bool {
     match mode {
-        Mode::Read => level >= class(page),
-        Mode::Write => level <= class(page),
+        Mode::Read => level >= class(borders, page),
+        Mode::Write => level <= class(borders, page),
     }
+}
+
+fn fall(borders: [u64; 3]) -> bool {
+    let [first, second, third] = borders;
+    first > second || second > third
+}
+
+fn exceed(borders: [u64; 3]) -> bool {
+    borders.iter().any(|border| *border > 4096)
 }
 
 /// Two pins of different rows conflict if either is write.
@@ -112,9 +139,9 @@ impl Row {
 /// How often each thing happened.
 #[derive(Clone, Default)]
 pub struct Tally {
-    pub kinds: [u64; 10],
-    pub words: [u64; 19],
-    pub refusals: [u64; 19],
+    pub kinds: [u64; 11],
+    pub words: [u64; 20],
+    pub refusals: [u64; 21],
     pub events: BTreeMap<&'static str, u64>,
 }
 
@@ -136,10 +163,21 @@ impl Tally {
     }
 }
 
-/// Everything that the model notes of begins, requests, kills and ticks. A good random run has them
-/// all.
+/// Everything that the model notes of borders, begins, requests, kills and ticks. A good random run
+/// has them all.
 pub const EVENTS: &[&str] = &[
+    "borders: set in place of 1,024, 2,048 and 3,072",
+    "borders: set in place of others",
+    "borders: set after a tick",
+    "borders: an empty class",
+    "borders: every page in one class",
+    "borders: refused 19 after a begin",
+    "borders: refused 20 with every row free",
+    "begin: the first, under set borders",
     "begin: the deadline is the clock",
+    "request: refused 13 by set borders alone",
+    "request: refused 14 by set borders alone",
+    "request: let in by set borders alone",
     "step 1: ready",
     "step 1: fetch",
     "step 1: wait",
@@ -209,7 +247,16 @@ impl State {
                 rows.insert((level, number), Row::FREE);
             }
         }
-        State { slots, delay, clock: 0, rows, filled: BTreeMap::new(), holdings: BTreeMap::new() }
+        State {
+            slots,
+            delay,
+            clock: 0,
+            borders: FIRST_BORDERS,
+            begun: false,
+            rows,
+            filled: BTreeMap::new(),
+            holdings: BTreeMap::new(),
+        }
     }
 
     // What is where.
@@ -225,12 +272,20 @@ impl State {
             .collect()
     }
 
+    pub fn every_row_free(&self) -> bool {
+        self.rows.values().all(|row| *row == Row::FREE)
+    }
+
     pub fn held_by(&self, row: RowId) -> Vec<(u64, Holding)> {
         self.holdings
             .iter()
             .filter(|(key, _)| key.1 == row)
             .map(|(key, holding)| (key.0, *holding))
             .collect()
+    }
+
+    pub fn allowed(&self, level: u64, page: u64, mode: Mode) -> bool {
+        allowed(self.borders, level, page, mode)
     }
 
     /// Level, then deadline, then row number; smaller is better.
@@ -302,11 +357,16 @@ impl State {
         }
         if let Call::Request { level, page, mode, .. } = *call {
             let (level, page) = (u64::from(level), u64::from(page));
-            refuse(13, mode == 0 && !allowed(level, page, Mode::Read));
-            refuse(14, mode == 1 && !allowed(level, page, Mode::Write));
+            refuse(13, mode == 0 && !self.allowed(level, page, Mode::Read));
+            refuse(14, mode == 1 && !self.allowed(level, page, Mode::Write));
         }
         if *call == Call::Tick {
             refuse(17, self.clock == LAST_CLOCK);
+        }
+        if let Call::Borders { first, second, third } = *call {
+            let borders = [first, second, third].map(u64::from);
+            refuse(19, fall(borders) || exceed(borders));
+            refuse(20, self.begun);
         }
         found
     }
@@ -315,12 +375,56 @@ impl State {
 
     /// A call on this state, which must be sound.
     pub fn call(&mut self, call: &Call, tally: &mut Tally) -> Outcome {
-        let outcome = match self.refusals(call).first() {
-            Some(&number) => Outcome::refused(number),
+        let refusal = self.refusals(call).first().copied();
+        self.note_borders(call, refusal, tally);
+        let outcome = match refusal {
+            Some(number) => Outcome::refused(number),
             None => self.accepted(call, tally),
         };
         tally.outcome(call, &outcome);
         outcome
+    }
+
+    /// Notes what borders have to do with a call, before it is made.
+    fn note_borders(&self, call: &Call, refusal: Option<u32>, tally: &mut Tally) {
+        match (*call, refusal) {
+            (Call::Borders { first, second, third }, None) => {
+                tally.note(if self.borders == FIRST_BORDERS {
+                    "borders: set in place of 1,024, 2,048 and 3,072"
+                } else {
+                    "borders: set in place of others"
+                });
+                if self.clock > 0 {
+                    tally.note("borders: set after a tick");
+                }
+                let ends = [0, first, second, third, 4096];
+                match ends.windows(2).filter(|pair| pair[0] == pair[1]).count() {
+                    0 => {}
+                    3 => tally.note("borders: every page in one class"),
+                    _ => tally.note("borders: an empty class"),
+                }
+            }
+            (Call::Borders { .. }, Some(19)) if self.begun => {
+                tally.note("borders: refused 19 after a begin");
+            }
+            (Call::Borders { .. }, Some(20)) if self.every_row_free() => {
+                tally.note("borders: refused 20 with every row free");
+            }
+            (Call::Begin { .. }, None) if !self.begun && self.borders != FIRST_BORDERS => {
+                tally.note("begin: the first, under set borders");
+            }
+            (Call::Request { level, page, mode, .. }, None | Some(13 | 14)) => {
+                let mode = if mode == 0 { Mode::Read } else { Mode::Write };
+                let before = allowed(FIRST_BORDERS, level.into(), page.into(), mode);
+                match refusal {
+                    Some(13) if before => tally.note("request: refused 13 by set borders alone"),
+                    Some(14) if before => tally.note("request: refused 14 by set borders alone"),
+                    None if !before => tally.note("request: let in by set borders alone"),
+                    _ => {}
+                }
+            }
+            _ => {}
+        }
     }
 
     fn accepted(&mut self, call: &Call, tally: &mut Tally) -> Outcome {
@@ -336,6 +440,7 @@ impl State {
                 }
                 let row = self.rows.get_mut(&id(level, row)).unwrap();
                 *row = Row { condition: Condition::Idle, deadline: deadline.into() };
+                self.begun = true;
                 Outcome::said(BEGUN, 0)
             }
             Call::Request { level, row, page, mode } => {
@@ -372,6 +477,10 @@ impl State {
             Call::View { level, page } => self.view(level.into(), page.into()),
             Call::Count { level } => {
                 Outcome::said(OPEN, (0..self.slots).filter(|s| self.open(level.into(), *s)).count() as u64)
+            }
+            Call::Borders { first, second, third } => {
+                self.borders = [first, second, third].map(u64::from);
+                Outcome::said(BORDERS, 0)
             }
         }
     }
@@ -766,6 +875,10 @@ impl State {
 
 // The bytes of docs/LAYOUT.md.
 
+pub const LAYOUT_VERSION: u64 = 2;
+pub const BORDERS_AT: usize = 40;
+pub const BEGUN_AT: usize = 64;
+pub const HEADER_END: usize = 72;
 pub const ROWS_AT: usize = 512;
 pub const SLOTS_AT: usize = 2_560;
 pub const HOLDINGS_AT: usize = 6_656;
@@ -803,10 +916,14 @@ impl State {
     pub fn bytes(&self) -> Vec<u8> {
         let mut bytes = vec![0; SIZE];
         bytes[0..8].copy_from_slice(b"SABREBUF");
-        set_word(&mut bytes, 8, 1);
+        set_word(&mut bytes, 8, LAYOUT_VERSION);
         set_word(&mut bytes, 16, self.slots);
         set_word(&mut bytes, 24, self.delay);
         set_word(&mut bytes, 32, self.clock);
+        for (at, border) in self.borders.iter().enumerate() {
+            set_word(&mut bytes, BORDERS_AT + 8 * at, *border);
+        }
+        set_word(&mut bytes, BEGUN_AT, self.begun as u64);
         for (id, row) in &self.rows {
             let at = row_at(*id);
             let (condition, number, mode) = match row.condition {
@@ -851,13 +968,15 @@ impl State {
 pub const LENGTH: &str = "length";
 pub const MARK: &str = "mark";
 pub const VERSION: &str = "version";
-pub const UNUSED_HEADER: &str = "unused bytes after the clock";
+pub const UNUSED_HEADER: &str = "unused bytes after the begun mark";
 pub const UNUSED_ROW: &str = "unused bytes of a row";
 pub const UNUSED_SLOT: &str = "unused bytes of a slot";
 pub const UNUSED_TAIL: &str = "unused bytes at the end";
 pub const SLOTS_RANGE: &str = "slots 1 to 64";
 pub const DELAY_RANGE: &str = "delay 1 to 255";
 pub const CLOCK_RANGE: &str = "clock at most 4,000,000,000";
+pub const BORDER_RANGE: &str = "borders at most 4,096";
+pub const BEGUN_RANGE: &str = "the begun mark";
 pub const CONDITION_RANGE: &str = "a row's condition";
 pub const DUE_RANGE: &str = "a due tick is a 32-bit number";
 pub const DEADLINE_RANGE: &str = "a deadline is a 32-bit number";
@@ -872,6 +991,9 @@ pub const LOWEST_RANGE: &str = "a slot's lowest level";
 pub const SLOT_ZERO: &str = "an empty slot is zero";
 pub const PIN_RANGE: &str = "a holding's pin";
 pub const HOLDING_ZERO: &str = "an empty holding is zero";
+pub const BORDERS_FALL: &str = "the borders do not fall";
+pub const ROWS_BEFORE: &str = "before a begin every row is free";
+pub const SLOTS_BEFORE: &str = "before a begin every slot is empty";
 pub const PAST_EMPTY: &str = "slots past the number started with are empty";
 pub const ONE_SLOT: &str = "no page in two slots";
 pub const LIVE_HOLDER: &str = "holdings only of live rows";
@@ -895,11 +1017,12 @@ pub const WAIT_ALLOWED: &str = "a waiting row's mode is allowed for its page";
 /// of a holding, so a due tick out of range always breaks another clause too.
 pub const CLAUSES: &[&str] = &[
     MARK, VERSION, UNUSED_HEADER, UNUSED_ROW, UNUSED_SLOT, UNUSED_TAIL, SLOTS_RANGE, DELAY_RANGE,
-    CLOCK_RANGE, CONDITION_RANGE, DEADLINE_RANGE, WAIT_PAGE_RANGE, WAIT_MODE_RANGE, ROW_ZERO,
-    ROW_SPARE, FILLED_RANGE, PAGE_RANGE, DIRTY_RANGE, LOWEST_RANGE, SLOT_ZERO, PIN_RANGE,
-    HOLDING_ZERO, PAST_EMPTY, ONE_SLOT, LIVE_HOLDER, FILLED_HOLDING, ACCESS, CONFLICT,
-    ARRIVAL_LEAST, ARRIVAL_MOST, TOUCH_MOST, SLOT_TOUCH, HOLDER_LEVEL, SLOT_ARRIVAL, DEADLINE,
-    FETCH_DUE, FETCH_PIN, FETCH_OTHERS, ARRIVED, WAIT_ALLOWED,
+    CLOCK_RANGE, BORDER_RANGE, BEGUN_RANGE, CONDITION_RANGE, DEADLINE_RANGE, WAIT_PAGE_RANGE,
+    WAIT_MODE_RANGE, ROW_ZERO, ROW_SPARE, FILLED_RANGE, PAGE_RANGE, DIRTY_RANGE, LOWEST_RANGE,
+    SLOT_ZERO, PIN_RANGE, HOLDING_ZERO, BORDERS_FALL, ROWS_BEFORE, SLOTS_BEFORE, PAST_EMPTY,
+    ONE_SLOT, LIVE_HOLDER, FILLED_HOLDING, ACCESS, CONFLICT, ARRIVAL_LEAST, ARRIVAL_MOST,
+    TOUCH_MOST, SLOT_TOUCH, HOLDER_LEVEL, SLOT_ARRIVAL, DEADLINE, FETCH_DUE, FETCH_PIN,
+    FETCH_OTHERS, ARRIVED, WAIT_ALLOWED,
 ];
 
 type Broken = BTreeSet<&'static str>;
@@ -926,6 +1049,8 @@ fn name(bytes: &[u8]) -> Result<State, Broken> {
     let mut broken = Broken::new();
     let mut state = State::fresh(word(bytes, 16), word(bytes, 24));
     state.clock = word(bytes, 32);
+    state.borders = [0, 1, 2].map(|at| word(bytes, BORDERS_AT + 8 * at));
+    state.begun = word(bytes, BEGUN_AT) == 1;
     if !(1..=64).contains(&state.slots) {
         broken.insert(SLOTS_RANGE);
     }
@@ -934,6 +1059,12 @@ fn name(bytes: &[u8]) -> Result<State, Broken> {
     }
     if state.clock > LAST_CLOCK {
         broken.insert(CLOCK_RANGE);
+    }
+    if exceed(state.borders) {
+        broken.insert(BORDER_RANGE);
+    }
+    if word(bytes, BEGUN_AT) > 1 {
+        broken.insert(BEGUN_RANGE);
     }
     for (id, row) in &mut state.rows {
         let at = row_at(*id);
@@ -1080,6 +1211,9 @@ impl State {
                 broken.insert(clause);
             }
         };
+        need(BORDERS_FALL, !fall(self.borders));
+        need(ROWS_BEFORE, self.begun || self.every_row_free());
+        need(SLOTS_BEFORE, self.begun || self.filled.is_empty());
         let last_arrival = self.clock + self.delay;
         let mut pages = BTreeSet::new();
         for (number, slot) in &self.filled {
@@ -1099,8 +1233,8 @@ impl State {
                 ACCESS,
                 match holding.pin {
                     Pin::None => true,
-                    Pin::Read => allowed(row.0, slot.page, Mode::Read),
-                    Pin::Write => allowed(row.0, slot.page, Mode::Write),
+                    Pin::Read => self.allowed(row.0, slot.page, Mode::Read),
+                    Pin::Write => self.allowed(row.0, slot.page, Mode::Write),
                 },
             );
             need(ARRIVAL_LEAST, holding.arrival >= slot.arrival);
@@ -1130,7 +1264,7 @@ impl State {
                 Condition::Idle => need(ARRIVED, ahead == 0),
                 Condition::Waiting { page, mode } => {
                     need(ARRIVED, ahead == 0);
-                    need(WAIT_ALLOWED, allowed(id.0, page, mode));
+                    need(WAIT_ALLOWED, self.allowed(id.0, page, mode));
                 }
                 Condition::Free | Condition::Killed(_) => {}
             }

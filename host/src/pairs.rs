@@ -1,5 +1,6 @@
 //! Demand 3 over pairs of runs: the calls of levels up to L and the ticks are the same in both, the
-//! calls of higher levels are not. What levels up to L are told must be the same.
+//! calls of higher levels and the borders set are not. Where both runs end with the same borders,
+//! what levels up to L are told must be the same.
 
 use crate::calls::*;
 use crate::lent::Lent;
@@ -9,7 +10,7 @@ use crate::scenario::Scenario;
 
 pub const PAIRS: u64 = 1_000;
 
-/// A tick, or a call made by level L or below. Starts are never kept.
+/// A tick, or a call made by level L or below. Starts and borders are never kept.
 fn kept(call: &Call, most: u64) -> bool {
     match call {
         Call::Tick => true,
@@ -22,7 +23,7 @@ fn restart(call: &Call) -> bool {
     matches!(call, Call::Start { slots: 1..=64, delay: 1..=255 })
 }
 
-/// What levels up to L are told over a run.
+/// What levels up to L are told.
 #[derive(PartialEq, Debug)]
 enum Told {
     Answer(Call, (u32, u64, u64)),
@@ -41,9 +42,11 @@ struct Side<'a> {
     /// Rows up to L whose look would be fetch or wait, by the answers they got.
     pending: Vec<(u64, u64)>,
     clock: u64,
+    /// What they were told since it was last compared.
     told: Vec<Told>,
-    higher: u64,
-    higher_accepted: u64,
+    /// Calls that are not kept, borders apart: all, and those accepted.
+    higher: [u64; 2],
+    borders: [u64; 2],
 }
 
 impl<'a> Side<'a> {
@@ -59,8 +62,8 @@ impl<'a> Side<'a> {
             pending: Vec::new(),
             clock: 0,
             told: Vec::new(),
-            higher: 0,
-            higher_accepted: 0,
+            higher: [0; 2],
+            borders: [0; 2],
         }
     }
 
@@ -76,8 +79,12 @@ impl<'a> Side<'a> {
         self.state.call(call, &mut Tally::default());
         if !kept(call, self.most) {
             let outcome = self.ask(*call);
-            self.higher += 1;
-            self.higher_accepted += (outcome.status == 0) as u64;
+            let calls = match call {
+                Call::Borders { .. } => &mut self.borders,
+                _ => &mut self.higher,
+            };
+            calls[0] += 1;
+            calls[1] += (outcome.status == 0) as u64;
             return;
         }
         let mut fetching_or_waiting = Vec::new();
@@ -112,6 +119,22 @@ impl<'a> Side<'a> {
         }
     }
 
+    /// Sets the borders that both runs are to end with, unless it is too late or not needed.
+    fn aim(&mut self, borders: [u64; 3]) {
+        if !self.state.begun && self.state.borders != borders {
+            let [first, second, third] = borders.map(|border| border as u32);
+            self.make(&Call::Borders { first, second, third });
+        }
+    }
+
+    /// Makes a call, after the borders aimed at if the run may begin with it, most of the time.
+    fn make_aimed(&mut self, random: &mut Random, call: &Call, borders: [u64; 3]) {
+        if matches!(call, Call::Begin { .. }) && random.percent(95) {
+            self.aim(borders);
+        }
+        self.make(call);
+    }
+
     /// Every look, some views and every count that levels up to L can make now.
     fn afterwards(&mut self, pages: &[u32]) {
         for level in 0..=self.most as u32 {
@@ -131,7 +154,7 @@ impl<'a> Side<'a> {
     }
 }
 
-/// A call that is not kept: by a higher level, by a level above 3, or a refused start.
+/// A call that is not kept: by a higher level, by a level above 3, a refused start, or borders.
 fn higher_call(random: &mut Random, scenario: &Scenario, state: &State, most: u64) -> Call {
     let levels: Vec<u64> = if most == 3 { vec![4, 5] } else { (most + 1..4).collect() };
     loop {
@@ -153,17 +176,25 @@ fn higher_call(random: &mut Random, scenario: &Scenario, state: &State, most: u6
     }
 }
 
+/// In what the two runs differed after a kept call.
+const DIFFERENCES: [&str; 4] = ["areas", "slots of pages", "borders", "whether a row has begun"];
+
 #[derive(Default)]
 struct Found {
+    compared: u64,
+    /// Pairs that ended with other borders, and those of them that were told something else.
+    apart: u64,
+    apart_told: u64,
     kept: u64,
-    higher: u64,
-    higher_accepted: u64,
+    higher: [u64; 2],
+    borders: [u64; 2],
     deliveries: u64,
     waits: u64,
     killed: u64,
     after: u64,
-    areas_differ: u64,
-    slots_differ: u64,
+    /// Kept calls after which the runs differed, as `DIFFERENCES` has them, and pairs with such.
+    differed: [u64; 4],
+    pairs_differed: [u64; 4],
 }
 
 fn pair(manager: &Manager, seed: u64, number: u64, found: &mut Found) -> Result<(), String> {
@@ -172,6 +203,7 @@ fn pair(manager: &Manager, seed: u64, number: u64, found: &mut Found) -> Result<
     let most = random.pick(&[0, 0, 1, 1, 1, 2, 2, 2, 2, 3]);
     let slots = random.pick(&[1, 1, 2, 2, 2, 3, 3, 3, 5, 5, 8, 16]);
     let scenario = Scenario::with_slots(slots, random);
+    let borders = scenario.borders;
     let mut pages = scenario.pages.clone();
     pages.truncate(8);
     pages.push(random.below(4096) as u32);
@@ -182,69 +214,105 @@ fn pair(manager: &Manager, seed: u64, number: u64, found: &mut Found) -> Result<
     // How the second run's higher calls come from the first's: all gone, all new, or some of each.
     let (removed, changed, added) = random.pick(&[(100, 0, 0), (100, 0, 60), (30, 30, 20), (10, 5, 5)]);
     let ask_often = random.pick(&[10, 40, 100]);
+    // So many steps pass before a level up to L begins.
+    let opening = random.pick(&[0, 0, 10, 40]);
     let mut kept_calls = 0;
     let mut made = 0;
+    let mut differed = [0; 4];
+    let mut difference = None;
+    let mut told = Vec::new();
     let length = random.between(40, 220);
     while kept_calls < length {
         made += 1;
         if random.percent(first_share) {
             let call = higher_call(random, &scenario, &first.state, most);
-            first.make(&call);
+            first.make_aimed(random, &call, borders);
             if !random.percent(removed) {
                 let call = if random.percent(changed) {
                     higher_call(random, &scenario, &second.state, most)
                 } else {
                     call
                 };
-                second.make(&call);
+                second.make_aimed(random, &call, borders);
             }
         } else {
             if random.percent(added) {
                 for _ in 0..random.between(1, 6) {
                     let call = higher_call(random, &scenario, &second.state, most);
-                    second.make(&call);
+                    second.make_aimed(random, &call, borders);
                 }
             }
             let call = scenario.call(random, &first.state, &low);
             if !kept(&call, most) {
                 if !restart(&call) {
-                    first.make(&call);
+                    let side = if random.percent(50) { &mut first } else { &mut second };
+                    side.make(&call);
                 }
                 continue;
             }
+            if made <= opening && matches!(call, Call::Begin { .. }) {
+                continue;
+            }
             kept_calls += 1;
-            let fresh_from = first.told.len();
-            first.make(&call);
-            second.make(&call);
+            first.make_aimed(random, &call, borders);
+            second.make_aimed(random, &call, borders);
+            if kept_calls == length && random.percent(95) {
+                first.aim(borders);
+                second.aim(borders);
+            }
             if random.one_in(ask_often) || kept_calls == length {
                 first.afterwards(&pages);
                 second.afterwards(&pages);
             }
-            let (one, other) = (&first.told[fresh_from..], &second.told[fresh_from..]);
-            if one != other {
-                let text = match one.iter().zip(other).find(|(a, b)| a != b) {
+            let (one, other) = (std::mem::take(&mut first.told), std::mem::take(&mut second.told));
+            if difference.is_none() && one != other {
+                let text = match one.iter().zip(&other).find(|(a, b)| a != b) {
                     Some((a, b)) => format!("{a:?} in one run, {b:?} in the other"),
                     None => format!("{one:?} in one run, {other:?} in the other"),
                 };
-                return Err(format!(
-                    "seed {seed}, pair {number}, level {most}, step {made}, kept call {kept_calls}: {text}"
-                ));
+                difference = Some(format!("step {made}, kept call {kept_calls}: {text}"));
             }
-            if first.lent.state_bytes() != second.lent.state_bytes() {
-                found.areas_differ += 1;
-                let places = |state: &State| -> Vec<Option<u64>> {
-                    scenario.pages.iter().map(|page| state.slot_of((*page).into())).collect()
-                };
-                found.slots_differ += (places(&first.state) != places(&second.state)) as u64;
+            // The runs up to here are a pair too.
+            if first.state.borders == second.state.borders {
+                if let Some(text) = difference {
+                    return Err(format!("seed {seed}, pair {number}, level {most}, {text}"));
+                }
+            }
+            told.extend(one);
+            let places = |state: &State| -> Vec<Option<u64>> {
+                scenario.pages.iter().map(|page| state.slot_of((*page).into())).collect()
+            };
+            let now = [
+                first.lent.state_bytes() != second.lent.state_bytes(),
+                places(&first.state) != places(&second.state),
+                first.state.borders != second.state.borders,
+                first.state.begun != second.state.begun,
+            ];
+            for (times, now) in differed.iter_mut().zip(now) {
+                *times += now as u64;
             }
         }
     }
     first.lent.guards()?;
     second.lent.guards()?;
+    if first.state.borders != second.state.borders {
+        found.apart += 1;
+        found.apart_told += difference.is_some() as u64;
+        return Ok(());
+    }
+    found.compared += 1;
     found.kept += kept_calls;
-    found.higher += first.higher + second.higher;
-    found.higher_accepted += first.higher_accepted + second.higher_accepted;
-    for told in &first.told {
+    for side in [&first, &second] {
+        for at in 0..2 {
+            found.higher[at] += side.higher[at];
+            found.borders[at] += side.borders[at];
+        }
+    }
+    for at in 0..DIFFERENCES.len() {
+        found.differed[at] += differed[at];
+        found.pairs_differed[at] += (differed[at] > 0) as u64;
+    }
+    for told in &told {
         match told {
             Told::Answer(_, (_, word, _)) => found.waits += (*word == WAIT) as u64,
             Told::Delivery(..) => found.deliveries += 1,
@@ -264,18 +332,28 @@ pub fn pairs(manager: &Manager, number: u64, seed: u64) -> Result<(), String> {
         pair(manager, seed, at, &mut found).map_err(|text| format!("pairs: {text}"))?;
     }
     println!(
-        "  {} kept calls answered alike, beside {} higher calls ({} accepted)",
-        found.kept, found.higher, found.higher_accepted
+        "  {} pairs ended with the same borders; {} did not, {} of these were told something else",
+        found.compared, found.apart, found.apart_told
+    );
+    println!(
+        "  {} kept calls answered alike, beside {} higher calls ({} accepted) and {} of borders ({} accepted)",
+        found.kept, found.higher[0], found.higher[1], found.borders[0], found.borders[1]
     );
     println!(
         "  {} deliveries, {} waits, {} looks, views and counts afterwards ({} of them taken)",
         found.deliveries, found.waits, found.after, found.killed
     );
-    println!(
-        "  after {} kept calls the two areas differed, after {} of them pages lay in different slots",
-        found.areas_differ, found.slots_differ
-    );
-    if number >= 100 && (found.deliveries == 0 || found.waits == 0 || found.slots_differ == 0) {
+    for (at, name) in DIFFERENCES.iter().enumerate() {
+        println!(
+            "  after {} kept calls, in {} pairs, the two runs differed in {name}",
+            found.differed[at], found.pairs_differed[at]
+        );
+    }
+    let little = found.compared < number * 3 / 4
+        || found.deliveries == 0
+        || found.waits == 0
+        || found.pairs_differed.iter().any(|pairs| *pairs < number / 20);
+    if number >= 100 && little {
         return Err(format!("pairs: seed {seed}: the runs say nothing"));
     }
     Ok(())

@@ -19,6 +19,7 @@ const TICK: u8 = 6;
 const LOOK: u8 = 7;
 const VIEW: u8 = 8;
 const COUNT: u8 = 9;
+const BORDERS: u8 = 10;
 
 /// The call of a record, or nothing for a wrong mark, another kind or a cut record.
 fn call_of(record: &[u8]) -> Option<Call> {
@@ -39,6 +40,7 @@ fn call_of(record: &[u8]) -> Option<Call> {
         LOOK => Call::Look { level, row },
         VIEW => Call::View { level, page },
         COUNT => Call::Count { level },
+        BORDERS => Call::Borders { first: page, second: value >> 16, third: value & 0xFFFF },
         _ => return None,
     })
 }
@@ -86,6 +88,7 @@ pub fn record_of(call: &Call, unused: [u8; RECORD]) -> Option<[u8; RECORD]> {
         Call::Look { .. } => LOOK,
         Call::View { .. } => VIEW,
         Call::Count { .. } => COUNT,
+        Call::Borders { .. } => BORDERS,
     };
     if let Some(level) = call.level() {
         record[3] = level.try_into().ok()?;
@@ -102,6 +105,12 @@ pub fn record_of(call: &Call, unused: [u8; RECORD]) -> Option<[u8; RECORD]> {
             record[8..12].copy_from_slice(&delay.to_be_bytes());
         }
         Call::Begin { deadline, .. } => record[8..12].copy_from_slice(&deadline.to_be_bytes()),
+        Call::Borders { first, second, third } => {
+            for (at, border) in [first, second, third].into_iter().enumerate() {
+                let half = u16::try_from(border).ok()?.to_be_bytes();
+                record[6 + 2 * at..8 + 2 * at].copy_from_slice(&half);
+            }
+        }
         Call::Request { mode, .. } => record[5] = mode.try_into().ok()?,
         _ => {}
     }
@@ -228,10 +237,12 @@ mod tests {
         // wrong mark
         assert_eq!(after_header(&[&[0x5A, 0xC3][..], &start[2..], &start].concat()), last);
         // other kind
-        assert_eq!(after_header(&[&[0xC3, 0x5A, 10][..], &start[3..], &start].concat()), last);
+        assert_eq!(after_header(&[&[0xC3, 0x5A, 11][..], &start[3..], &start].concat()), last);
         // another kind before an accepted start, even after a refused one
         let tick = record_of(&Call::Tick, [0; RECORD]).unwrap();
         assert_eq!(after_header(&[tick, start].concat()), last);
+        let borders = record_of(&Call::Borders { first: 1, second: 2, third: 3 }, [0; RECORD]).unwrap();
+        assert_eq!(after_header(&[borders, start].concat()), last);
         let bad_start = record_of(&Call::Start { slots: 65, delay: 1 }, [0; RECORD]).unwrap();
         assert_eq!(
             after_header(&[bad_start, tick, start].concat()),
@@ -251,11 +262,40 @@ mod tests {
     }
 
     #[test]
+    fn kind_10() {
+        let record = [0xC3, 0x5A, 10, 7, 8, 9, 0x01, 0x02, 0x03, 0x04, 0x05, 0x06];
+        let call = Call::Borders { first: 0x0102, second: 0x0304, third: 0x0506 };
+        assert_eq!(call_of(&record), Some(call));
+        assert_eq!(record_of(&call, record), Some(record));
+        assert_eq!(record_of(&Call::Borders { first: 1, second: 1 << 16, third: 0 }, record), None);
+        let calls = [
+            Call::Start { slots: 2, delay: 1 },
+            Call::Borders { first: 0, second: 4096, third: 4096 },
+            Call::Borders { first: 0, second: 4096, third: 4097 },
+            Call::Begin { level: 0, row: 0, deadline: 9 },
+            Call::Borders { first: 0, second: 0, third: 0 },
+            Call::Borders { first: 65_535, second: 0, third: 0 },
+            Call::Request { level: 0, row: 0, page: 0, mode: 0 },
+        ];
+        let answers =
+            ["started 0", "borders 0", "refused 19", "begun 0", "refused 20", "refused 19", "refused 13"];
+        let mut expected = format!("{HEADER}\n");
+        for (at, answer) in answers.iter().enumerate() {
+            expected += &format!("{} {answer} | - -\n", at + 1);
+        }
+        assert_eq!(play(&records(&calls, 0)), expected);
+        assert_eq!(play(&records(&calls, 0xFF)), expected);
+    }
+
+    #[test]
     fn records_play_through() {
         let bytes = random_records(2000, 5);
         assert_eq!(bytes.len(), 2000 * RECORD);
         let output = play(&bytes);
         assert_eq!(output.lines().count(), 2001);
         assert!(!output.contains("refused 18"));
+        for answer in [" borders 0 ", " refused 19 ", " refused 20 "] {
+            assert!(output.contains(answer), "{answer}");
+        }
     }
 }

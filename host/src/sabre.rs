@@ -14,10 +14,11 @@ mod c {
         pub fn sabre_look(area: *const u8, len: usize, level: u32, row: u32, answer: *mut u64) -> u32;
         pub fn sabre_view(area: *const u8, len: usize, level: u32, page: u32, answer: *mut u64) -> u32;
         pub fn sabre_count(area: *const u8, len: usize, level: u32, answer: *mut u64) -> u32;
+        pub fn sabre_borders(area: *mut u8, len: usize, first: u32, second: u32, third: u32, answer: *mut u64) -> u32;
     }
 }
 
-// Safety of all ten: the library is lent the slice by its address and length and the answer by the
+// Safety of all eleven: the library is lent the slice by its address and length and the answer by the
 // address of four numbers, for the time of the call.
 
 pub fn start(area: &mut [u8], slots: u32, delay: u32, answer: &mut [u64; 4]) -> u32 {
@@ -60,6 +61,10 @@ pub fn count(area: &[u8], level: u32, answer: &mut [u64; 4]) -> u32 {
     unsafe { c::sabre_count(area.as_ptr(), area.len(), level, answer.as_mut_ptr()) }
 }
 
+pub fn borders(area: &mut [u8], first: u32, second: u32, third: u32, answer: &mut [u64; 4]) -> u32 {
+    unsafe { c::sabre_borders(area.as_mut_ptr(), area.len(), first, second, third, answer.as_mut_ptr()) }
+}
+
 pub const LIBRARY: Manager = Manager {
     name: "library",
     start,
@@ -72,4 +77,5 @@ pub const LIBRARY: Manager = Manager {
     look,
     view,
     count,
+    borders,
 };

@@ -1,7 +1,7 @@
 //! Random calls that fit the state they meet, with wild numbers among them.
 
 use crate::calls::*;
-use crate::model::{allowed, Cause, Condition, Holding, Mode, Pin, Row, RowId, Slot, State};
+use crate::model::{Cause, Condition, Holding, Mode, Pin, Row, RowId, Slot, State, FIRST_BORDERS};
 use crate::random::Random;
 
 const WILD: &[u32] = &[
@@ -19,10 +19,40 @@ pub fn wild(random: &mut Random) -> u32 {
     }
 }
 
+/// Borders that do not fall and are at most 4,096.
+fn some_borders(random: &mut Random) -> [u64; 3] {
+    match random.below(8) {
+        0..=2 => FIRST_BORDERS,
+        3..=4 => random.pick(&[
+            // one class empty
+            [0, 2048, 3072],
+            [2048, 2048, 3072],
+            [1024, 3072, 3072],
+            [1024, 2048, 4096],
+            // every page in one class
+            [0, 0, 0],
+            [0, 0, 4096],
+            [0, 4096, 4096],
+            [4096, 4096, 4096],
+            // classes of one page
+            [1, 2, 3],
+            [4093, 4094, 4095],
+        ]),
+        _ => {
+            let most = random.pick(&[200, 4096, 4096]);
+            let mut borders = [0; 3].map(|_| random.below(most + 1));
+            borders.sort_unstable();
+            borders
+        }
+    }
+}
+
 /// What one run is made of.
 pub struct Scenario {
     pub slots: u32,
     pub delay: u32,
+    /// The borders that are set most often.
+    pub borders: [u64; 3],
     pub pages: Vec<u32>,
     pub length: u64,
     /// Row numbers below this are used.
@@ -32,7 +62,9 @@ pub struct Scenario {
     /// Writes among 100 requests.
     writes: u64,
     /// Weights of the calls, in the order of `KINDS`.
-    weights: [u64; 10],
+    weights: [u64; 11],
+    /// Calls that set borders, among 100 calls while every row is free, as before a begin.
+    early: u64,
     /// One number in so many is wild; 0 for none.
     wild: u64,
 }
@@ -53,6 +85,8 @@ impl Scenario {
 
     pub fn with_slots(slots: u64, random: &mut Random) -> Scenario {
         let delay = random.pick(&[1, 1, 1, 2, 2, 3, 4, 7, 20, 255]);
+        let borders = some_borders(random);
+        let ends = [0, borders[0], borders[1], borders[2], 4096];
         let extra = random.pick(&[1, 2, 3, slots / 2 + 1, slots + 1]);
         let number = (slots + extra).max(2);
         let spread = random.pick(&[1, 2, 4, 4, 4]);
@@ -60,13 +94,16 @@ impl Scenario {
         let mut pages = Vec::new();
         let border = random.percent(30);
         for place in 0..number {
-            let class = first + random.below(spread);
-            let within = if border && random.percent(40) {
-                random.pick(&[0, 1, 1022, 1023])
+            let class = (first + random.below(spread)) as usize;
+            let (low, width) = (ends[class], ends[class + 1] - ends[class]);
+            let page = if place >= width {
+                random.below(4096)
+            } else if border && random.percent(40) {
+                random.pick(&[low, low + width - 1])
             } else {
-                place + 5
+                low + place
             };
-            pages.push((1024 * class + within) as u32);
+            pages.push(page as u32);
         }
         let full = slots > 16;
         let busy = random.below(4);
@@ -81,10 +118,12 @@ impl Scenario {
             if busy == 0 { 1 } else { 5 },
             if busy == 0 { 1 } else { 6 },
             if busy == 0 { 1 } else { 4 },
+            1,
         ];
         Scenario {
             slots: slots as u32,
             delay,
+            borders,
             pages,
             length: if full { random.between(800, 4000) } else { random.between(60, 700) },
             rows: random.pick(&[1, 2, 3, 8, 8]),
@@ -95,6 +134,7 @@ impl Scenario {
             },
             writes: random.pick(&[5, 30, 50]),
             weights,
+            early: random.pick(&[0, 20, 50, 80]),
             wild: random.pick(&[0, 30, 100]),
         }
     }
@@ -162,8 +202,11 @@ impl Scenario {
         }
     }
 
-    /// A random call by one of these levels, or a tick or a start.
+    /// A random call by one of these levels, or one of the server's.
     pub fn call(&self, random: &mut Random, state: &State, levels: &[u64]) -> Call {
+        if state.every_row_free() && random.percent(self.early) {
+            return self.call_of_kind(random, 10, state, levels);
+        }
         let mut at = random.below(self.weights.iter().sum());
         let mut kind = 0;
         while at >= self.weights[kind] {
@@ -252,7 +295,7 @@ impl Scenario {
                 let mut mode = random.percent(self.writes) as u64;
                 if random.percent(94) {
                     let wanted = if mode == 0 { Mode::Read } else { Mode::Write };
-                    if !allowed(level, page, wanted) {
+                    if !state.allowed(level, page, wanted) {
                         mode = 1 - mode;
                     }
                 }
@@ -311,9 +354,20 @@ impl Scenario {
                 let page = self.page(random, state);
                 Call::View { level: self.tame(random, level), page: self.tame(random, page) }
             }
-            _ => {
+            9 => {
                 let level = random.pick(levels);
                 Call::Count { level: self.tame(random, level) }
+            }
+            _ => {
+                let mut borders = if random.percent(50) { self.borders } else { some_borders(random) };
+                match random.below(12) {
+                    0 => borders.swap(0, 1),
+                    1 => borders.swap(1, 2),
+                    2 => borders[2] = random.pick(&[4097, 4098, 8192, 65_535]),
+                    _ => {}
+                }
+                let [first, second, third] = borders.map(|border| self.tame(random, border));
+                Call::Borders { first, second, third }
             }
         }
     }
@@ -337,6 +391,11 @@ pub fn made_up(random: &mut Random) -> State {
         2 => random.below(LAST_CLOCK + 1),
         _ => random.below(40),
     };
+    state.borders = some_borders(random);
+    if random.one_in(12) {
+        return state;
+    }
+    state.begun = true;
     let clock = state.clock;
     let number = random.pick(&[slots, slots, slots, slots / 2]);
     let few_pages = random.percent(50);
@@ -390,9 +449,9 @@ pub fn made_up(random: &mut Random) -> State {
                 } else {
                     random.below(4096)
                 };
-                let mode = if allowed(id.0, page, Mode::Read) { Mode::Read } else { Mode::Write };
+                let mode = if state.allowed(id.0, page, Mode::Read) { Mode::Read } else { Mode::Write };
                 let mode = match random.below(2) {
-                    0 if allowed(id.0, page, Mode::Write) => Mode::Write,
+                    0 if state.allowed(id.0, page, Mode::Write) => Mode::Write,
                     _ => mode,
                 };
                 row.condition = Condition::Waiting { page, mode };
@@ -452,10 +511,10 @@ pub fn made_up(random: &mut Random) -> State {
 fn pins_left(state: &State, slot: u64, id: RowId, page: u64) -> Option<Vec<Pin>> {
     let pins: Vec<Pin> = state.holders(slot).iter().map(|(_, holding)| holding.pin).collect();
     let mut left = Vec::new();
-    if allowed(id.0, page, Mode::Read) && !pins.contains(&Pin::Write) {
+    if state.allowed(id.0, page, Mode::Read) && !pins.contains(&Pin::Write) {
         left.push(Pin::Read);
     }
-    if allowed(id.0, page, Mode::Write) && pins.iter().all(|pin| *pin == Pin::None) {
+    if state.allowed(id.0, page, Mode::Write) && pins.iter().all(|pin| *pin == Pin::None) {
         left.push(Pin::Write);
     }
     (!left.is_empty()).then_some(left)

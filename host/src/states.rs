@@ -2,12 +2,13 @@
 //! the measure of the stack.
 
 use crate::calls::*;
-use crate::model::{self, allowed, Condition, Holding, Mode, Pin, Row, Slot, State, Tally};
+use crate::model::{self, Condition, Holding, Mode, Pin, Row, Slot, State, Tally};
 
 /// A state with so many filled slots and live rows. Slots are held by rows of several levels, the
 /// last slots by high levels alone; every eighth slot has a write pin, others have read pins.
 fn filled(slots: u64, filled: u64, rows: u64) -> State {
     let mut state = State::fresh(slots, 3);
+    state.begun = true;
     state.clock = 1000;
     let clock = state.clock;
     for level in 0..4 {
@@ -35,13 +36,13 @@ fn filled(slots: u64, filled: u64, rows: u64) -> State {
                     continue;
                 }
                 let pin = if slot % 8 == 7 {
-                    if !writer && allowed(level, page, Mode::Write) {
+                    if !writer && state.allowed(level, page, Mode::Write) {
                         writer = true;
                         Pin::Write
                     } else {
                         Pin::None
                     }
-                } else if (slot + number) % 2 == 0 && allowed(level, page, Mode::Read) {
+                } else if (slot + number) % 2 == 0 && state.allowed(level, page, Mode::Read) {
                     Pin::Read
                 } else {
                     Pin::None
@@ -58,7 +59,7 @@ fn filled(slots: u64, filled: u64, rows: u64) -> State {
         }
         let waiting = (level, rows - 1);
         let page = state.filled[&(filled / 3)].page;
-        let mode = if allowed(level, page, Mode::Read) { Mode::Read } else { Mode::Write };
+        let mode = if state.allowed(level, page, Mode::Read) { Mode::Read } else { Mode::Write };
         state.rows.get_mut(&waiting).unwrap().condition = Condition::Waiting { page, mode };
         let fetching = (level, rows - 2);
         let place = state
@@ -76,6 +77,7 @@ fn filled(slots: u64, filled: u64, rows: u64) -> State {
 
 pub fn states() -> Vec<(&'static str, State)> {
     let mut empty = State::fresh(64, 3);
+    empty.begun = true;
     empty.rows.insert((0, 0), Row { condition: Condition::Idle, deadline: 5000 });
     let list = vec![("empty", empty), ("half", filled(64, 32, 4)), ("full", filled(64, 64, 8))];
     for (name, state) in &list {
@@ -127,6 +129,7 @@ pub fn calls_on(state: &State) -> Vec<(String, Call)> {
         Call::Start { slots: 64, delay: 3 },
         Call::Start { slots: 65, delay: 3 },
         Call::Tick,
+        Call::Borders { first: 3900, second: 4000, third: 4090 },
     ];
     let mut pages: Vec<u32> = state.filled.values().map(|slot| slot.page as u32).collect();
     pages.extend([999, 1999, 2999, 3999]);
@@ -153,8 +156,8 @@ pub fn calls_on(state: &State) -> Vec<(String, Call)> {
         let mut tally = Tally::default();
         let outcome = state.clone().call(&call, &mut tally);
         let name = sort(&call, &outcome, &tally);
-        // One refusal that looks at the row and one that looks at the page are enough.
-        if outcome.status != 0 && !matches!((call.kind(), outcome.status), (0, 2) | (1, 8) | (2, 11) | (2, 13) | (4, 15)) {
+        // Refusals that look at the row, at the page and at the begun mark are enough.
+        if outcome.status != 0 && !matches!((call.kind(), outcome.status), (0, 2) | (1, 8) | (2, 11) | (2, 13) | (4, 15) | (10, 20)) {
             continue;
         }
         if !list.iter().any(|(other, _)| *other == name) {
@@ -165,7 +168,7 @@ pub fn calls_on(state: &State) -> Vec<(String, Call)> {
     list
 }
 
-/// States near these in which a sort occurs that they lack: a dormant slot, a last tick for all.
+/// States in which a sort occurs that these lack: a dormant slot, a last tick for all, no begin yet.
 pub fn more_states() -> Vec<(&'static str, State)> {
     let (_, full) = states().pop().unwrap();
     let mut dormant = full.clone();
@@ -181,7 +184,9 @@ pub fn more_states() -> Vec<(&'static str, State)> {
     for row in last.rows.values_mut() {
         row.deadline = last.clock;
     }
-    let list = vec![("full, three dormant", dormant), ("full, all late next", last)];
+    let fresh = State::fresh(64, 3);
+    let list =
+        vec![("full, three dormant", dormant), ("full, all late next", last), ("fresh", fresh)];
     for (name, state) in &list {
         let broken = state.broken();
         assert!(broken.is_empty(), "the state {name} is unsound: {broken:?}");

@@ -18,28 +18,31 @@ use Rattle.words.proofs.SpliceLaws.{spliced-middle, words-append}
 use Rattle.model.specs.declared.Row.{Row}
 use Rattle.model.specs.declared.Slot.{Slot}
 use Rattle.model.specs.declared.Holding.{Holding}
+use Rattle.model.specs.declared.Borders.{Borders}
+use Rattle.model.specs.declared.Setting.{Setting}
+use Rattle.model.specs.declared.Setting.the-variants.{Left, Begun, Set}
 use Rattle.model.specs.declared.State.{State}
 use Rattle.model.specs.declared.Change.{Change}
 use Rattle.model.specs.State.{freeRow, emptySlot, emptyHolding, withClock, withRows, withSlots}
-use Rattle.model.specs.Inner.Changed.{marked, holdingAfter, changed}
-use Rattle.area.specs.Layout.{mark, version, headerWords, rowWords, slotWords, holdingWords, encoded}
-use Rattle.area.specs.Inner.Writes.{rowDropped, rowsDropped}
+use Rattle.model.specs.Inner.Changed.{marked, holdingAfter, bordersAfter, changed, withSetting}
+use Rattle.area.specs.Layout.{mark, version, bit, headerWords, rowWords, slotWords, holdingWords, encoded}
+use Rattle.area.specs.Inner.Writes.{settingPut, rowDropped, rowsDropped}
 use Rattle.area.proofs.Elements.{header-wide, holding-wide}
 use Rattle.area.proofs.Pieces.{rowsBytes, slotsBytes, rows-long, slots-long, zeros-long}
 
 -- ---- one of six regions written over
 
 module _ (x₀ x₁ x₂ x₃ x₄ x₅ r : List ℕ) where
-  -- the end of the first
-  first-over : (p x y : List ℕ) (n : ℕ) → x₀ ≡ p ++ x → length p ≡ n → length x ≡ length y
-      → spliced ((x₀ ++ (x₁ ++ (x₂ ++ (x₃ ++ (x₄ ++ x₅))))) ++ r) n y ≡ ((p ++ y) ++ (x₁ ++ (x₂ ++ (x₃ ++ (x₄ ++ x₅))))) ++ r
-  first-over p x y n e l m =
-      let t = x₁ ++ (x₂ ++ (x₃ ++ (x₄ ++ x₅))) ++ r in
+  -- the middle of the first
+  first-over : (p x q y : List ℕ) (n : ℕ) → x₀ ≡ p ++ (x ++ q) → length p ≡ n → length x ≡ length y
+      → spliced ((x₀ ++ (x₁ ++ (x₂ ++ (x₃ ++ (x₄ ++ x₅))))) ++ r) n y ≡ ((p ++ (y ++ q)) ++ (x₁ ++ (x₂ ++ (x₃ ++ (x₄ ++ x₅))))) ++ r
+  first-over p x q y n e l m =
+      let t = q ++ (x₁ ++ (x₂ ++ (x₃ ++ (x₄ ++ x₅))) ++ r) in
       let a : (x₀ ++ (x₁ ++ (x₂ ++ (x₃ ++ (x₄ ++ x₅))))) ++ r ≡ p ++ (x ++ t) = rw e (simp append-assoc) in
-      let b : ((p ++ y) ++ (x₁ ++ (x₂ ++ (x₃ ++ (x₄ ++ x₅))))) ++ r ≡ p ++ (y ++ t) = simp append-assoc in
+      let b : ((p ++ (y ++ q)) ++ (x₁ ++ (x₂ ++ (x₃ ++ (x₄ ++ x₅))))) ++ r ≡ p ++ (y ++ t) = simp append-assoc in
       ap (λ (w : List ℕ). spliced w n y) a ∙ spliced-middle p x t y n l m ∙ sym b
 
-  module _ (e₀ : length x₀ ≡ 40) (e₁ : length x₁ ≡ 472) where
+  module _ (e₀ : length x₀ ≡ 72) (e₁ : length x₁ ≡ 440) where
     third-over : (y : List ℕ) → length x₂ ≡ length y
         → spliced ((x₀ ++ (x₁ ++ (x₂ ++ (x₃ ++ (x₄ ++ x₅))))) ++ r) 512 y ≡ (x₀ ++ (x₁ ++ (y ++ (x₃ ++ (x₄ ++ x₅))))) ++ r
     third-over y m =
@@ -73,40 +76,66 @@ module _ (x₀ x₁ x₂ x₃ x₄ x₅ r : List ℕ) where
 
 abbrev pub laid : State → (ℕ → Holding) → List ℕ
 laid s x =
-    wordBytes (headerWords s) ++ (zeroWords 59 ++ (rowsBytes s ++ (slotsBytes s ++ (joined 2048 (λ k. wordBytes (holdingWords (x k))) ++ zeroWords 1216))))
+    wordBytes (headerWords s) ++ (zeroWords 55 ++ (rowsBytes s ++ (slotsBytes s ++ (joined 2048 (λ k. wordBytes (holdingWords (x k))) ++ zeroWords 1216))))
 
 pub laid-same : (s : State) (x y : ℕ → Holding) → ((k : ℕ) → k < 2048 → x k ≡ y k) → laid s x ≡ laid s y
 laid-same s x y h =
-    ap (λ (b : List ℕ). wordBytes (headerWords s) ++ (zeroWords 59 ++ (rowsBytes s ++ (slotsBytes s ++ (b ++ zeroWords 1216)))))
+    ap (λ (b : List ℕ). wordBytes (headerWords s) ++ (zeroWords 55 ++ (rowsBytes s ++ (slotsBytes s ++ (b ++ zeroWords 1216)))))
     (joined-same 2048 (λ k. wordBytes (holdingWords (x k))) (λ k. wordBytes (holdingWords (y k))) (λ k b. ap (λ (z : Holding). wordBytes (holdingWords z)) (h k b)))
 
 held-wide : (x : ℕ → Holding) (k : ℕ) → length (wordBytes (holdingWords (x k))) ≡ 24
 held-wide x k = length-words (holdingWords (x k)) ∙ holding-wide (x k)
 
+-- a state with another clock, other borders and another mark that a row has begun
+abbrev withHeader : State → ℕ → Borders → Bool → State
+withHeader s clock b begun =
+    record { size = s .size; delay = s .delay; clock = clock; rows = s .rows; slots = s .slots; holdings = s .holdings; borders = b; begun = begun }
+
 module _ (s : State) (x : ℕ → Holding) (r : List ℕ) where
+  -- words v written over as many words u in the middle of the header
+  header-put : (clock : ℕ) (b : Borders) (begun : Bool) (p u v q : List ℕ) (n : ℕ)
+      → headerWords s ≡ p ++ (u ++ q) → headerWords (withHeader s clock b begun) ≡ p ++ (v ++ q) → length p * 8 ≡ n → length u ≡ length v
+      → spliced (laid s x ++ r) n (wordBytes v) ≡ laid (withHeader s clock b begun) x ++ r
+  header-put clock b begun p u v q n e f l m =
+      let h : (w : List ℕ) → wordBytes (p ++ (w ++ q)) ≡ wordBytes p ++ (wordBytes w ++ wordBytes q) =
+      λ w. words-append p (w ++ q) ∙ ap (λ (z : List ℕ). wordBytes p ++ z) (words-append w q) in
+      let holdings = joined 2048 (λ k. wordBytes (holdingWords (x k))) in
+      first-over (wordBytes (headerWords s)) (zeroWords 55) (rowsBytes s) (slotsBytes s) holdings (zeroWords 1216) r
+      (wordBytes p) (wordBytes u) (wordBytes q) (wordBytes v) n (ap wordBytes e ∙ h u) (length-words p ∙ l)
+      (length-words u ∙ ap (λ (k : ℕ). k * 8) m ∙ sym (length-words v))
+      ∙ ap (λ (w : List ℕ). (w ++ (zeroWords 55 ++ (rowsBytes s ++ (slotsBytes s ++ (holdings ++ zeroWords 1216))))) ++ r) (sym (ap wordBytes f ∙ h v))
+
   pub clock-put : (clock : ℕ) → spliced (laid s x ++ r) 32 (wordBytes (clock ∷ [])) ≡ laid (withClock s clock) x ++ r
   unfolding headerWords
   clock-put clock =
-      let p = wordBytes (mark ∷ version ∷ s .size ∷ s .delay ∷ []) in
-      let h : (t : ℕ) → wordBytes (mark ∷ version ∷ s .size ∷ s .delay ∷ t ∷ []) ≡ p ++ wordBytes (t ∷ []) =
-      λ t. words-append (mark ∷ version ∷ s .size ∷ s .delay ∷ []) (t ∷ []) in
-      let holdings = joined 2048 (λ k. wordBytes (holdingWords (x k))) in
-      first-over (wordBytes (headerWords s)) (zeroWords 59) (rowsBytes s) (slotsBytes s) holdings (zeroWords 1216) r
-      p (wordBytes (s .clock ∷ [])) (wordBytes (clock ∷ [])) 32 (h (s .clock)) (length-words (mark ∷ version ∷ s .size ∷ s .delay ∷ []))
-      (length-words (s .clock ∷ []) ∙ sym (length-words (clock ∷ [])))
-      ∙ ap (λ (b : List ℕ). (b ++ (zeroWords 59 ++ (rowsBytes s ++ (slotsBytes s ++ (holdings ++ zeroWords 1216))))) ++ r) (sym (h clock))
+      let b = s .borders in
+      header-put clock b (s .begun) (mark ∷ version ∷ s .size ∷ s .delay ∷ []) (s .clock ∷ []) (clock ∷ []) (b .first ∷ b .second ∷ b .third ∷ bit (s .begun) ∷ []) 32
+      refl refl refl refl
+
+  pub setting-put : (t : Setting) → settingPut t (laid s x ++ r) ≡ laid (withSetting s t) x ++ r
+  unfolding settingPut headerWords
+  setting-put Left = refl
+  setting-put Begun =
+      let b = s .borders in
+      header-put (s .clock) b true (mark ∷ version ∷ s .size ∷ s .delay ∷ s .clock ∷ b .first ∷ b .second ∷ b .third ∷ []) (bit (s .begun) ∷ []) (1 ∷ []) [] 64
+      refl refl refl refl
+  setting-put (Set first second third) =
+      let b = s .borders in
+      header-put (s .clock) (bordersAfter (Set first second third) b) (s .begun)
+      (mark ∷ version ∷ s .size ∷ s .delay ∷ s .clock ∷ []) (b .first ∷ b .second ∷ b .third ∷ []) (first ∷ second ∷ third ∷ []) (bit (s .begun) ∷ []) 40
+      refl refl refl refl
 
   pub rows-put : (rows : List Row) → spliced (laid s x ++ r) 512 (rowsBytes (withRows s rows)) ≡ laid (withRows s rows) x ++ r
   unfolding headerWords
   rows-put rows =
-      third-over (wordBytes (headerWords s)) (zeroWords 59) (rowsBytes s) (slotsBytes s) (joined 2048 (λ k. wordBytes (holdingWords (x k)))) (zeroWords 1216) r
-      (header-wide s) (zeros-long 59) (rowsBytes (withRows s rows)) (rows-long s ∙ sym (rows-long (withRows s rows)))
+      third-over (wordBytes (headerWords s)) (zeroWords 55) (rowsBytes s) (slotsBytes s) (joined 2048 (λ k. wordBytes (holdingWords (x k)))) (zeroWords 1216) r
+      (header-wide s) (zeros-long 55) (rowsBytes (withRows s rows)) (rows-long s ∙ sym (rows-long (withRows s rows)))
 
   pub slots-put : (slots : List Slot) → spliced (laid s x ++ r) 2560 (slotsBytes (withSlots s slots)) ≡ laid (withSlots s slots) x ++ r
   unfolding headerWords
   slots-put slots =
-      fourth-over (wordBytes (headerWords s)) (zeroWords 59) (rowsBytes s) (slotsBytes s) (joined 2048 (λ k. wordBytes (holdingWords (x k)))) (zeroWords 1216) r
-      (header-wide s) (zeros-long 59) (rows-long s) (slotsBytes (withSlots s slots)) (slots-long s ∙ sym (slots-long (withSlots s slots)))
+      fourth-over (wordBytes (headerWords s)) (zeroWords 55) (rowsBytes s) (slotsBytes s) (joined 2048 (λ k. wordBytes (holdingWords (x k)))) (zeroWords 1216) r
+      (header-wide s) (zeros-long 55) (rows-long s) (slotsBytes (withSlots s slots)) (slots-long s ∙ sym (slots-long (withSlots s slots)))
 
   -- m holdings from place i on
   pub held-put : (y : ℕ → Holding) (i m l : ℕ) → i + m + l ≡ 2048 → ((k : ℕ) → k < i → x k ≡ y k) → ((k : ℕ) → i + m ≤ k → x k ≡ y k)
@@ -119,12 +148,12 @@ module _ (s : State) (x : ℕ → Holding) (r : List ℕ) where
       let back : joined l (λ j. f x (i + m + j)) ≡ joined l (λ j. f y (i + m + j)) =
       joined-same l (λ j. f x (i + m + j)) (λ j. f y (i + m + j)) (λ j b. ap (λ (z : Holding). wordBytes (holdingWords z)) (high (i + m + j) (omega arith))) in
       let whole : joined i (f x) ++ (joined m (λ j. f y (i + j)) ++ joined l (λ j. f x (i + m + j))) ≡ joined 2048 (f y) = rw (front, back) (sym (split y)) in
-      fifth-over (wordBytes (headerWords s)) (zeroWords 59) (rowsBytes s) (slotsBytes s) (joined 2048 (f x)) (zeroWords 1216) r
-      (header-wide s) (zeros-long 59) (rows-long s) (slots-long s)
+      fifth-over (wordBytes (headerWords s)) (zeroWords 55) (rowsBytes s) (slotsBytes s) (joined 2048 (f x)) (zeroWords 1216) r
+      (header-wide s) (zeros-long 55) (rows-long s) (slots-long s)
       (joined i (f x)) (joined m (λ j. f x (i + j))) (joined l (λ j. f x (i + m + j))) (joined m (λ j. f y (i + j))) (i * 24) (split x)
       (length-joined 24 (f x) (held-wide x) i)
       (length-joined 24 (λ j. f x (i + j)) (λ j. held-wide x (i + j)) m ∙ sym (length-joined 24 (λ j. f y (i + j)) (λ j. held-wide y (i + j)) m))
-      ∙ ap (λ (b : List ℕ). (wordBytes (headerWords s) ++ (zeroWords 59 ++ (rowsBytes s ++ (slotsBytes s ++ (b ++ zeroWords 1216))))) ++ r) whole
+      ∙ ap (λ (b : List ℕ). (wordBytes (headerWords s) ++ (zeroWords 55 ++ (rowsBytes s ++ (slotsBytes s ++ (b ++ zeroWords 1216))))) ++ r) whole
 
 -- ---- the holdings of rows dropped
 
@@ -239,11 +268,12 @@ module _ (s : State) (r : List ℕ) where
 
 -- ---- all writes of a change
 
-module _ (s : State) (long : length (s .holdings) ≡ 2048) (c : Change) (r a a1 a2 a3 a4 : List ℕ) (e : encoded s ++ r ≡ a)
+module _ (s : State) (long : length (s .holdings) ≡ 2048) (c : Change) (r a a1 a2 a3 a4 a5 : List ℕ) (e : encoded s ++ r ≡ a)
     (e1 : a1 ≡ spliced a 32 (wordBytes (c .clock ∷ [])))
-    (e2 : a2 ≡ spliced a1 512 (joined 32 (λ i. wordBytes (rowWords (getD (c .rows) i freeRow)))))
-    (e3 : a3 ≡ spliced a2 2560 (joined 64 (λ i. wordBytes (slotWords (getD (c .slots) i emptySlot)))))
-    (e4 : a4 ≡ rowsDropped (marked (c .gone)) 32 a3) where
+    (e2 : a2 ≡ settingPut (c .setting) a1)
+    (e3 : a3 ≡ spliced a2 512 (joined 32 (λ i. wordBytes (rowWords (getD (c .rows) i freeRow)))))
+    (e4 : a4 ≡ spliced a3 2560 (joined 64 (λ i. wordBytes (slotWords (getD (c .slots) i emptySlot)))))
+    (e5 : a5 ≡ rowsDropped (marked (c .gone)) 32 a4) where
   abbrev was : ℕ → Holding
   was k = getD (s .holdings) k emptyHolding
 
@@ -251,16 +281,18 @@ module _ (s : State) (long : length (s .holdings) ≡ 2048) (c : Change) (r a a1
   old = rowsLeft (marked (c .gone)) was 32
 
   -- before the slot's holdings are written
-  dropped : a4 ≡ laid (changed s c) old ++ r
+  dropped : a5 ≡ laid (changed s c) old ++ r
   unfolding encoded changed headerWords
   dropped =
       let s1 = withClock s (c .clock) in
-      let s2 = withRows s1 (c .rows) in
-      let s3 = withSlots s2 (c .slots) in
+      let s2 = withSetting s1 (c .setting) in
+      let s3 = withRows s2 (c .rows) in
+      let s4 = withSlots s3 (c .slots) in
       let d1 : a1 ≡ laid s1 was ++ r = e1 ∙ ap (λ (w : List ℕ). spliced w 32 (wordBytes (c .clock ∷ []))) (sym e) ∙ clock-put s was r (c .clock) in
-      let d2 : a2 ≡ laid s2 was ++ r = e2 ∙ ap (λ (w : List ℕ). spliced w 512 (rowsBytes s2)) d1 ∙ rows-put s1 was r (c .rows) in
-      let d3 : a3 ≡ laid s3 was ++ r = e3 ∙ ap (λ (w : List ℕ). spliced w 2560 (slotsBytes s3)) d2 ∙ slots-put s2 was r (c .slots) in
-      e4 ∙ ap (rowsDropped (marked (c .gone)) 32) d3 ∙ rows-drop s3 r (marked (c .gone)) was 32 (omega arith)
+      let d2 : a2 ≡ laid s2 was ++ r = e2 ∙ ap (settingPut (c .setting)) d1 ∙ setting-put s1 was r (c .setting) in
+      let d3 : a3 ≡ laid s3 was ++ r = e3 ∙ ap (λ (w : List ℕ). spliced w 512 (rowsBytes s3)) d2 ∙ rows-put s2 was r (c .rows) in
+      let d4 : a4 ≡ laid s4 was ++ r = e4 ∙ ap (λ (w : List ℕ). spliced w 2560 (slotsBytes s4)) d3 ∙ slots-put s3 was r (c .slots) in
+      e5 ∙ ap (rowsDropped (marked (c .gone)) 32) d4 ∙ rows-drop s4 r (marked (c .gone)) was 32 (omega arith)
 
   holding-after : (k : ℕ) → k < 2048 → getD (each (holdingAfter c) (s .holdings)) k emptyHolding ≡ cond (eqb (k / 32) (c .slot)) (getD (c .held) (k % 32) emptyHolding) (old k)
   unfolding holdingAfter
@@ -272,13 +304,13 @@ module _ (s : State) (long : length (s .holdings) ≡ 2048) (c : Change) (r a a1
   encoded-after y h = ap (λ (w : List ℕ). w ++ r)
       (laid-same (changed s c) y (λ k. getD (each (holdingAfter c) (s .holdings)) k emptyHolding) (λ k b. h k b ∙ sym (holding-after k b)))
 
-  pub amended : (a5 : List ℕ) → c .slot < 64 → a5 ≡ spliced a4 (6656 + c .slot * 768) (joined 32 (λ row. wordBytes (holdingWords (getD (c .held) row emptyHolding))))
-      → a5 ≡ encoded (changed s c) ++ r
-  amended a5 b e5 =
-      e5
+  pub amended : (a6 : List ℕ) → c .slot < 64 → a6 ≡ spliced a5 (6656 + c .slot * 768) (joined 32 (λ row. wordBytes (holdingWords (getD (c .held) row emptyHolding))))
+      → a6 ≡ encoded (changed s c) ++ r
+  amended a6 b e6 =
+      e6
       ∙ ap (λ (w : List ℕ). spliced w (6656 + c .slot * 768) (joined 32 (λ row. wordBytes (holdingWords (getD (c .held) row emptyHolding))))) dropped
       ∙ slot-put (changed s c) r old (c .slot) (c .held) b
       ∙ encoded-after (λ k. cond (eqb (k / 32) (c .slot)) (getD (c .held) (k % 32) emptyHolding) (old k)) (λ k _. refl)
 
-  pub amended-rows : 64 ≤ c .slot → a4 ≡ encoded (changed s c) ++ r
+  pub amended-rows : 64 ≤ c .slot → a5 ≡ encoded (changed s c) ++ r
   amended-rows b = dropped ∙ encoded-after old (λ k h. rw (ne-eqb (k / 32) (c .slot) (λ q. omega arith)))

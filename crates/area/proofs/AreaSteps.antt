@@ -1,20 +1,20 @@
 -- What the parts of decode and of encode come to together.
 use mathlib.Core.Path.{_≡_, refl, _∙_, sym, ap}
-use mathlib.Core.Bool.{Bool, true, false, _&&_}
+use mathlib.Core.Bool.{Bool, true, false, not, _&&_}
 use mathlib.Core.List.{List, [], _∷_, _++_, append-assoc}
-use Prim.Native.Nat.{ℕ, _+_, _*_, _<_, _≤_}
+use Prim.Native.Nat.{ℕ, _+_, _≤_}
 use native.Mathlib.Omega.{arith}
+use lib.Dec.{eqb}
 use lib.ListN.{length, drop, replicate, length-append}
 use Rattle.seq.specs.Below.{allBelow}
 use Rattle.seq.proofs.BelowLaws.{all-more}
 use Rattle.words.specs.Bytes.{wordAt, hasWords, wordBytes, zeroWords, spliced}
 use Rattle.words.proofs.ByteLaws.{AllUnder}
 use Rattle.words.proofs.SpliceLaws.{spliced-more}
-use Rattle.model.specs.declared.Row.{Row}
-use Rattle.model.specs.declared.Slot.{Slot}
+use Rattle.model.specs.declared.Borders.{Borders}
 use Rattle.model.specs.declared.State.{State}
 use Rattle.model.specs.State.{emptyHoldings, fresh}
-use Rattle.area.specs.Layout.{mark, version, low, headerWords, decoded, encoded, exact}
+use Rattle.area.specs.Layout.{mark, version, bit, low, bordersFrom, headerWords, decoded, encoded, exact}
 use Rattle.area.specs.Inner.Exact.{exactRows, exactSlots, exactHoldings}
 use Rattle.area.proofs.Elements.{header-wide}
 use Rattle.area.proofs.Pieces.{rowsBytes, slotsBytes, holdingsBytes, rows-long, slots-long, holdings-long, zeros-long, exact-pieces}
@@ -39,12 +39,12 @@ reordered true true true x y z = rw (and-true-last z) (and-assoc x y z)
 reordered true true false x y z = rw (and-false-last z, and-false-last y, and-false-last x)
 
 pub exact-tests : (a : List ℕ) (f x y z p q g : Bool) → AllUnder 256 a → 65536 ≤ length a
-    → f ≡ hasWords a 0 (headerWords (decoded a)) && (hasWords a 40 (replicate 59 0) && hasWords a 55808 (replicate 1216 0))
+    → f ≡ hasWords a 0 (headerWords (decoded a)) && (hasWords a 72 (replicate 55 0) && hasWords a 55808 (replicate 1216 0))
     → x ≡ exactRows a → y ≡ exactSlots a → z ≡ exactHoldings a → p ≡ x && y → q ≡ f && p → g ≡ q && z → g ≡ exact a
 unfolding exactRows exactSlots exactHoldings
 exact-tests a f x y z p q g u l ef ex ey ez ep eq eg =
     let h = hasWords a 0 (headerWords (decoded a)) in
-    let w = hasWords a 40 (replicate 59 0) in
+    let w = hasWords a 72 (replicate 55 0) in
     let v = hasWords a 55808 (replicate 1216 0) in
     let m : g ≡ ((h && (w && v)) && (exactRows a && exactSlots a)) && exactHoldings a = rw (← ef, ← ex, ← ey, ← ez, ← ep, ← eq) eg in
     m ∙ reordered h w v (exactRows a) (exactSlots a) (exactHoldings a) ∙ sym (exact-pieces a u l)
@@ -60,16 +60,19 @@ fresh-holdings s size delay e = λ i. e i .holdings
 
 -- the state that decode builds
 pub decode-state : (a : List ℕ) (s : State) → s .size ≡ wordAt a 16 → s .delay ≡ low (wordAt a 24) → s .clock ≡ low (wordAt a 32)
-    → s .rows ≡ decoded a .rows → s .slots ≡ decoded a .slots → s .holdings ≡ decoded a .holdings → s ≡ decoded a
+    → s .rows ≡ decoded a .rows → s .slots ≡ decoded a .slots → s .holdings ≡ decoded a .holdings
+    → s .borders ≡ bordersFrom a → s .begun ≡ not (eqb (wordAt a 64) 0) → s ≡ decoded a
 unfolding decoded
-decode-state a s e1 e2 e3 e4 e5 e6 = λ i. record { size = e1 i; delay = e2 i; clock = e3 i; rows = e4 i; slots = e5 i; holdings = e6 i }
+decode-state a s e1 e2 e3 e4 e5 e6 e7 e8 =
+    λ i. record { size = e1 i; delay = e2 i; clock = e3 i; rows = e4 i; slots = e5 i; holdings = e6 i; borders = e7 i; begun = e8 i }
 
 -- the header of the state that an area names
-pub framed : (a : List ℕ) (size delay clock : ℕ) (f : Bool) → size ≡ wordAt a 16 → delay ≡ low (wordAt a 24) → clock ≡ low (wordAt a 32)
-    → f ≡ hasWords a 0 (mark ∷ version ∷ size ∷ delay ∷ clock ∷ []) && (hasWords a 40 (replicate 59 0) && hasWords a 55808 (replicate 1216 0))
-    → f ≡ hasWords a 0 (headerWords (decoded a)) && (hasWords a 40 (replicate 59 0) && hasWords a 55808 (replicate 1216 0))
+pub framed : (a : List ℕ) (size delay clock : ℕ) (b : Borders) (begun f : Bool) → size ≡ wordAt a 16 → delay ≡ low (wordAt a 24) → clock ≡ low (wordAt a 32)
+    → b ≡ bordersFrom a → begun ≡ not (eqb (wordAt a 64) 0)
+    → f ≡ hasWords a 0 (mark ∷ version ∷ size ∷ delay ∷ clock ∷ b .first ∷ b .second ∷ b .third ∷ bit begun ∷ []) && (hasWords a 72 (replicate 55 0) && hasWords a 55808 (replicate 1216 0))
+    → f ≡ hasWords a 0 (headerWords (decoded a)) && (hasWords a 72 (replicate 55 0) && hasWords a 55808 (replicate 1216 0))
 unfolding headerWords decoded
-framed a size delay clock f e1 e2 e3 e = rw (← e1, ← e2, ← e3) e
+framed a size delay clock b begun f e1 e2 e3 e4 e5 e = rw (← e1, ← e2, ← e3, ← e4, ← e5) e
 
 -- six lists written one after another from the front
 pub six : (a a1 a2 a3 a4 a5 a6 p1 p2 p3 p4 p5 p6 : List ℕ) (n1 n2 n3 n4 n5 n6 : ℕ)
@@ -93,13 +96,13 @@ six a a1 a2 a3 a4 a5 a6 p1 p2 p3 p4 p5 p6 n1 n2 n3 n4 n5 n6 l1 l2 l3 l4 l5 l6 h 
     let d : 0 + length (p1 ++ p2 ++ p3 ++ p4 ++ p5 ++ p6) ≡ n6 = omega (arith, m6) in
     f6 ∙ ap (λ (m : ℕ). p1 ++ p2 ++ p3 ++ p4 ++ p5 ++ p6 ++ drop m a) d ∙ ap (λ (z : List ℕ). z ++ drop n6 a) joined
 
-pub encode-steps : (s : State) (a a1 a2 a3 a4 a5 a6 hw : List ℕ) → 65536 ≤ length a → hw ≡ mark ∷ version ∷ s .size ∷ s .delay ∷ s .clock ∷ []
-    → a1 ≡ spliced a 0 (wordBytes hw) → a2 ≡ spliced a1 40 (zeroWords 59) → a3 ≡ spliced a2 512 (rowsBytes s)
+pub encode-steps : (s : State) (a a1 a2 a3 a4 a5 a6 hw : List ℕ) → 65536 ≤ length a → hw ≡ headerWords s
+    → a1 ≡ spliced a 0 (wordBytes hw) → a2 ≡ spliced a1 72 (zeroWords 55) → a3 ≡ spliced a2 512 (rowsBytes s)
     → a4 ≡ spliced a3 2560 (slotsBytes s) → a5 ≡ spliced a4 6656 (holdingsBytes s) → a6 ≡ spliced a5 55808 (zeroWords 1216)
     → a6 ≡ encoded s ++ drop 65536 a
 unfolding encoded headerWords
 encode-steps s a a1 a2 a3 a4 a5 a6 hw h e e1 e2 e3 e4 e5 e6 =
-    six a a1 a2 a3 a4 a5 a6 (wordBytes (headerWords s)) (zeroWords 59) (rowsBytes s) (slotsBytes s) (holdingsBytes s) (zeroWords 1216)
-    40 512 2560 6656 55808 65536
-    (header-wide s) (omega (arith, zeros-long 59)) (omega (arith, rows-long s)) (omega (arith, slots-long s)) (omega (arith, holdings-long s)) (omega (arith, zeros-long 1216)) h
+    six a a1 a2 a3 a4 a5 a6 (wordBytes (headerWords s)) (zeroWords 55) (rowsBytes s) (slotsBytes s) (holdingsBytes s) (zeroWords 1216)
+    72 512 2560 6656 55808 65536
+    (header-wide s) (omega (arith, zeros-long 55)) (omega (arith, rows-long s)) (omega (arith, slots-long s)) (omega (arith, holdings-long s)) (omega (arith, zeros-long 1216)) h
     (e1 ∙ ap (λ (w : List ℕ). spliced a 0 (wordBytes w)) e) e2 e3 e4 e5 e6

@@ -30,12 +30,12 @@ use Rattle.model.specs.Parties.{modeOf, modeNumber}
 use Rattle.model.specs.State.{freeRow, emptySlot, emptyHolding, emptyHoldings, rowAt, slotAt}
 use Rattle.model.specs.Words.{isFilled, pageIn, arrivalIn, dirtyIn, lowestIn, strength}
 use Rattle.model.proofs.StateLaws.{Sized}
-use Rattle.model.proofs.Ranges.{ConditionOk, ContentOk, RowOk, SlotOk, HoldingOk, StateOk}
-use Rattle.area.specs.Layout.{headerWords, conditionNumber, awaited, waitingMode, rowWords, bit, slotWords, holdingWords, low, conditionOf, pinNumbered, contentOf, rowFrom, slotFrom, holdingFrom, freeRows, emptySlots, decoded}
+use Rattle.model.proofs.Ranges.{ConditionOk, ContentOk, RowOk, SlotOk, HoldingOk, BordersOk, StateOk}
+use Rattle.area.specs.Layout.{headerWords, conditionNumber, awaited, waitingMode, rowWords, bit, slotWords, holdingWords, low, conditionOf, pinNumbered, contentOf, rowFrom, slotFrom, holdingFrom, bordersFrom, freeRows, emptySlots, decoded}
 
 -- ---- how long they are
 
-pub header-wide : (s : State) → length (wordBytes (headerWords s)) ≡ 40
+pub header-wide : (s : State) → length (wordBytes (headerWords s)) ≡ 72
 unfolding headerWords
 header-wide s = length-words (headerWords s)
 
@@ -84,7 +84,10 @@ content-small (Filled page arrival dirty lowest) k = (omega (arith, k .0), omega
 
 pub header-small : (s : State) → StateOk s → AllUnder (2 ^ 64) (headerWords s)
 unfolding headerWords
-header-small s k = under-each (2 ^ 64) (lit< tt) (headerWords s) (lit< tt, (lit< tt, (k .size, (omega (arith, k .delay), (omega (arith, k .clock), tt)))))
+header-small s k =
+    let b = k .borders in
+    under-each (2 ^ 64) (lit< tt) (headerWords s)
+    (lit< tt, (lit< tt, (k .size, (omega (arith, k .delay), (omega (arith, k .clock), (omega (arith, b .first), (omega (arith, b .second), (omega (arith, b .third), (bit-small (s .begun), tt)))))))))
 
 pub row-small : (x : Row) → RowOk x → AllUnder (2 ^ 64) (rowWords x)
 unfolding rowWords
@@ -150,6 +153,10 @@ pub holding-from-ok : (a : List ℕ) (at : ℕ) → HoldingOk (holdingFrom a at)
 unfolding holdingFrom
 holding-from-ok a at = record { arrival = low-small (wordAt a (at + 8)); touch = low-small (wordAt a (at + 16)) }
 
+pub borders-from-ok : (a : List ℕ) → BordersOk (bordersFrom a)
+unfolding bordersFrom
+borders-from-ok a = record { first = low-small (wordAt a 40); second = low-small (wordAt a 48); third = low-small (wordAt a 56) }
+
 -- ---- what stands in the state that an area names
 
 -- what holds of each element of an array, and of the default, holds at every place
@@ -207,6 +214,7 @@ decoded-ok a u = record {
   row = decoded-row-ok a;
   slot = decoded-slot-ok a u;
   holding = decoded-holding-ok a;
+  borders = borders-from-ok a;
 }
 
 -- ---- what is written reads back
@@ -224,7 +232,7 @@ condition-back (Waiting page mode) k = λ i. Waiting (low-same page k i) (mode-b
 condition-back (Killed Late) k = refl
 condition-back (Killed Taken) k = refl
 
-bit-back : (b : Bool) → not (eqb (bit b) 0) ≡ b
+pub bit-back : (b : Bool) → not (eqb (bit b) 0) ≡ b
 bit-back true = refl
 bit-back false = refl
 
@@ -286,7 +294,7 @@ module _ (p r : List ℕ) (at : ℕ) (e : length p ≡ at) where
         touch = (ap low w2 ∙ low-same (h .touch) (k .touch)) i;
       }
 
--- the five words of the header
-pub header-back : (s : State) → StateOk s → (r : List ℕ) (j : ℕ) → j < 5 → wordAt (wordBytes (headerWords s) ++ r) (j * 8) ≡ getD (headerWords s) j 0
+-- the nine words of the header
+pub header-back : (s : State) → StateOk s → (r : List ℕ) (j : ℕ) → j < 9 → wordAt (wordBytes (headerWords s) ++ r) (j * 8) ≡ getD (headerWords s) j 0
 unfolding headerWords
 header-back s k r j b = word-back (headerWords s) r j b (header-small s k)

@@ -50,18 +50,18 @@ cut : (a x y : List ℕ) (at m n : ℕ) {b : Bool} → at + m ≤ length a → l
 cut a x y at m n h e f = same-cut a x y at m n h e ∙ rw f
 
 cut-six : (a x₀ x₁ x₂ x₃ x₄ x₅ : List ℕ) → 65536 ≤ length a
-    → length x₀ ≡ 40 → length x₁ ≡ 472 → length x₂ ≡ 2048 → length x₃ ≡ 4096 → length x₄ ≡ 49152
+    → length x₀ ≡ 72 → length x₁ ≡ 440 → length x₂ ≡ 2048 → length x₃ ≡ 4096 → length x₄ ≡ 49152
     → same (take 65536 a) (x₀ ++ (x₁ ++ (x₂ ++ (x₃ ++ (x₄ ++ x₅)))))
-    ≡ same (part a 0 40) x₀ && (same (part a 40 472) x₁ && (same (part a 512 2048) x₂ && (same (part a 2560 4096) x₃ && (same (part a 6656 49152) x₄ && same (part a 55808 9728) x₅))))
+    ≡ same (part a 0 72) x₀ && (same (part a 72 440) x₁ && (same (part a 512 2048) x₂ && (same (part a 2560 4096) x₃ && (same (part a 6656 49152) x₄ && same (part a 55808 9728) x₅))))
 cut-six a x₀ x₁ x₂ x₃ x₄ x₅ h e₀ e₁ e₂ e₃ e₄ =
-    cut a x₀ (x₁ ++ (x₂ ++ (x₃ ++ (x₄ ++ x₅)))) 0 40 65496 (omega arith) e₀
-    (cut a x₁ (x₂ ++ (x₃ ++ (x₄ ++ x₅))) 40 472 65024 (omega arith) e₁
+    cut a x₀ (x₁ ++ (x₂ ++ (x₃ ++ (x₄ ++ x₅)))) 0 72 65464 (omega arith) e₀
+    (cut a x₁ (x₂ ++ (x₃ ++ (x₄ ++ x₅))) 72 440 65024 (omega arith) e₁
     (cut a x₂ (x₃ ++ (x₄ ++ x₅)) 512 2048 62976 (omega arith) e₂
     (cut a x₃ (x₄ ++ x₅) 2560 4096 58880 (omega arith) e₃
     (cut a x₄ x₅ 6656 49152 9728 (omega arith) e₄ refl))))
 
 module _ (a : List ℕ) (bytes : AllUnder 256 a) (long : 65536 ≤ length a) where
-  header-piece : hasWords a 0 (headerWords (decoded a)) ≡ same (part a 0 40) (wordBytes (headerWords (decoded a)))
+  header-piece : hasWords a 0 (headerWords (decoded a)) ≡ same (part a 0 72) (wordBytes (headerWords (decoded a)))
   unfolding headerWords
   header-piece = has-words a (headerWords (decoded a)) 0 bytes (header-small (decoded a) (decoded-ok a bytes)) (omega arith)
 
@@ -88,7 +88,7 @@ module _ (a : List ℕ) (bytes : AllUnder 256 a) (long : 65536 ≤ length a) whe
       (λ k b. rw (decoded-holding a k b))
 
   pub exact-pieces : exact a
-      ≡ hasWords a 0 (headerWords (decoded a)) && (hasWords a 40 (replicate 59 0)
+      ≡ hasWords a 0 (headerWords (decoded a)) && (hasWords a 72 (replicate 55 0)
       && (allBelow 32 (λ row. hasWords a (512 + row * 64) (rowWords (rowFrom a (512 + row * 64))))
       && (allBelow 64 (λ slot. hasWords a (2560 + slot * 64) (slotWords (slotFrom a (2560 + slot * 64))))
       && (allBelow 2048 (λ k. hasWords a (6656 + k * 24) (holdingWords (holdingFrom a (6656 + k * 24))))
@@ -96,7 +96,7 @@ module _ (a : List ℕ) (bytes : AllUnder 256 a) (long : 65536 ≤ length a) whe
   unfolding exact encoded
   exact-pieces =
       let s = decoded a in
-      cut-six a (wordBytes (headerWords s)) (zeroWords 59) (rowsBytes s) (slotsBytes s) (holdingsBytes s) (zeroWords 1216) long
-      (header-wide s) (zeros-long 59) (rows-long s) (slots-long s) (holdings-long s)
-      ∙ and-same (sym header-piece) (and-same (sym (has-zeros a 40 59 bytes (omega arith)))
+      cut-six a (wordBytes (headerWords s)) (zeroWords 55) (rowsBytes s) (slotsBytes s) (holdingsBytes s) (zeroWords 1216) long
+      (header-wide s) (zeros-long 55) (rows-long s) (slots-long s) (holdings-long s)
+      ∙ and-same (sym header-piece) (and-same (sym (has-zeros a 72 55 bytes (omega arith)))
       (and-same rows-piece (and-same slots-piece (and-same holdings-piece (sym (has-zeros a 55808 1216 bytes (omega arith)))))))

@@ -1,10 +1,10 @@
 -- A state's bytes name that state again, and an area that is exact is the bytes of the state that it names.
 use mathlib.Core.Path.{_≡_, sym, ap, _∙_}
-use mathlib.Core.Bool.{true}
+use mathlib.Core.Bool.{true, not}
 use mathlib.Core.List.{List, [], _++_, append-assoc}
 use Prim.Native.Nat.{ℕ, _+_, _*_, _<_, _≤_}
 use native.Mathlib.Omega.{arith}
-use lib.Dec.{lit<}
+use lib.Dec.{eqb, lit<}
 use lib.ListN.{length, getD, take, drop, replicate, length-append, length-replicate, take-append-drop}
 use lib.Seq.{ext-getD, take-at}
 use Rattle.seq.specs.Each.{each}
@@ -18,22 +18,22 @@ use Rattle.model.specs.declared.Holding.{Holding}
 use Rattle.model.specs.declared.State.{State}
 use Rattle.model.specs.State.{freeRow, emptySlot, emptyHolding, emptyHoldings, rowAt, slotAt}
 use Rattle.model.proofs.Ranges.{StateOk}
-use Rattle.area.specs.Layout.{headerWords, rowWords, slotWords, holdingWords, encoded, low, rowFrom, slotFrom, holdingFrom, freeRows, emptySlots, decoded, exact}
-use Rattle.area.proofs.Elements.{header-wide, row-wide, slot-wide, holding-wide, low-same, row-back, slot-back, holding-back, header-back}
+use Rattle.area.specs.Layout.{headerWords, rowWords, slotWords, holdingWords, encoded, bit, low, rowFrom, slotFrom, holdingFrom, bordersFrom, freeRows, emptySlots, decoded, exact}
+use Rattle.area.proofs.Elements.{header-wide, row-wide, slot-wide, holding-wide, low-same, bit-back, row-back, slot-back, holding-back, header-back}
 use Rattle.area.proofs.Pieces.{rowsBytes, slotsBytes, holdingsBytes, rows-long, slots-long, holdings-long, zeros-long}
 
 -- ---- the bytes of a state
 
 six-long : (x₀ x₁ x₂ x₃ x₄ x₅ : List ℕ)
-    → length x₀ ≡ 40 → length x₁ ≡ 472 → length x₂ ≡ 2048 → length x₃ ≡ 4096 → length x₄ ≡ 49152 → length x₅ ≡ 9728
+    → length x₀ ≡ 72 → length x₁ ≡ 440 → length x₂ ≡ 2048 → length x₃ ≡ 4096 → length x₄ ≡ 49152 → length x₅ ≡ 9728
     → length (x₀ ++ (x₁ ++ (x₂ ++ (x₃ ++ (x₄ ++ x₅))))) ≡ 65536
 six-long x₀ x₁ x₂ x₃ x₄ x₅ e₀ e₁ e₂ e₃ e₄ e₅ = simp length-append (omega arith)
 
 pub encoded-long : (s : State) → length (encoded s) ≡ 65536
 unfolding encoded
 encoded-long s =
-    six-long (wordBytes (headerWords s)) (zeroWords 59) (rowsBytes s) (slotsBytes s) (holdingsBytes s) (zeroWords 1216)
-    (header-wide s) (zeros-long 59) (rows-long s) (slots-long s) (holdings-long s) (zeros-long 1216)
+    six-long (wordBytes (headerWords s)) (zeroWords 55) (rowsBytes s) (slotsBytes s) (holdingsBytes s) (zeroWords 1216)
+    (header-wide s) (zeros-long 55) (rows-long s) (slots-long s) (holdings-long s) (zeros-long 1216)
 
 pub encoded-under : (s : State) → AllUnder 256 (encoded s)
 unfolding encoded
@@ -41,8 +41,8 @@ encoded-under s =
     let rows = under-joined 256 (lit< tt) 32 (λ row. wordBytes (rowWords (rowAt s row))) (λ row. words-under (rowWords (rowAt s row))) in
     let slots = under-joined 256 (lit< tt) 64 (λ slot. wordBytes (slotWords (slotAt s slot))) (λ slot. words-under (slotWords (slotAt s slot))) in
     let holdings = under-joined 256 (lit< tt) 2048 (λ k. wordBytes (holdingWords (getD (s .holdings) k emptyHolding))) (λ k. words-under (holdingWords (getD (s .holdings) k emptyHolding))) in
-    under-append 256 (wordBytes (headerWords s)) (zeroWords 59 ++ (rowsBytes s ++ (slotsBytes s ++ (holdingsBytes s ++ zeroWords 1216)))) (words-under (headerWords s))
-    (under-append 256 (zeroWords 59) (rowsBytes s ++ (slotsBytes s ++ (holdingsBytes s ++ zeroWords 1216))) (words-under (replicate 59 0))
+    under-append 256 (wordBytes (headerWords s)) (zeroWords 55 ++ (rowsBytes s ++ (slotsBytes s ++ (holdingsBytes s ++ zeroWords 1216)))) (words-under (headerWords s))
+    (under-append 256 (zeroWords 55) (rowsBytes s ++ (slotsBytes s ++ (holdingsBytes s ++ zeroWords 1216))) (words-under (replicate 55 0))
     (under-append 256 (rowsBytes s) (slotsBytes s ++ (holdingsBytes s ++ zeroWords 1216)) rows
     (under-append 256 (slotsBytes s) (holdingsBytes s ++ zeroWords 1216) slots
     (under-append 256 (holdingsBytes s) (zeroWords 1216) holdings (words-under (replicate 1216 0))))))
@@ -76,53 +76,57 @@ module _ (s : State) (k : StateOk s) (r : List ℕ) where
   unfolding encoded
   row-there i b =
       let h = wordBytes (headerWords s) in
-      let e : length (h ++ zeroWords 59) ≡ 512 = length-append h (zeroWords 59) ∙ (λ j. header-wide s j + zeros-long 59 j) in
-      ap (λ (a : List ℕ). rowFrom a (512 + i * 64)) (before-third h (zeroWords 59) (rowsBytes s) (slotsBytes s) (holdingsBytes s) (zeroWords 1216) r)
+      let e : length (h ++ zeroWords 55) ≡ 512 = length-append h (zeroWords 55) ∙ (λ j. header-wide s j + zeros-long 55 j) in
+      ap (λ (a : List ℕ). rowFrom a (512 + i * 64)) (before-third h (zeroWords 55) (rowsBytes s) (slotsBytes s) (holdingsBytes s) (zeroWords 1216) r)
       ∙ piece-back 64 (λ row. wordBytes (rowWords (rowAt s row))) (λ row. length-words (rowWords (rowAt s row)) ∙ row-wide (rowAt s row)) rowFrom (rowAt s)
       (λ row p q at l. row-back p q at l (rowAt s row) (k .row row))
-      (h ++ zeroWords 59) (slotsBytes s ++ (holdingsBytes s ++ (zeroWords 1216 ++ r))) 512 32 i e b
+      (h ++ zeroWords 55) (slotsBytes s ++ (holdingsBytes s ++ (zeroWords 1216 ++ r))) 512 32 i e b
 
   slot-there : (i : ℕ) → i < 64 → slotFrom (encoded s ++ r) (2560 + i * 64) ≡ slotAt s i
   unfolding encoded
   slot-there i b =
       let h = wordBytes (headerWords s) in
-      let e : length (h ++ (zeroWords 59 ++ rowsBytes s)) ≡ 2560 =
-      length-append h (zeroWords 59 ++ rowsBytes s)
-      ∙ ap (λ (m : ℕ). length h + m) (length-append (zeroWords 59) (rowsBytes s))
-      ∙ (λ j. header-wide s j + (zeros-long 59 j + rows-long s j)) in
-      ap (λ (a : List ℕ). slotFrom a (2560 + i * 64)) (before-fourth h (zeroWords 59) (rowsBytes s) (slotsBytes s) (holdingsBytes s) (zeroWords 1216) r)
+      let e : length (h ++ (zeroWords 55 ++ rowsBytes s)) ≡ 2560 =
+      length-append h (zeroWords 55 ++ rowsBytes s)
+      ∙ ap (λ (m : ℕ). length h + m) (length-append (zeroWords 55) (rowsBytes s))
+      ∙ (λ j. header-wide s j + (zeros-long 55 j + rows-long s j)) in
+      ap (λ (a : List ℕ). slotFrom a (2560 + i * 64)) (before-fourth h (zeroWords 55) (rowsBytes s) (slotsBytes s) (holdingsBytes s) (zeroWords 1216) r)
       ∙ piece-back 64 (λ slot. wordBytes (slotWords (slotAt s slot))) (λ slot. length-words (slotWords (slotAt s slot)) ∙ slot-wide (slotAt s slot)) slotFrom (slotAt s)
       (λ slot p q at l. slot-back p q at l (slotAt s slot) (k .slot slot))
-      (h ++ (zeroWords 59 ++ rowsBytes s)) (holdingsBytes s ++ (zeroWords 1216 ++ r)) 2560 64 i e b
+      (h ++ (zeroWords 55 ++ rowsBytes s)) (holdingsBytes s ++ (zeroWords 1216 ++ r)) 2560 64 i e b
 
   holding-there : (i : ℕ) → i < 2048 → holdingFrom (encoded s ++ r) (6656 + i * 24) ≡ getD (s .holdings) i emptyHolding
   unfolding encoded
   holding-there i b =
       let h = wordBytes (headerWords s) in
       let x : ℕ → Holding = λ i. getD (s .holdings) i emptyHolding in
-      let e : length (h ++ (zeroWords 59 ++ (rowsBytes s ++ slotsBytes s))) ≡ 6656 =
-      length-append h (zeroWords 59 ++ (rowsBytes s ++ slotsBytes s))
-      ∙ ap (λ (m : ℕ). length h + m) (length-append (zeroWords 59) (rowsBytes s ++ slotsBytes s) ∙ ap (λ (m : ℕ). length (zeroWords 59) + m) (length-append (rowsBytes s) (slotsBytes s)))
-      ∙ (λ j. header-wide s j + (zeros-long 59 j + (rows-long s j + slots-long s j))) in
-      ap (λ (a : List ℕ). holdingFrom a (6656 + i * 24)) (before-fifth h (zeroWords 59) (rowsBytes s) (slotsBytes s) (holdingsBytes s) (zeroWords 1216) r)
+      let e : length (h ++ (zeroWords 55 ++ (rowsBytes s ++ slotsBytes s))) ≡ 6656 =
+      length-append h (zeroWords 55 ++ (rowsBytes s ++ slotsBytes s))
+      ∙ ap (λ (m : ℕ). length h + m) (length-append (zeroWords 55) (rowsBytes s ++ slotsBytes s) ∙ ap (λ (m : ℕ). length (zeroWords 55) + m) (length-append (rowsBytes s) (slotsBytes s)))
+      ∙ (λ j. header-wide s j + (zeros-long 55 j + (rows-long s j + slots-long s j))) in
+      ap (λ (a : List ℕ). holdingFrom a (6656 + i * 24)) (before-fifth h (zeroWords 55) (rowsBytes s) (slotsBytes s) (holdingsBytes s) (zeroWords 1216) r)
       ∙ piece-back 24 (λ i. wordBytes (holdingWords (x i))) (λ i. length-words (holdingWords (x i)) ∙ holding-wide (x i)) holdingFrom x
       (λ i p q at l. holding-back p q at l (x i) (k .holding i))
-      (h ++ (zeroWords 59 ++ (rowsBytes s ++ slotsBytes s))) (zeroWords 1216 ++ r) 6656 2048 i e b
+      (h ++ (zeroWords 55 ++ (rowsBytes s ++ slotsBytes s))) (zeroWords 1216 ++ r) 6656 2048 i e b
 
-  header-there : (j : ℕ) → j < 5 → wordAt (encoded s ++ r) (j * 8) ≡ getD (headerWords s) j 0
+  header-there : (j : ℕ) → j < 9 → wordAt (encoded s ++ r) (j * 8) ≡ getD (headerWords s) j 0
   unfolding encoded
   header-there j b =
       let h = wordBytes (headerWords s) in
-      ap (λ (a : List ℕ). wordAt a (j * 8)) (before-first h (zeroWords 59) (rowsBytes s) (slotsBytes s) (holdingsBytes s) (zeroWords 1216) r)
-      ∙ header-back s k (zeroWords 59 ++ (rowsBytes s ++ (slotsBytes s ++ (holdingsBytes s ++ (zeroWords 1216 ++ r))))) j b
+      ap (λ (a : List ℕ). wordAt a (j * 8)) (before-first h (zeroWords 55) (rowsBytes s) (slotsBytes s) (holdingsBytes s) (zeroWords 1216) r)
+      ∙ header-back s k (zeroWords 55 ++ (rowsBytes s ++ (slotsBytes s ++ (holdingsBytes s ++ (zeroWords 1216 ++ r))))) j b
 
   pub decode-encode : decoded (encoded s ++ r) ≡ s
-  unfolding decoded headerWords freeRows emptySlots emptyHoldings
+  unfolding decoded headerWords bordersFrom freeRows emptySlots emptyHoldings
   decode-encode =
       let a = encoded s ++ r in
       let w2 : wordAt a 16 ≡ s .size = header-there 2 (lit< tt) in
       let w3 : wordAt a 24 ≡ s .delay = header-there 3 (lit< tt) in
       let w4 : wordAt a 32 ≡ s .clock = header-there 4 (lit< tt) in
+      let w5 : wordAt a 40 ≡ s .borders .first = header-there 5 (lit< tt) in
+      let w6 : wordAt a 48 ≡ s .borders .second = header-there 6 (lit< tt) in
+      let w7 : wordAt a 56 ≡ s .borders .third = header-there 7 (lit< tt) in
+      let w8 : wordAt a 64 ≡ bit (s .begun) = header-there 8 (lit< tt) in
       λ i. record {
         size = w2 i;
         delay = (ap low w3 ∙ low-same (s .delay) (k .delay)) i;
@@ -130,6 +134,12 @@ module _ (s : State) (k : StateOk s) (r : List ℕ) where
         rows = built (λ row. rowFrom a (512 + row * 64)) freeRow 32 (s .rows) (k .sized .rows) row-there i;
         slots = built (λ slot. slotFrom a (2560 + slot * 64)) emptySlot 64 (s .slots) (k .sized .slots) slot-there i;
         holdings = built (λ h. holdingFrom a (6656 + h * 24)) emptyHolding 2048 (s .holdings) (k .sized .holdings) holding-there i;
+        borders = record {
+          first = (ap low w5 ∙ low-same (s .borders .first) (k .borders .first)) i;
+          second = (ap low w6 ∙ low-same (s .borders .second) (k .borders .second)) i;
+          third = (ap low w7 ∙ low-same (s .borders .third) (k .borders .third)) i;
+        };
+        begun = (ap (λ (w : ℕ). not (eqb w 0)) w8 ∙ bit-back (s .begun)) i;
       }
 
   pub encode-exact : exact (encoded s ++ r) ≡ true

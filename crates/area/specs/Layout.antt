@@ -18,6 +18,7 @@ use Rattle.model.specs.declared.Pin.the-variants.{Absent, Unpinned, Read, Write
 use Rattle.model.specs.declared.Row.{Row}
 use Rattle.model.specs.declared.Slot.{Slot}
 use Rattle.model.specs.declared.Holding.{Holding}
+use Rattle.model.specs.declared.Borders.{Borders}
 use Rattle.model.specs.declared.State.{State}
 use Rattle.model.specs.Parties.{modeOf, modeNumber}
 use Rattle.model.specs.State.{freeRow, emptySlot, emptyHolding, emptyHoldings, rowAt, slotAt}
@@ -28,11 +29,16 @@ abbrev pub mark : ℕ
 mark = 5068029821175611731
 
 abbrev pub version : ℕ
-version = 1
+version = 2
 
--- the number of slots started with, the delay and the clock stand behind the mark and the version
+-- a Bool as 0 or 1
+abbrev pub bit : Bool → ℕ
+bit b = cond b 1 0
+
+-- the number of slots started with, the delay, the clock, the three borders and whether a row has begun stand behind the mark and the version
 unfoldable pub headerWords : State → List ℕ
-headerWords s = mark ∷ version ∷ s .size ∷ s .delay ∷ s .clock ∷ []
+headerWords s =
+    mark ∷ version ∷ s .size ∷ s .delay ∷ s .clock ∷ s .borders .first ∷ s .borders .second ∷ s .borders .third ∷ bit (s .begun) ∷ []
 
 abbrev pub causeNumber : Cause → ℕ
 causeNumber Late = 4
@@ -63,10 +69,6 @@ waitingMode (Killed cause) = 0
 unfoldable pub rowWords : Row → List ℕ
 rowWords x = conditionNumber (x .condition) ∷ awaited (x .condition) ∷ waitingMode (x .condition) ∷ x .deadline ∷ 0 ∷ 0 ∷ 0 ∷ 0 ∷ []
 
--- a Bool as 0 or 1
-abbrev pub bit : Bool → ℕ
-bit b = cond b 1 0
-
 unfoldable pub slotWords : Slot → List ℕ
 slotWords x =
     bit (isFilled (x .content)) ∷ pageIn (x .content) ∷ arrivalIn (x .content) ∷ bit (dirtyIn (x .content)) ∷ lowestIn (x .content) ∷ x .touch ∷ 0 ∷ 0 ∷ []
@@ -77,13 +79,13 @@ holdingWords h = strength (h .pin) ∷ h .arrival ∷ h .touch ∷ []
 -- the 65,536 bytes of a state
 unfoldable pub encoded : State → List ℕ
 encoded s =
-    wordBytes (headerWords s) ++ (zeroWords 59
+    wordBytes (headerWords s) ++ (zeroWords 55
     ++ (joined 32 (λ row. wordBytes (rowWords (rowAt s row)))
     ++ (joined 64 (λ slot. wordBytes (slotWords (slotAt s slot)))
     ++ (joined 2048 (λ k. wordBytes (holdingWords (getD (s .holdings) k emptyHolding)))
     ++ zeroWords 1216))))
 
--- a tick, a page or a deadline has the lower four bytes of its word
+-- a tick, a page, a border or a deadline has the lower four bytes of its word
 abbrev pub low : ℕ → ℕ
 low w = w % 4294967296
 
@@ -123,6 +125,9 @@ freeRows = replicate 32 freeRow
 unfoldable pub emptySlots : List Slot
 emptySlots = replicate 64 emptySlot
 
+unfoldable pub bordersFrom : List ℕ → Borders
+bordersFrom a = record { first = low (wordAt a 40); second = low (wordAt a 48); third = low (wordAt a 56) }
+
 -- the state that an area names
 unfoldable pub decoded : List ℕ → State
 decoded a = record {
@@ -132,6 +137,8 @@ decoded a = record {
   rows = each (λ row _. rowFrom a (512 + row * 64)) freeRows;
   slots = each (λ slot _. slotFrom a (2560 + slot * 64)) emptySlots;
   holdings = each (λ k _. holdingFrom a (6656 + k * 24)) emptyHoldings;
+  borders = bordersFrom a;
+  begun = not (eqb (wordAt a 64) 0);
 }
 
 -- the first 65,536 bytes are exactly those of the state that they name

@@ -1,4 +1,5 @@
 // A state as the bytes of a lent area, and back: docs/LAYOUT.md.
+use model::Borders;
 use model::Cause;
 use model::Change;
 use model::Condition;
@@ -7,6 +8,7 @@ use model::Holding;
 use model::Mode;
 use model::Pin;
 use model::Row;
+use model::Setting;
 use model::Slot;
 use model::State;
 ghost use mathlib.Core.Path.{_≡_};
@@ -18,9 +20,9 @@ ghost use Rattle.words.specs.Bytes.{hasWords, spliced, joined, wordBytes};
 ghost use Rattle.model.specs.Parties.{modeOf};
 ghost use Rattle.model.specs.State.{freeRow, emptySlot, emptyHolding};
 ghost use Rattle.model.specs.Inner.Changed.{marked, changed};
-ghost use Rattle.area.specs.Layout.{mark, version, bit, low, causeNumber, conditionOf, pinNumbered, contentOf, rowFrom, slotFrom, holdingFrom, headerWords, rowWords, slotWords, holdingWords, freeRows, emptySlots, decoded, encoded, exact};
+ghost use Rattle.area.specs.Layout.{mark, version, bit, low, causeNumber, conditionOf, pinNumbered, contentOf, rowFrom, slotFrom, holdingFrom, bordersFrom, headerWords, rowWords, slotWords, holdingWords, freeRows, emptySlots, decoded, encoded, exact};
 ghost use Rattle.area.specs.Inner.Exact.{exactRows, exactSlots, exactHoldings};
-ghost use Rattle.area.specs.Inner.Writes.{rowDropped, rowsDropped};
+ghost use Rattle.area.specs.Inner.Writes.{settingPut, rowDropped, rowsDropped};
 
 // The rows and slots that an area names, and whether its bytes there are exactly theirs.
 struct Rows {
@@ -225,16 +227,31 @@ fn holding_words(h: Holding) -> [u64; 3]
 }
 
 // The mark SABREBUF, the version and the numbers of the whole state.
-fn header_words(size: usize, delay: u32, clock: u32) -> [u64; 5]
-    ensures { λ r. ⌜ r ≡ mark ∷ version ∷ size ∷ delay ∷ clock ∷ [] ⌝ }
+fn header_words(size: usize, delay: u32, clock: u32, b: Borders, begun: bool) -> [u64; 9]
+    ensures { λ r. ⌜ r ≡ mark ∷ version ∷ size ∷ delay ∷ clock ∷ b .first ∷ b .second ∷ b .third ∷ bit begun ∷ [] ⌝ }
 {
     [
         5068029821175611731,
-        1,
+        2,
         size as u64,
         delay as u64,
         clock as u64,
+        b.first as u64,
+        b.second as u64,
+        b.third as u64,
+        bit(begun),
     ]
+}
+
+fn get_borders(a: &[u8]) -> Borders
+    requires { ⌜ 65536 ≤ length (now a) ⌝ }
+    ensures { λ r. ⌜ r ≡ bordersFrom (now (a .entry)) ⌝ }
+{
+    Borders {
+        first: low(words::word(a, 40)),
+        second: low(words::word(a, 48)),
+        third: low(words::word(a, 56)),
+    }
 }
 
 fn free_rows() -> [Row; 32]
@@ -288,13 +305,13 @@ fn get_slots(a: &[u8]) -> Slots
 }
 
 // The mark, the version, the numbers of the whole state and the unused words are those of the layout.
-fn is_frame(a: &[u8], size: usize, delay: u32, clock: u32) -> bool
+fn is_frame(a: &[u8], size: usize, delay: u32, clock: u32, b: Borders, begun: bool) -> bool
     requires { ⌜ 65536 ≤ length (now a) ⌝ }
-    ensures { λ r. ⌜ r ≡ hasWords (now (a .entry)) 0 (mark ∷ version ∷ size ∷ delay ∷ clock ∷ []) && (hasWords (now (a .entry)) 40 (replicate 59 0) && hasWords (now (a .entry)) 55808 (replicate 1216 0)) ⌝ }
+    ensures { λ r. ⌜ r ≡ hasWords (now (a .entry)) 0 (mark ∷ version ∷ size ∷ delay ∷ clock ∷ b .first ∷ b .second ∷ b .third ∷ bit begun ∷ []) && (hasWords (now (a .entry)) 72 (replicate 55 0) && hasWords (now (a .entry)) 55808 (replicate 1216 0)) ⌝ }
 {
-    let ws = header_words(size, delay, clock);
+    let ws = header_words(size, delay, clock, b, begun);
     if words::has_words(a, 0, &ws) {
-        if words::has_zeros(a, 40, 59) {
+        if words::has_zeros(a, 72, 55) {
             return words::has_zeros(a, 55808, 1216);
         }
         return false;
@@ -313,7 +330,9 @@ pub fn decode(a: &[u8], whole: &mut bool) -> State
     let clock = low(words::word(a, 32));
     let r = get_rows(a);
     let s = get_slots(a);
-    let frame = is_frame(a, size, delay, clock);
+    let borders = get_borders(a);
+    let begun = words::word(a, 64) != 0;
+    let frame = is_frame(a, size, delay, clock, borders, begun);
     let mut same = seq::both(frame, seq::both(r.exact, s.exact));
     let rows = r.rows;
     let slots = s.slots;
@@ -334,6 +353,8 @@ pub fn decode(a: &[u8], whole: &mut bool) -> State
         rows,
         slots,
         holdings,
+        borders,
+        begun,
     }
 }
 
@@ -364,9 +385,9 @@ pub fn encode(a: &mut [u8], s: State)
     requires { ⌜ 65536 ≤ length (now a) ⌝ }
     ensures { λ _. ⌜ now (a .exit) ≡ encoded s ++ drop 65536 (now (a .entry)) ⌝ }
 {
-    let ws = header_words(s.size, s.delay, s.clock);
+    let ws = header_words(s.size, s.delay, s.clock, s.borders, s.begun);
     words::put_words(a, 0, &ws);
-    words::put_zeros(a, 40, 59);
+    words::put_zeros(a, 72, 55);
     let rows = s.rows;
     put_rows(a, rows);
     let slots = s.slots;
@@ -413,6 +434,28 @@ fn put_held(a: &mut [u8], slot: usize, held: [Holding; 32])
     }
 }
 
+// What a call makes of the borders and of whether a row has begun, written over the header.
+fn put_setting(a: &mut [u8], x: Setting)
+    requires { ⌜ 65536 ≤ length (now a) ⌝ }
+    ensures { λ _. ⌜ now (a .exit) ≡ settingPut x (now (a .entry)) ⌝ }
+{
+    match x {
+        Setting::Left => {}
+        Setting::Begun => {
+            let ws = [1];
+            words::put_words(a, 64, &ws);
+        }
+        Setting::Set {
+            first,
+            second,
+            third,
+        } => {
+            let ws = [first as u64, second as u64, third as u64];
+            words::put_words(a, 40, &ws);
+        }
+    }
+}
+
 // What a call changes, written over the bytes of the state that it changes; the others are left.
 pub fn amend(a: &mut [u8], c: Change)
     requires { ⌜ exact (now a) ≡ true ⌝ }
@@ -420,6 +463,8 @@ pub fn amend(a: &mut [u8], c: Change)
 {
     let ws = [c.clock as u64];
     words::put_words(a, 32, &ws);
+    let setting = c.setting;
+    put_setting(a, setting);
     let rows = c.rows;
     put_rows(a, rows);
     let slots = c.slots;

@@ -11,7 +11,8 @@ use Rattle.model.specs.declared.Answer.the-variants.{Refused}
 use Rattle.model.specs.declared.State.{State}
 use Rattle.rules.specs.Calls.{unless}
 use Rattle.model.specs.Parties.{rowOf, modeOf, mayAccess}
-use Rattle.rules.specs.Refusals.{firstToApply, isFree, isKilled, isBusy, isRead, conditionAt, pinsPage, unpinRefusal, requestRefusal}
+use Rattle.model.specs.Words.{isFree}
+use Rattle.rules.specs.Refusals.{firstToApply, isKilled, isBusy, isRead, conditionAt, pinsPage, unpinRefusal, requestRefusal}
 
 -- n: the number that the code found; m: that of the definition
 pub refused : (n m : ℕ) (s : State) (o : Outcome) → n ≡ m → 0 < n → record { state = s; answer = Refused n } ≡ unless m s o
@@ -82,8 +83,8 @@ module _ (s : State) (level number page mode : ℕ) where
 
   abbrev pub requestLast : List (ℕ × Bool)
   requestLast =
-      (13, isRead (modeOf mode) && not (mayAccess level page (modeOf mode)))
-      ∷ (14, not (isRead (modeOf mode)) && not (mayAccess level page (modeOf mode))) ∷ []
+      (13, isRead (modeOf mode) && not (mayAccess (s .borders) level page (modeOf mode)))
+      ∷ (14, not (isRead (modeOf mode)) && not (mayAccess (s .borders) level page (modeOf mode))) ∷ []
 
   pub request-first : (n : ℕ) → n ≡ firstToApply requestFirst → 0 < n → n ≡ requestRefusal s level number page mode
   unfolding requestRefusal

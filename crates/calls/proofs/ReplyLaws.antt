@@ -1,65 +1,63 @@
 -- What the replies of the calls come to: those that are refused, and those in which some rows lose all their holdings or none does.
-use mathlib.Core.Path.{_≡_, refl, sym, _∙_, ap}
+use mathlib.Core.Path.{_≡_, sym, _∙_, ap}
 use mathlib.Core.Bool.{Bool, false, cond}
 use mathlib.Core.List.{List}
-use Prim.Native.Nat.{ℕ, _+_, _*_, _/_, _%_, _<_}
-use native.Mathlib.Omega.{arith}
-use native.Mathlib.Decide.{ℕ-discrete}
-use borrow.Author.Tests.{eq-eqb, ne-eqb}
-use lib.Dec.{eqb}
-use lib.ListN.{length, getD, set, replicate, length-replicate}
+use Prim.Native.Nat.{ℕ, _%_, _<_}
+use lib.ListN.{replicate}
 use Rattle.seq.specs.Each.{each}
-use Rattle.seq.proofs.EachLaws.{replicate-at, each-length, each-still}
+use Rattle.seq.proofs.EachLaws.{replicate-at}
 use Rattle.model.specs.declared.Answer.{Answer}
 use Rattle.model.specs.declared.Answer.the-variants.{Refused}
 use Rattle.model.specs.declared.Cause.{Cause}
 use Rattle.model.specs.declared.Condition.{Condition}
 use Rattle.model.specs.declared.Condition.the-variants.{Waiting}
 use Rattle.model.specs.declared.Mode.{Mode}
-use Rattle.model.specs.declared.Pin.the-variants.{Unpinned}
 use Rattle.model.specs.declared.Row.{Row}
 use Rattle.model.specs.declared.Slot.{Slot}
-use Rattle.model.specs.declared.Holding.{Holding}
+use Rattle.model.specs.declared.Setting.{Setting}
+use Rattle.model.specs.declared.Setting.the-variants.{Left}
 use Rattle.model.specs.declared.Change.{Change}
 use Rattle.model.specs.declared.Reply.{Reply}
 use Rattle.model.specs.declared.Outcome.{Outcome}
 use Rattle.model.specs.declared.State.{State}
 use Rattle.model.specs.State.{emptyHolding, rowAt, withClock, withRows}
-use Rattle.model.specs.Words.{isPin, pins}
-use Rattle.model.specs.Changes.{written, dirtied, released, killed, killedRow}
-use Rattle.model.specs.Inner.Changed.{marked, holdingAfter, changed, outcomeOf, holdingsDropped}
+use Rattle.model.specs.Changes.{released, killed, killedRow}
+use Rattle.model.specs.Inner.Changed.{marked, withSetting, changed, outcomeOf, holdingsDropped}
 use Rattle.model.proofs.StateLaws.{Sized}
-use Rattle.model.proofs.ChangedLaws.{changed-dropped, changed-none, held-set}
+use Rattle.model.proofs.ChangedLaws.{changed-dropped, changed-none}
 use Rattle.rules.specs.Calls.{unless, served, servedAgain}
-use Rattle.serve.specs.Inner.SlotHoldings.{holdingsOn}
-use Rattle.serve.proofs.SlotLaws.{held-by}
-use Rattle.calls.specs.Inner.Parts.{holdingsLeft}
+use Rattle.calls.specs.Inner.Parts.{settingMade}
 use Rattle.calls.proofs.RefusalLaws.{refused}
 
 module _ (s : State) (z : Sized s) where
   -- no holding changes
-  pub left-after : (r : Reply) (rows : List Row) (a : Answer) → r ≡ holdingsLeft (s .clock) rows (s .slots) a → outcomeOf s r ≡ record { state = withRows s rows; answer = a }
-  unfolding holdingsLeft outcomeOf
-  left-after r rows a e =
+  pub set-after : (r : Reply) (rows : List Row) (x : Setting) (a : Answer) → r ≡ settingMade (s .clock) rows (s .slots) x a
+      → outcomeOf s r ≡ record { state = withSetting (withRows s rows) x; answer = a }
+  unfolding settingMade outcomeOf
+  set-after r rows x a e =
       ap (outcomeOf s) e
-      ∙ (λ j. record { state = changed-none s z (s .clock) rows (s .slots) (replicate 32 false) (λ row _. replicate-at 32 row false) j; answer = a })
+      ∙ (λ j. record { state = changed-none s z (s .clock) rows (s .slots) (replicate 32 false) x (λ row _. replicate-at 32 row false) j; answer = a })
+
+  -- nor do the borders
+  pub left-after : (r : Reply) (rows : List Row) (a : Answer) → r ≡ settingMade (s .clock) rows (s .slots) Left a → outcomeOf s r ≡ record { state = withRows s rows; answer = a }
+  left-after r rows a e = set-after r rows Left a e
 
   -- the rows do not change either
-  pub same-after : (r : Reply) (a : Answer) (o : Outcome) → r ≡ holdingsLeft (s .clock) (s .rows) (s .slots) a → a ≡ o .answer → o .state ≡ s → outcomeOf s r ≡ o
+  pub same-after : (r : Reply) (a : Answer) (o : Outcome) → r ≡ settingMade (s .clock) (s .rows) (s .slots) Left a → a ≡ o .answer → o .state ≡ s → outcomeOf s r ≡ o
   same-after r a o e f g = left-after r (s .rows) a e ∙ (λ j. record { state = sym g j; answer = f j })
 
   -- a refused call: n is the number that the code found, m that of the definition
-  pub refused-after : (r : Reply) (n m : ℕ) (o : Outcome) → r ≡ holdingsLeft (s .clock) (s .rows) (s .slots) (Refused n) → n ≡ m → 0 < n → outcomeOf s r ≡ unless m s o
+  pub refused-after : (r : Reply) (n m : ℕ) (o : Outcome) → r ≡ settingMade (s .clock) (s .rows) (s .slots) Left (Refused n) → n ≡ m → 0 < n → outcomeOf s r ≡ unless m s o
   refused-after r n m o e f h = left-after r (s .rows) (Refused n) e ∙ refused n m s o f h
 
   -- some rows do
-  pub drop-after : (c : Change) (clock : ℕ) (rows : List Row) (slots : List Slot) (gone : List Bool) (a : Answer) → c ≡ holdingsDropped clock rows slots gone
+  pub drop-after : (c : Change) (clock : ℕ) (rows : List Row) (slots : List Slot) (gone : List Bool) (a : Answer) → c ≡ holdingsDropped clock rows slots gone Left
       → slots ≡ released (marked gone) (withClock s clock) .slots → outcomeOf s (record { change = c; answer = a }) ≡ record { state = withRows (released (marked gone) (withClock s clock)) rows; answer = a }
   unfolding outcomeOf released
   drop-after c clock rows slots gone a e f =
       let t : changed s c ≡ withRows (released (marked gone) (withClock s clock)) rows =
       ap (changed s) e
-      ∙ changed-dropped s z clock rows slots gone
+      ∙ changed-dropped s z clock rows slots gone Left
       ∙ (λ j. record {
         size = s .size;
         delay = s .delay;
@@ -67,6 +65,8 @@ module _ (s : State) (z : Sized s) where
         rows = rows;
         slots = f j;
         holdings = each (λ k h. cond (marked gone (k % 32)) emptyHolding h) (s .holdings);
+        borders = s .borders;
+        begun = s .begun;
       }) in
       λ j. record { state = t j; answer = a }
 

@@ -8,7 +8,7 @@ use denote.Enum.Declared.{tagOf}
 use types.Run.{OneOf, miss}
 use Rattle.seq.proofs.Tests.{true-false}
 use Rattle.model.specs.declared.Call.{Call}
-use Rattle.model.specs.declared.Call.the-variants.{Start, Begin, Request, Retry, Unpin, End, Tick, Look, View, Count}
+use Rattle.model.specs.declared.Call.the-variants.{Start, Begin, Request, Retry, Unpin, End, Tick, Look, View, Count, Borders}
 use Rattle.model.proofs.Call.{the-type}
 use Rattle.model.specs.declared.Condition.{Condition}
 use Rattle.model.specs.declared.Condition.the-variants.{Free, Idle, Fetching, Waiting, Killed}
@@ -16,7 +16,8 @@ use Rattle.model.specs.declared.Row.{Row}
 use Rattle.model.specs.declared.State.{State}
 use Rattle.model.proofs.Condition.{the-type as condition-type}
 use Rattle.rules.specs.Content.{isStart, isReading}
-use Rattle.rules.specs.Refusals.{firstToApply, isFree, isKilled, isWaiting}
+use Rattle.model.specs.Words.{isFree}
+use Rattle.rules.specs.Refusals.{firstToApply, isKilled, isWaiting}
 use Rattle.rules.specs.Calls.{delivered, deliveredRow}
 use Rattle.rules.specs.Run.{outcome}
 use Rattle.rules.proofs.Leaves.CallEffects.{reading-still}
@@ -29,7 +30,7 @@ abbrev asking : List ℕ
 asking = 0 ∷ 7 ∷ 8 ∷ 9 ∷ []
 
 abbrev other : List ℕ
-other = 0 ∷ 1 ∷ 2 ∷ 3 ∷ 4 ∷ 5 ∷ 6 ∷ []
+other = 0 ∷ 1 ∷ 2 ∷ 3 ∷ 4 ∷ 5 ∷ 6 ∷ 10 ∷ []
 
 -- look, view and count change nothing
 pub it-reads : (s : State) (c : Call) → Of asking c → isStart c ≡ false → (isReading c ≡ true) × (outcome s c .state ≡ s)
@@ -44,6 +45,7 @@ it-reads s Tick k e = absurd (miss asking 6 tt k)
 it-reads s (Look level number) k e = (refl, reading-still s (Look level number) refl)
 it-reads s (View level page) k e = (refl, reading-still s (View level page) refl)
 it-reads s (Count level) k e = (refl, reading-still s (Count level) refl)
+it-reads s (Borders first second third) k e = absurd (miss asking 10 tt k)
 
 pub reads-not : (c : Call) → Of other c → isReading c ≡ true → ⊥
 reads-not (Start slots delay) k e = true-false (sym e)
@@ -56,6 +58,7 @@ reads-not Tick k e = true-false (sym e)
 reads-not (Look level number) k e = miss other 7 tt k
 reads-not (View level page) k e = miss other 8 tt k
 reads-not (Count level) k e = miss other 9 tt k
+reads-not (Borders first second third) k e = true-false (sym e)
 
 -- a row that a retry is not refused for is waiting
 pub it-waits : (c : Condition) (n : ℕ) → OneOf (0 ∷ 1 ∷ 2 ∷ 4 ∷ []) (tagOf condition-type c) → n ≡ firstToApply ((9, isFree c) ∷ (10, isKilled c) ∷ (16, not (isWaiting c)) ∷ []) → n ≤ 0 → ⊥

@@ -15,6 +15,7 @@ use Rattle.model.specs.declared.Answer.the-variants as Answer
 use Rattle.model.specs.declared.Pin.the-variants.{Unpinned}
 use Rattle.model.specs.declared.Slot.{Slot}
 use Rattle.model.specs.declared.Holding.{Holding}
+use Rattle.model.specs.declared.Setting.the-variants.{Left}
 use Rattle.model.specs.declared.Change.{Change}
 use Rattle.model.specs.declared.Outcome.{Outcome}
 use Rattle.model.specs.declared.State.{State}
@@ -33,7 +34,7 @@ use Rattle.calls.proofs.RefusalLaws.{unpinFirst, unpin-last}
 
 module _ (s : State) (z : Sized s) (row slot : ℕ) (b : row < 32) (d : slot < 64) where
   same : Change
-  same = record { clock = s .clock; rows = s .rows; slots = s .slots; gone = replicate 32 false; slot = slot; held = holdingsOn s slot }
+  same = record { clock = s .clock; rows = s .rows; slots = s .slots; gone = replicate 32 false; slot = slot; held = holdingsOn s slot; setting = Left }
 
   all-same : each (holdingAfter same) (s .holdings) ≡ s .holdings
   unfolding holdingAfter same
@@ -49,13 +50,13 @@ module _ (s : State) (z : Sized s) (row slot : ℕ) (b : row < 32) (d : slot < 6
   on-length = each-length _ (replicate 32 emptyHolding) ∙ length-replicate 32 emptyHolding
 
   set-changed : (held : List Holding) (y : Slot) (h : Holding) → held ≡ holdingsOn s slot
-      → changed s (record { clock = s .clock; rows = s .rows; slots = set (s .slots) slot y; gone = replicate 32 false; slot = slot; held = set held row h }) ≡ putHolding (putSlot s slot y) slot row h
+      → changed s (record { clock = s .clock; rows = s .rows; slots = set (s .slots) slot y; gone = replicate 32 false; slot = slot; held = set held row h; setting = Left }) ≡ putHolding (putSlot s slot y) slot row h
   unfolding changed same
   set-changed held y h e =
-      let c : Change = record { clock = s .clock; rows = s .rows; slots = set (s .slots) slot y; gone = replicate 32 false; slot = slot; held = set held row h } in
+      let c : Change = record { clock = s .clock; rows = s .rows; slots = set (s .slots) slot y; gone = replicate 32 false; slot = slot; held = set held row h; setting = Left } in
       let t : each (holdingAfter c) (s .holdings) ≡ set (s .holdings) (slot * 32 + row) h =
       sym (held-set s z same c row h d b on-length refl refl (ap (λ (l : List Holding). set l row h) e)) ∙ ap (λ (l : List Holding). set l (slot * 32 + row) h) all-same in
-      λ j. record { size = s .size; delay = s .delay; clock = s .clock; rows = s .rows; slots = set (s .slots) slot y; holdings = t j }
+      λ j. record { size = s .size; delay = s .delay; clock = s .clock; rows = s .rows; slots = set (s .slots) slot y; holdings = t j; borders = s .borders; begun = s .begun }
 
   -- p: whether the holding is a pin
   pub pin-is : (held : List Holding) (p : Bool) → held ≡ holdingsOn s slot → p ≡ isPin (getD held row emptyHolding .pin) → pins s slot row ≡ p
@@ -70,6 +71,7 @@ module _ (s : State) (z : Sized s) (row slot : ℕ) (b : row < 32) (d : slot < 6
         gone = replicate 32 false;
         slot = slot;
         held = set held row (record { pin = Unpinned; arrival = getD held row emptyHolding .arrival; touch = getD held row emptyHolding .touch });
+        setting = Left;
       }) ≡ unpinnedAt s row slot
   unfolding unpinnedAt
   unpin-changed held w y e f g =

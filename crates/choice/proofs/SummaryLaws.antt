@@ -10,7 +10,7 @@ use lib.ListN.{getD}
 use Rattle.seq.specs.Below.{pickBelow, considered, atFound}
 use Rattle.seq.specs.declared.Found.{Found}
 use Rattle.seq.specs.declared.Found.the-variants.{At, Nowhere}
-use Rattle.seq.proofs.Tests.{true-false, not-true-false, and-false-right}
+use Rattle.seq.proofs.Tests.{true-false, not-true-false, and-false-right, or-none}
 use Rattle.seq.proofs.BelowLaws.{any-more, none-any}
 use Rattle.seq.proofs.PickLaws.{pick-more, pick-is, pick-none, none-pick}
 use Rattle.seq.proofs.BuildLaws.{build-at}
@@ -63,10 +63,6 @@ module _ (s : State) (slot r : ℕ) where
       no-pin : (a : Bool) → a && holds s slot r ≡ false → a && pins s slot r ≡ false
       no-pin true e = not-pinned (holdingAt s slot r .pin) e
       no-pin false e = refl
-
-      or-none : (a : Bool) → a || false ≡ a
-      or-none true = refl
-      or-none false = refl
 
   -- rows that hold nothing
   none-latest : ((i : ℕ) → i < r → holds s slot i ≡ false) → latestBelow s (levelOf r) slot r ≡ 0

@@ -190,20 +190,6 @@ fn holders_with(w: Holders, row: usize, rank: Rank, h: Holding) -> Holders
     w
 }
 
-pub fn is_filled(c: Content) -> bool
-    ensures { λ r. ⌜ r ≡ isFilled c ⌝ }
-{
-    match c {
-        Content::Empty => false,
-        Content::Filled {
-            page: _,
-            arrival: _,
-            dirty: _,
-            lowest: _,
-        } => true,
-    }
-}
-
 fn page_in(c: Content) -> u32
     ensures { λ r. ⌜ r ≡ pageIn c ⌝ }
 {
@@ -253,7 +239,7 @@ fn summary_with(x: Slot, w: Holders, own: bool, requester: Rank) -> Summary
     let v = w.rank;
     let better = model::is_better(v, requester);
     Summary {
-        filled: is_filled(c),
+        filled: model::is_filled(c),
         page: page_in(c),
         dirty: dirty_in(c),
         lowest: lowest_in(c),

@@ -17,7 +17,7 @@ use Rattle.rules.specs.Answers.{word}
 use Rattle.rules.specs.Refusals.{lookRefusal}
 use Rattle.rules.specs.Calls.{unless, looked, lookedAt}
 use Rattle.model.specs.declared.Call.{Call}
-use Rattle.model.specs.declared.Call.the-variants.{Start, Begin, Request, Retry, Unpin, End, Tick, Look, View, Count}
+use Rattle.model.specs.declared.Call.the-variants.{Start, Begin, Request, Retry, Unpin, End, Tick, Look, View, Count, Borders}
 use Rattle.rules.specs.Content.{isStart}
 use Rattle.rules.specs.Run.{outcome}
 use Rattle.rules.proofs.Leaves.RefusalFacts.{Named, look-taken}
@@ -38,6 +38,7 @@ unfit-is a Tick = refl
 unfit-is a (Look level number) = refl
 unfit-is a (View level page) = refl
 unfit-is a (Count level) = refl
+unfit-is a (Borders first second third) = refl
 
 pub unfit-start : (a : List ℕ) (slots delay : ℕ) → unfit a (Start slots delay) ≡ ltb (length a) 65536
 unfit-start a slots delay = unfit-is a (Start slots delay)

@@ -37,10 +37,10 @@ deadline-there : (s : State) → StateOk s → (r : List ℕ) (row : ℕ) → ro
 unfolding encoded rowWords
 deadline-there s ok r row b =
     let h = wordBytes (headerWords s) in
-    let e : length (h ++ zeroWords 59) ≡ 512 = length-append h (zeroWords 59) ∙ (λ j. header-wide s j + zeros-long 59 j) in
-    ap (λ (a : List ℕ). deadlineWord a row) (third h (zeroWords 59) (rowsBytes s) (slotsBytes s) (holdingsBytes s) (zeroWords 1216) r)
+    let e : length (h ++ zeroWords 55) ≡ 512 = length-append h (zeroWords 55) ∙ (λ j. header-wide s j + zeros-long 55 j) in
+    ap (λ (a : List ℕ). deadlineWord a row) (third h (zeroWords 55) (rowsBytes s) (slotsBytes s) (holdingsBytes s) (zeroWords 1216) r)
     ∙ piece-word 64 (λ row. rowWords (rowAt s row)) (λ row. row-wide (rowAt s row)) (λ row. row-small (rowAt s row) (ok .row row))
-    (h ++ zeroWords 59) (slotsBytes s ++ (holdingsBytes s ++ (zeroWords 1216 ++ r))) 512 32 row 3 e b (lit< tt)
+    (h ++ zeroWords 55) (slotsBytes s ++ (holdingsBytes s ++ (zeroWords 1216 ++ r))) 512 32 row 3 e b (lit< tt)
 
 -- the deadline word of each row of a sound area
 deadline-named : (a : List ℕ) → soundArea a ≡ true → (row : ℕ) → row < 32 → deadlineWord a row ≡ rowAt (decoded a) row .deadline

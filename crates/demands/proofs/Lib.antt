@@ -6,6 +6,7 @@ pub mod Smallest
 -- demand 2
 pub mod Steps
 pub mod Deadlines
+pub mod Borders
 pub mod SessionHolds
 pub mod OneSlot
 pub mod Arrived

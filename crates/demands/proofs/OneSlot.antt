@@ -24,7 +24,7 @@ pub one-slot : (a : List ℕ) → soundArea a ≡ true → (page i j : ℕ) → 
 one-slot a z = States.one-slot (decoded a) (sound-area a z .sound-state)
 
 -- the same read off the bytes
-filled-word : (a : List ℕ) (slot : ℕ) → slot < 64 → filledWord a slot ≡ 1 → hasPage (low (pageWord a slot)) (slotAt (decoded a) slot .content) ≡ true
+pub filled-word : (a : List ℕ) (slot : ℕ) → slot < 64 → filledWord a slot ≡ 1 → hasPage (low (pageWord a slot)) (slotAt (decoded a) slot .content) ≡ true
 unfolding slotFrom contentOf
 filled-word a slot b e = rw (decoded-slot a slot b, e) (eq-eqb (low (pageWord a slot)) (low (pageWord a slot)) refl)
 

@@ -2,7 +2,7 @@
 use mathlib.Core.Path.{_≡_, refl, sym, _∙_, ap}
 use mathlib.Core.Bool.{Bool, true, false, cond, not, _&&_, _||_}
 use mathlib.Core.List.{List, [], _∷_}
-use Prim.Native.Nat.{ℕ, zero, suc, _≤_, _/_}
+use Prim.Native.Nat.{ℕ, zero, suc, _<_, _≤_}
 use native.Mathlib.Omega.{arith}
 use native.Mathlib.Decide.{decLt}
 use borrow.Author.Tests.{not-true, not-false, eqb-true, eqb-false, ltb-false, lt-ltb, le-ltb, le-leb, lt-leb, eq-eqb, ne-eqb}
@@ -24,24 +24,27 @@ use Rattle.model.specs.declared.Mode.the-variants.{Read, Write}
 use Rattle.model.specs.declared.Pin.{Pin}
 use Rattle.model.specs.declared.Pin.the-variants as Pin
 use Rattle.model.specs.declared.Outcome.{Outcome}
+use Rattle.model.specs.declared.Borders.{Borders}
 use Rattle.model.specs.declared.State.{State}
-use Rattle.model.specs.Parties.{rowOf, modeOf, allowed, mayAccess}
+use Rattle.model.specs.Parties.{rowOf, modeOf, classOf, areBorders, allowed}
 use Rattle.model.specs.State.{rowAt, slotAt, holdingAt}
-use Rattle.model.specs.Words.{hasPage, isPin, pins, slotOf}
+use Rattle.model.specs.Words.{isFree, hasPage, isPin, pins, slotOf}
+use Rattle.model.proofs.BordersLaws.{in-order}
 use Rattle.model.proofs.ContentLaws.{page-has}
 use Rattle.rules.specs.Answers.{word, value}
-use Rattle.rules.specs.Refusals.{firstToApply, isFree, isKilled, isBusy, isWaiting, isRead, conditionAt, pinsPage, startRefusal, beginRefusal, requestRefusal, retryRefusal, unpinRefusal, endRefusal, tickRefusal, lookRefusal, viewRefusal, countRefusal}
-use Rattle.rules.specs.Calls.{unless, started, begun, requested, servedAgain, retried, unpinned, ended, ticked, looked, lookedAt, viewedIn, viewed, counted}
+use Rattle.rules.specs.Refusals.{firstToApply, isKilled, isBusy, isWaiting, isRead, conditionAt, pinsPage, startRefusal, beginRefusal, requestRefusal, retryRefusal, unpinRefusal, endRefusal, tickRefusal, lookRefusal, viewRefusal, countRefusal, bordersRefusal}
+use Rattle.rules.specs.Calls.{unless, started, begun, requested, servedAgain, retried, unpinned, ended, ticked, looked, lookedAt, viewedIn, viewed, counted, bordered}
 use Rattle.model.specs.declared.Call.{Call}
 use Rattle.model.specs.declared.Call.the-variants.{Start, Begin, Request, Retry, Unpin, End, Tick, Look, View, Count}
+use Rattle.model.specs.declared.Call.the-variants as Call
 use Rattle.rules.specs.Content.{isStart}
 use Rattle.rules.specs.Run.{outcome}
 use Rattle.rules.proofs.Promises.CallCases.{viewed-is}
-use Rattle.rules.proofs.Facts.SoundFacts.{Sound, facts}
+use Rattle.rules.proofs.Facts.SoundFacts.{Sound, facts, borders-facts}
 use Rattle.rules.proofs.Leaves.PageLaws.{found-has, found-below, not-found, one-place}
 use Rattle.area.specs.Layout.{decoded}
 use Rattle.sabre.specs.Lent.{unfit, answerOn, isRefused, status, soundArea}
-use Rattle.demands.specs.RefusalTable.{free, killed, fetchingOrWaiting, idleOrFetching, has, readOrWrite, pinned, refusals, applies}
+use Rattle.demands.specs.RefusalTable.{free, killed, fetchingOrWaiting, idleOrFetching, has, readOrWrite, pinned, class, refusals, applies}
 use Rattle.demands.proofs.Areas.{unfit-table, unfit-other}
 use Rattle.demands.proofs.Steps.{served-accepted}
 use Rattle.sabre.proofs.SoundAreas.{sound-area}
@@ -95,20 +98,56 @@ not-leb a b = elim (decLt b a) [
   | no h ↦ rw (le-leb a b (omega arith), le-ltb b a (omega arith))
 ]
 
-read-above : (level page mode : ℕ) → isRead (modeOf mode) && not (mayAccess level page (modeOf mode)) ≡ eqb mode 0 && ltb level (page / 1024)
+read-above : (level k mode : ℕ) → isRead (modeOf mode) && not (allowed level k (modeOf mode)) ≡ eqb mode 0 && ltb level k
 unfolding allowed
-read-above level page mode = go (eqb mode 0)
+read-above level k mode = go (eqb mode 0)
   where
-    go : (b : Bool) → isRead (cond b Read Write) && not (mayAccess level page (cond b Read Write)) ≡ b && ltb level (page / 1024)
-    go true = not-leb (page / 1024) level
+    go : (b : Bool) → isRead (cond b Read Write) && not (allowed level k (cond b Read Write)) ≡ b && ltb level k
+    go true = not-leb k level
     go false = refl
 
-write-below : (level page mode : ℕ) → mode ≤ 1 → not (isRead (modeOf mode)) && not (mayAccess level page (modeOf mode)) ≡ eqb mode 1 && ltb (page / 1024) level
+write-below : (level k mode : ℕ) → mode ≤ 1 → not (isRead (modeOf mode)) && not (allowed level k (modeOf mode)) ≡ eqb mode 1 && ltb k level
 unfolding allowed
-write-below level page mode h = elim (decLt mode 1) [
-  | yes k ↦ let e : mode ≡ 0 = omega arith in rw e
-  | no k ↦ let e : mode ≡ 1 = omega arith in rw e (not-leb level (page / 1024))
+write-below level k mode h = elim (decLt mode 1) [
+  | yes w ↦ let e : mode ≡ 0 = omega arith in rw e
+  | no w ↦ let e : mode ≡ 1 = omega arith in rw e (not-leb level k)
 ]
+
+-- the class of a page, where the borders do not fall
+class-same : (b : Borders) → areBorders b ≡ true → (page : ℕ) → classOf b page ≡ class b page
+unfolding classOf
+class-same b e page = let x = in-order b e in go (x .first) (x .second)
+  where
+    go : b .first ≤ b .second → b .second ≤ b .third → classOf b page ≡ class b page
+    go x y = elim (decLt page (b .first)) [
+      | yes h ↦ rw (lt-ltb page (b .first) h, lt-leb (b .first) page h, lt-leb (b .second) page (omega arith), lt-leb (b .third) page (omega arith))
+      | no h ↦ elim (decLt page (b .second)) [
+        | yes k ↦ rw (le-ltb page (b .first) (omega arith), lt-ltb page (b .second) k, le-leb (b .first) page (omega arith), lt-leb (b .second) page k, lt-leb (b .third) page (omega arith))
+        | no k ↦
+            rw (le-ltb page (b .first) (omega arith), le-ltb page (b .second) (omega arith), le-leb (b .first) page (omega arith), le-leb (b .second) page (omega arith))
+            (elim (decLt page (b .third)) [
+              | yes m ↦ rw (lt-ltb page (b .third) m, lt-leb (b .third) page m)
+              | no m ↦ rw (le-ltb page (b .third) (omega arith), le-leb (b .third) page (omega arith))
+            ])
+      ]
+    ]
+
+-- borders that fall or exceed 4,096
+fall-same : (b : Borders) → not (areBorders b) ≡ (ltb (b .second) (b .first) || ltb (b .third) (b .second) || ltb 4096 (b .first) || ltb 4096 (b .second) || ltb 4096 (b .third))
+unfolding areBorders
+fall-same b = elim (decLt (b .second) (b .first)) [
+  | yes h ↦ rw (lt-leb (b .first) (b .second) h, lt-ltb (b .second) (b .first) h)
+  | no h ↦ elim (decLt (b .third) (b .second)) [
+    | yes k ↦ rw (le-leb (b .first) (b .second) (omega arith), le-ltb (b .second) (b .first) (omega arith), lt-leb (b .second) (b .third) k, lt-ltb (b .third) (b .second) k)
+    | no k ↦ rw (le-leb (b .first) (b .second) (omega arith), le-ltb (b .second) (b .first) (omega arith), le-leb (b .second) (b .third) (omega arith), le-ltb (b .third) (b .second) (omega arith)) (exceed k h)
+  ]
+]
+  where
+    exceed : (b .third < b .second → ⊥) → (b .second < b .first → ⊥) → not (leb (b .third) 4096) ≡ (ltb 4096 (b .first) || ltb 4096 (b .second) || ltb 4096 (b .third))
+    exceed k h = elim (decLt 4096 (b .third)) [
+      | yes m ↦ rw (lt-leb (b .third) 4096 m, lt-ltb 4096 (b .third) m) (sym (or-true-right (ltb 4096 (b .first) || ltb 4096 (b .second)) true refl))
+      | no m ↦ rw (le-leb (b .third) 4096 (omega arith), le-ltb 4096 (b .first) (omega arith), le-ltb 4096 (b .second) (omega arith), le-ltb 4096 (b .third) (omega arith))
+    ]
 
 -- a row's condition
 condition-same : (x : Condition) → (isFree x ≡ free x) × (isKilled x ≡ killed x) × (isBusy x ≡ fetchingOrWaiting x)
@@ -186,8 +225,8 @@ unpin-rows p q r x d d′ e =
 
 -- the number given is that of the first row of the table that applies
 gives : (a : List ℕ) (c : Call) → Gives (answerOn a c) (firstToApply (refusals a c))
-unfolding answerOn outcome started begun requested retried unpinned ended ticked lookedAt viewed counted word
-    refusals startRefusal beginRefusal requestRefusal retryRefusal unpinRefusal endRefusal tickRefusal lookRefusal viewRefusal countRefusal
+unfolding answerOn outcome started begun requested retried unpinned ended ticked lookedAt viewed counted bordered word
+    refusals startRefusal beginRefusal requestRefusal retryRefusal unpinRefusal endRefusal tickRefusal lookRefusal viewRefusal countRefusal bordersRefusal
 gives a (Start slots delay) =
     first-row a (Start slots delay) _ _ (λ _. refl) (numbered (unfit a (Start slots delay)) (startRefusal slots delay) (decoded a) _ (λ _. refl))
 gives a (Begin level number deadline) =
@@ -198,8 +237,13 @@ gives a (Begin level number deadline) =
 gives a (Request level number page mode) =
     let c = Request level number page mode in
     first-row a c _ _
-    (λ _. request-rows (ltb 3 level) (ltb 7 number) (ltb 4095 page) (ltb 1 mode) (conditionAt (decoded a) level number) _ _ _ _ (read-above level page mode)
-    (λ e. write-below level page mode (ltb-false 1 mode e)))
+    (λ u.
+    let z = sound-area a (not-false (soundArea a) (sym (unfit-other a c refl) ∙ u)) .sound-state in
+    let k = classOf (decoded a .borders) page in
+    let same = class-same (decoded a .borders) (borders-facts (decoded a) z .valid) page in
+    request-rows (ltb 3 level) (ltb 7 number) (ltb 4095 page) (ltb 1 mode) (conditionAt (decoded a) level number) _ _ _ _
+    (read-above level k mode ∙ ap (λ (n : ℕ). eqb mode 0 && ltb level n) same)
+    (λ e. write-below level k mode (ltb-false 1 mode e) ∙ ap (λ (n : ℕ). eqb mode 1 && ltb n level) same))
     (numbered (unfit a c) (requestRefusal (decoded a) level number page mode) (decoded a) _ (λ _. served-accepted (decoded a) (rowOf level number) page (modeOf mode)))
 gives a (Retry level number) =
     let c = Retry level number in
@@ -230,6 +274,11 @@ gives a (View level page) =
 gives a (Count level) =
     let c = Count level in
     first-row a c _ _ (λ _. refl) (numbered (unfit a c) (countRefusal level) (decoded a) _ (λ _. refl))
+gives a (Call.Borders first second third) =
+    let c = Call.Borders first second third in
+    let b : Borders = record { first = first; second = second; third = third } in
+    first-row a c _ _ (λ _ i. firstToApply ((19, fall-same b i) ∷ (20, decoded a .begun) ∷ []))
+    (numbered (unfit a c) (bordersRefusal (decoded a) b) (decoded a) _ (λ _. refl))
 
 -- ---- the smallest that applies
 

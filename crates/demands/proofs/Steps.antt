@@ -1,12 +1,12 @@
 -- Demand 2 over lent areas: a call on a sound area, and a start on any area, gives the answer and the next state of the definitions, and leaves a sound area.
 use mathlib.Core.Path.{_≡_, refl, sym, _∙_, ap}
-use mathlib.Core.Bool.{Bool, true, false}
+use mathlib.Core.Bool.{Bool, true, false, not}
 use mathlib.Core.List.{List, [], _∷_, _++_}
 use Prim.Native.Nat.{ℕ, zero, suc, _≤_}
-use borrow.Author.Tests.{le-ltb, le-leb}
+use borrow.Author.Tests.{le-ltb, le-leb, not-true}
 use lib.ListN.{length, drop}
-use Rattle.seq.proofs.Tests.{true-false}
-use Rattle.seq.specs.Machine.{lastOf}
+use Rattle.seq.proofs.Tests.{true-false, and-true}
+use Rattle.seq.specs.Machine.{lastOf, throughout}
 use Rattle.model.specs.declared.Answer.{Answer}
 use Rattle.model.specs.declared.Answer.the-variants.{Started}
 use Rattle.model.specs.declared.Back.{Back}
@@ -16,7 +16,7 @@ use Rattle.model.specs.declared.State.{State}
 use Rattle.model.specs.State.{fresh}
 use Rattle.model.proofs.Ranges.{StateOk}
 use Rattle.rules.specs.Sound.{sound}
-use Rattle.rules.specs.Answers.{word}
+use Rattle.rules.specs.Answers.{word, isStarted}
 use Rattle.rules.specs.Refusals.{startRefusal, StartTaken}
 use Rattle.rules.specs.Calls.{unless, started, waiting, granted, served}
 use Rattle.model.specs.declared.Call.{Call}
@@ -25,7 +25,7 @@ use Rattle.rules.specs.Run.{outcome}
 use Rattle.rules.specs.Content.{fields, isStart, Fits}
 use Rattle.rules.proofs.Leaves.ContentLaws.{start-is}
 use Rattle.rules.proofs.Leaves.RefusalFacts.{start-taken}
-use Rattle.rules.proofs.Leaves.CallEffects.{Effect, unchanged, starts, begins, unpins, ends, ticks, serves, effect}
+use Rattle.rules.proofs.Leaves.CallEffects.{Effect, unchanged, starts, begins, unpins, ends, ticks, sets, serves, effect}
 use Rattle.rules.proofs.Promises.Serving.{Serving, waits, waits-g, joins, fills, serving}
 use Rattle.rules.proofs.Promises.Granting.{granted-answer}
 use Rattle.rules.proofs.Stays.StaysFresh.{fresh-sound}
@@ -35,7 +35,7 @@ use Rattle.area.specs.Layout.{encoded, decoded}
 use Rattle.area.proofs.Elements.{decoded-deadline}
 use Rattle.area.proofs.RoundTrip.{decode-encode}
 use Rattle.sabre.specs.Lent.{answerOn, isRefused, areaAfter, soundArea}
-use Rattle.demands.specs.Runs.{AllFit, areaAfterAll}
+use Rattle.demands.specs.Runs.{AllFit, areaAfterAll, notStartedAgain, Run, startedArea, FromFreshStart}
 use Rattle.demands.proofs.Areas.{unfit-start, accepted-sound, sound-fit, accepted-fit, fit-long, fit-answer}
 use Rattle.sabre.proofs.SoundAreas.{encode-sound, sound-area}
 
@@ -70,6 +70,7 @@ refused-still s c = go (outcome s c) (effect s c)
     go o (unpins level number page slot q t f p e) r = true-false (sym (rw e at r))
     go o (ends level number q n e) r = true-false (sym (rw e at r))
     go o (ticks q h e) r = true-false (sym (rw e at r))
+    go o (sets b q t e) r = true-false (sym (rw e at r))
     go o (serves row page mode b a m e) r = true-false (sym (rw e at r) ∙ served-accepted s row page mode)
 
 -- ---- start
@@ -177,3 +178,17 @@ unfolding areaAfterAll lastOf
 started-sound-on a slots delay cs e =
     let t = start-only a slots delay e in
     run-sound-on cs (areaAfter a (Start slots delay)) (start-on a slots delay (t .0) (t .1 .slots-least) (t .1 .slots-most) (t .1 .delay-least) (t .1 .delay-most) .2)
+
+-- in a run that is not started again no start is accepted now or later
+pub not-now : (a : List ℕ) (c : Call) (cs : List Call) → notStartedAgain a (c ∷ cs) ≡ true → (isStarted (answerOn a c) ≡ false) × (notStartedAgain (areaAfter a c) cs ≡ true)
+unfolding notStartedAgain throughout
+not-now a c cs e =
+    let p = and-true (not (isStarted (answerOn a c))) (notStartedAgain (areaAfter a c) cs) e in
+    (not-true (isStarted (answerOn a c)) (p .0), p .1)
+
+-- the area that a run's start leaves
+pub started-area : (r : Run) → FromFreshStart r → (decoded (startedArea r) ≡ fresh (r .slots) (r .delay)) × (soundArea (startedArea r) ≡ true)
+started-area r f =
+    let t = start-only (r .area) (r .slots) (r .delay) (f .started) in
+    let x = start-on (r .area) (r .slots) (r .delay) (t .0) (t .1 .slots-least) (t .1 .slots-most) (t .1 .delay-least) (t .1 .delay-most) in
+    (x .1, x .2)

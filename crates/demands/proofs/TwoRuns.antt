@@ -1,62 +1,76 @@
--- Two areas that a clearance cannot tell apart: a kept call made on both, and any other call made on one, leaves such areas. A run beside the run of its kept calls alone.
-use mathlib.Core.Path.{_≡_, refl, ap}
-use mathlib.Core.Bool.{Bool, true, false, _&&_, not}
-use mathlib.Core.List.{List, _∷_}
+-- Two areas that a clearance cannot tell apart, the second with the borders that the first one's run ends with: a kept call made on both, and any other call made on the first, leaves such areas.
+-- A run beside the run of its kept calls alone.
+use mathlib.Core.Path.{_≡_, refl, sym, _∙_, ap}
+use mathlib.Core.Bool.{Bool, true, false, _&&_}
+use mathlib.Core.List.{List, [], _∷_}
 use Prim.Native.Nat.{ℕ, _≤_}
 use native.Mathlib.Omega.{arith}
-use borrow.Author.Tests.{eqb-true, le-leb, not-true}
-use Rattle.seq.proofs.Tests.{and-true, parts, not-true-false}
-use Rattle.seq.specs.Machine.{throughout, noted, only}
+use borrow.Author.Tests.{eqb-true, le-leb}
+use Rattle.seq.proofs.Tests.{parts, not-true-false}
+use Rattle.seq.specs.Machine.{lastOf, noted, only}
 use Rattle.seq.proofs.MachineLaws.{beside-last, beside-noted}
+use Rattle.model.specs.declared.Borders.{Borders}
 use Rattle.model.specs.declared.Call.{Call}
 use Rattle.model.specs.declared.Call.the-variants.{Look}
 use Rattle.rules.specs.Answers.{word, isStarted, Told, told}
 use Rattle.rules.specs.Content.{fields, isAsking, namesRow, Fits}
 use Rattle.rules.specs.Secrecy.{isKept, keptCalls}
 use Rattle.rules.proofs.Leaves.ContentLaws.{unkept, asking-own}
+use Rattle.rules.proofs.Leaves.SettingLaws.{frozen}
 use Rattle.rules.proofs.Similar.{Similar, similar-clock, similar-told, similar-kept, similar-other}
 use Rattle.area.specs.Layout.{decoded}
 use Rattle.sabre.specs.Lent.{answerOn, areaAfter, soundArea}
 use Rattle.demands.specs.Runs.{AllFit, areaAfterAll, notStartedAgain, keptAnswersOn, isDeliveryOn, deliveriesOn}
 use Rattle.demands.proofs.Areas.{sound-answer}
-use Rattle.demands.proofs.Steps.{step-on}
+use Rattle.demands.proofs.Steps.{step-on, not-now}
 
-module _ (L : ℕ) (most : L ≤ 3) where
+module _ (L : ℕ) (most : L ≤ 3) (last : Borders) where
   -- two sound areas that name states which the clearance cannot tell apart
   pub record Near (a b : List ℕ) : Type 0 where
     pub first : soundArea a ≡ true
     pub second : soundArea b ≡ true
-    pub states : Similar L (decoded a) (decoded b)
+    pub states : Similar L last (decoded a) (decoded b)
+
+  -- once a row has begun, the area has the borders that the run ends with
+  abbrev pub Settled : List ℕ → Type 0
+  Settled a = decoded a .begun ≡ true → decoded a .borders ≡ last
 
   module _ (a b : List ℕ) (x : Near a b) where
-    pub near-told : (c : Call) → isKept L c ≡ true → told (answerOn a c) ≡ told (answerOn b c)
-    near-told c k = rw (sound-answer a c (x .first), sound-answer b c (x .second)) (similar-told L most (decoded a) (decoded b) (x .states) c k)
+    pub near-told : Settled a → (c : Call) → isKept L c ≡ true → told (answerOn a c) ≡ told (answerOn b c)
+    near-told g c k = rw (sound-answer a c (x .first), sound-answer b c (x .second)) (similar-told L most last (decoded a) (decoded b) (x .states) g c k)
 
-    near-word : (c : Call) → isKept L c ≡ true → word (answerOn a c) ≡ word (answerOn b c)
+    near-word : Settled a → (c : Call) → isKept L c ≡ true → word (answerOn a c) ≡ word (answerOn b c)
     unfolding told
-    near-word c k = ap (λ (t : Told). t .word) (near-told c k)
+    near-word g c k = ap (λ (t : Told). t .word) (near-told g c k)
 
     near-clock : decoded a .clock ≡ decoded b .clock
-    near-clock = similar-clock L most (decoded a) (decoded b) (x .states)
+    near-clock = similar-clock L most last (decoded a) (decoded b) (x .states)
 
-    near-kept : (c : Call) → Fits c → isKept L c ≡ true → Near (areaAfter a c) (areaAfter b c)
-    near-kept c f k =
+    near-kept : Settled a → (c : Call) → Fits c → isKept L c ≡ true → Near (areaAfter a c) (areaAfter b c)
+    near-kept g c f k =
         let p = step-on a c (x .first) f in
         let q = step-on b c (x .second) f in
-        record { first = p .2; second = q .2; states = rw (p .1, q .1) (similar-kept L most (decoded a) (decoded b) (x .states) c k) }
+        record { first = p .2; second = q .2; states = rw (p .1, q .1) (similar-kept L most last (decoded a) (decoded b) (x .states) g c k) }
 
     near-other : (c : Call) → Fits c → isKept L c ≡ false → isStarted (answerOn a c) ≡ false → Near (areaAfter a c) b
     near-other c f k n =
         let p = step-on a c (x .first) f in
-        record { first = p .2; second = x .second; states = rw (p .1) (similar-other L most (decoded a) (decoded b) (x .states) c k (rw (p .0) at n)) }
+        record { first = p .2; second = x .second; states = rw (p .1) (similar-other L most last (decoded a) (decoded b) (x .states) c k (rw (p .0) at n)) }
+
+  -- what is known of a run that is not started again and ends with those borders, and of each of its calls
+  abbrev pub Good : List ℕ → List Call → Type 0
+  Good a cs = (soundArea a ≡ true) × AllFit cs × (notStartedAgain a cs ≡ true) × (decoded (areaAfterAll a cs) .borders ≡ last)
+
+  abbrev Fine : List ℕ → Call → Type 0
+  Fine a c = Fits c × (isStarted (answerOn a c) ≡ false) × Settled a × Settled (areaAfter a c)
 
   -- a kept call is a delivery of a row up to the clearance on both areas or on neither
-  near-delivery : (a b : List ℕ) → Near a b → (c : Call) → isKept L c ≡ true → Near (areaAfter a c) (areaAfter b c)
+  near-delivery : (a b : List ℕ) → Near a b → (c : Call) → Fine a c → isKept L c ≡ true → Near (areaAfter a c) (areaAfter b c)
       → (level number : ℕ) → level ≤ L → isDeliveryOn a c level number ≡ isDeliveryOn b c level number
   unfolding isDeliveryOn isKept
-  near-delivery a b x c k y level number l =
+  near-delivery a b x c f k y level number l =
       let kept : isKept L (Look level number) ≡ true = le-leb level L l in
-      rw (near-word a b x c k, near-word a b x (Look level number) kept, near-word (areaAfter a c) (areaAfter b c) y (Look level number) kept)
+      rw (near-word a b x (f .2) c k, near-word a b x (f .2) (Look level number) kept, near-word (areaAfter a c) (areaAfter b c) y (f .3) (Look level number) kept)
 
   -- a call that is not kept is no delivery of a row up to the clearance
   unkept-delivery : (a : List ℕ) (c : Call) → isKept L c ≡ false → (level number : ℕ) → level ≤ L → isDeliveryOn a c level number ≡ false
@@ -71,23 +85,24 @@ module _ (L : ℕ) (most : L ≤ 3) where
         u .0,
       )
 
-  -- what is known of a run that is not started again, and of each of its calls
-  abbrev pub Good : List ℕ → List Call → Type 0
-  Good a cs = AllFit cs × (notStartedAgain a cs ≡ true)
+  good-rest : (a : List ℕ) (c : Call) (cs : List Call) → Good a (c ∷ cs) → Good (areaAfter a c) cs
+  unfolding areaAfterAll lastOf
+  good-rest a c cs g = (step-on a c (g .0) (g .1 .0) .2, g .1 .1, not-now a c cs (g .2) .1, g .3)
 
-  abbrev Fine : List ℕ → Call → Type 0
-  Fine a c = Fits c × (isStarted (answerOn a c) ≡ false)
+  -- borders stay once a row has begun
+  settled : (cs : List Call) (a : List ℕ) → Good a cs → Settled a
+  unfolding areaAfterAll lastOf
+  settled [] a g b = g .3
+  settled (c ∷ cs) a g b =
+      let p = step-on a c (g .0) (g .1 .0) in
+      let f = frozen (decoded a) c b (rw (p .0) at (not-now a c cs (g .2) .0)) in
+      sym (f .0) ∙ (rw (p .1) at (settled cs (areaAfter a c) (good-rest a c cs g))) (f .1 ∙ b)
 
   good-first : (a : List ℕ) (c : Call) (cs : List Call) → Good a (c ∷ cs) → Fine a c
-  unfolding notStartedAgain throughout
-  good-first a c cs g = (g .0 .0, not-true (isStarted (answerOn a c)) (and-true (not (isStarted (answerOn a c))) (notStartedAgain (areaAfter a c) cs) (g .1) .0))
-
-  good-rest : (a : List ℕ) (c : Call) (cs : List Call) → Good a (c ∷ cs) → Good (areaAfter a c) cs
-  unfolding notStartedAgain throughout
-  good-rest a c cs g = (g .0 .1, and-true (not (isStarted (answerOn a c))) (notStartedAgain (areaAfter a c) cs) (g .1) .1)
+  good-first a c cs g = (g .1 .0, not-now a c cs (g .2) .0, settled (c ∷ cs) a g, settled cs (areaAfter a c) (good-rest a c cs g))
 
   kept-step : (a b : List ℕ) → Near a b → (c : Call) → Fine a c → isKept L c ≡ true → Near (areaAfter a c) (areaAfter b c)
-  kept-step a b x c f k = near-kept a b x c (f .0) k
+  kept-step a b x c f k = near-kept a b x (f .2) c (f .0) k
 
   other-step : (a b : List ℕ) → Near a b → (c : Call) → Fine a c → isKept L c ≡ false → Near (areaAfter a c) b
   other-step a b x c f k = near-other a b x c (f .0) k (f .1)
@@ -101,10 +116,10 @@ module _ (L : ℕ) (most : L ≤ 3) where
   beside : (cs : List Call) (a b : List ℕ) → Near a b → Good a cs → Beside a cs b (keptCalls L cs)
   unfolding keptCalls keptAnswersOn deliveriesOn areaAfterAll
   beside cs a b x g = record {
-    answers = same-notes (λ d c. isKept L c) (λ d c. told (answerOn d c)) (λ d e y c f k. refl) (λ d e y c f k. near-told d e y c k) (λ d c k. k);
+    answers = same-notes (λ d c. isKept L c) (λ d c. told (answerOn d c)) (λ d e y c f k. refl) (λ d e y c f k. near-told d e y (f .2) c k) (λ d c k. k);
     delivered = λ level number l.
         same-notes (λ d c. isDeliveryOn d c level number) (λ d c. decoded (areaAfter d c) .clock)
-        (λ d e y c f k. near-delivery d e y c k (kept-step d e y c f k) level number l)
+        (λ d e y c f k. near-delivery d e y c f k (kept-step d e y c f k) level number l)
         (λ d e y c f k. near-clock (areaAfter d c) (areaAfter e c) (kept-step d e y c f k))
         (λ d c k. unkept-delivery d c k level number l);
     areas = beside-last areaAfter (isKept L) Good Fine Near good-first good-rest kept-step other-step cs a b x g;

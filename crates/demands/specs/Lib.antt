@@ -2,3 +2,4 @@ pub mod SlotWords
 pub mod RefusalTable
 pub mod SessionNumbers
 pub mod Runs
+pub mod BordersTold

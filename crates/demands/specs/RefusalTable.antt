@@ -1,8 +1,8 @@
--- Document 01, "Refusals": its table row by row, row 12 as T-01 of document 02 has it, over lent areas. Refusal 18 is the player's.
+-- Document 01, "Refusals": its table row by row, row 12 as T-01 of document 02 has it, rows 13 and 14 as T-02 has them and its rows 19 and 20, over lent areas. Refusal 18 is the player's.
 -- What it says of a row's condition, a deadline, a pin and a class is said here anew, and not by the words of the definitions that it judges.
-use mathlib.Core.Bool.{Bool, true, false, _&&_, _||_, not}
+use mathlib.Core.Bool.{Bool, true, false, cond, _&&_, _||_, not}
 use mathlib.Core.List.{List, [], _∷_}
-use Prim.Native.Nat.{ℕ, _/_}
+use Prim.Native.Nat.{ℕ, _+_}
 use lib.Dec.{leb, ltb, eqb}
 use lib.ListN.{length}
 use Rattle.seq.specs.Below.{anyBelow}
@@ -13,9 +13,10 @@ use Rattle.model.specs.declared.Content.{Content}
 use Rattle.model.specs.declared.Content.the-variants.{Empty, Filled}
 use Rattle.model.specs.declared.Pin.{Pin}
 use Rattle.model.specs.declared.Pin.the-variants as Pin
+use Rattle.model.specs.declared.Borders.{Borders}
 use Rattle.model.specs.declared.State.{State}
 use Rattle.model.specs.State.{rowAt, slotAt, holdingAt}
-use Rattle.rules.specs.Content.{fields, isStart, isBegin, isRequest, isUnpin, isEnd, isRetry, isTick, rowNamed}
+use Rattle.rules.specs.Content.{fields, isStart, isBegin, isRequest, isUnpin, isEnd, isRetry, isTick, isBorders, rowNamed}
 use Rattle.area.specs.Layout.{decoded}
 use Rattle.sabre.specs.Lent.{soundArea}
 
@@ -62,12 +63,19 @@ readOrWrite Pin.Write = true
 unfoldable pub pinned : State → ℕ → ℕ → Bool
 pinned s row page = anyBelow 64 (λ slot. has page (slotAt s slot .content) && readOrWrite (holdingAt s slot row .pin))
 
+-- the class of a page: how many of the three borders it has reached
+abbrev pub reached : ℕ → ℕ → ℕ
+reached page border = cond (leb border page) 1 0
+
+abbrev pub class : Borders → ℕ → ℕ
+class b page = reached page (b .first) + reached page (b .second) + reached page (b .third)
+
 -- the refusals by rising number, each with whether it applies to the call on the area
 unfoldable pub refusals : List ℕ → Call → List (ℕ × Bool)
 refusals a c =
     let x = fields c in
-    let class = x .page / 1024 in
     let s = decoded a in
+    let pageClass = class (s .borders) (x .page) in
     let condition = rowAt s (rowNamed c) .condition in
     (1, ltb (length a) 65536 || (not (isStart c) && not (soundArea a)))
     ∷ (2, isStart c && not (leb 1 (x .slots) && leb (x .slots) 64))
@@ -81,11 +89,13 @@ refusals a c =
     ∷ (10, (isRequest c || isUnpin c || isRetry c) && killed condition)
     ∷ (11, (isRequest c || isUnpin c) && fetchingOrWaiting condition)
     ∷ (12, isBegin c && ltb (x .deadline) (s .clock))
-    ∷ (13, isRequest c && eqb (x .mode) 0 && ltb (x .level) class)
-    ∷ (14, isRequest c && eqb (x .mode) 1 && ltb class (x .level))
+    ∷ (13, isRequest c && eqb (x .mode) 0 && ltb (x .level) pageClass)
+    ∷ (14, isRequest c && eqb (x .mode) 1 && ltb pageClass (x .level))
     ∷ (15, isUnpin c && not (pinned s (rowNamed c) (x .page)))
     ∷ (16, isRetry c && idleOrFetching condition)
     ∷ (17, isTick c && leb 4000000000 (s .clock))
+    ∷ (19, isBorders c && (ltb (x .second) (x .first) || ltb (x .third) (x .second) || ltb 4096 (x .first) || ltb 4096 (x .second) || ltb 4096 (x .third)))
+    ∷ (20, isBorders c && s .begun)
     ∷ []
 
 -- the refusal of that number applies

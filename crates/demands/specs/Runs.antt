@@ -1,10 +1,11 @@
--- Demand 3 and document 01, "Two runs side by side", over lent areas: each call gets the area as the one before left it.
+-- Demand 3 and document 01, "Two runs side by side", as T-02 of document 02 has it, over lent areas: each call gets the area as the one before left it.
 use mathlib.Core.Path.{_≡_}
 use mathlib.Core.Bool.{Bool, true, _&&_, _||_, not}
 use mathlib.Core.List.{List, [], _∷_}
 use Prim.Native.Nat.{ℕ, _≤_}
 use Rattle.seq.specs.Machine.{lastOf, throughout, noted}
 use Rattle.model.specs.declared.Answer.the-variants.{Started}
+use Rattle.model.specs.declared.Borders.{Borders}
 use Rattle.model.specs.declared.Call.{Call}
 use Rattle.model.specs.declared.Call.the-variants.{Start, Look}
 use Rattle.rules.specs.Answers.{isStarted, isReady, isPending, isIdle, Told, told}
@@ -63,7 +64,11 @@ pub record FromFreshStart (r : Run) : Type 0 where
   pub not-again : notStartedAgain (startedArea r) (r .calls) ≡ true
   pub fit : AllFit (r .calls)
 
--- two runs that are compared for clearance L: with equal slots and equal delay,
+-- the borders that it ends with
+abbrev pub lastBorders : Run → Borders
+lastBorders r = decoded (areaAfterAll (startedArea r) (r .calls)) .borders
+
+-- two runs that are compared for clearance L: with equal slots and equal delay, they end with the same borders,
 -- and the kept calls, the ticks and the calls made by L and below, agree in order and content
 pub record Compared (L : ℕ) (r q : Run) : Type 0 where
   pub clearance : L ≤ 3
@@ -71,6 +76,7 @@ pub record Compared (L : ℕ) (r q : Run) : Type 0 where
   pub second : FromFreshStart q
   pub same-slots : r .slots ≡ q .slots
   pub same-delay : r .delay ≡ q .delay
+  pub same-borders : lastBorders r ≡ lastBorders q
   pub same-kept : keptCalls L (r .calls) ≡ keptCalls L (q .calls)
 
 -- what is said of them: the kept calls have the same answers, each row of L or below has the same deliveries at the same ticks,

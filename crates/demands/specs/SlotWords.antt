@@ -1,4 +1,4 @@
--- Document 01, "State", a page in a slot and a row's deadline, as docs/LAYOUT.md lays them out.
+-- Document 01, "State", and document 02, T-02: a page in a slot, a row's deadline and whether a row has begun, as docs/LAYOUT.md lays them out.
 use mathlib.Core.List.{List}
 use Prim.Native.Nat.{ℕ, _+_, _*_}
 use Rattle.words.specs.Bytes.{wordAt}
@@ -13,3 +13,7 @@ pageWord a slot = wordAt a (2560 + slot * 64 + 8)
 -- the fourth word of a row is its deadline
 abbrev pub deadlineWord : List ℕ → ℕ → ℕ
 deadlineWord a row = wordAt a (512 + row * 64 + 24)
+
+-- 1 if a row has begun since the start, else 0
+abbrev pub begunWord : List ℕ → ℕ
+begunWord a = wordAt a 64

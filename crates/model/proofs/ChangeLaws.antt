@@ -48,7 +48,7 @@ module _ (some : ℕ → Bool) (s : State) (z : Sized s) where
     unfolding killed
     sized-killed = record { rows = each-length _ (s .rows) ∙ z .rows; slots = sized-released .slots; holdings = sized-released .holdings }
 
--- the number of slots, the delay and the clock stay
+-- the number of slots, the delay, the clock and the borders stay
 pub killed-clock : (some : ℕ → Bool) (cause : Cause) (s : State) → killed some cause s .clock ≡ s .clock
 unfolding killed released
 killed-clock some cause s = refl
@@ -60,6 +60,10 @@ killed-delay some cause s = refl
 pub killed-size : (some : ℕ → Bool) (cause : Cause) (s : State) → killed some cause s .size ≡ s .size
 unfolding killed released
 killed-size some cause s = refl
+
+pub killed-borders : (some : ℕ → Bool) (cause : Cause) (s : State) → killed some cause s .borders ≡ s .borders
+unfolding killed released
+killed-borders some cause s = refl
 
 module _ (gone : ℕ) (s : State) (z : Sized s) where
   pub cleared-holding : (slot row : ℕ) → row < 32 → holdingAt (cleared gone s) slot row ≡ cond (eqb slot gone) emptyHolding (holdingAt s slot row)

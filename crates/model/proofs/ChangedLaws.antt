@@ -12,10 +12,11 @@ use lib.Seq.{ext-getD, getD-set-same, getD-set-other}
 use Rattle.seq.specs.Each.{each}
 use Rattle.seq.proofs.EachLaws.{each-length, each-at, each-same, each-still}
 use Rattle.model.specs.State.{emptyHolding, holdingAt}
-use Rattle.model.specs.Inner.Changed.{marked, holdingAfter, changed, holdingsDropped}
+use Rattle.model.specs.Inner.Changed.{marked, holdingAfter, bordersAfter, begunAfter, changed, holdingsDropped}
 use Rattle.model.specs.declared.Row.{Row}
 use Rattle.model.specs.declared.Slot.{Slot}
 use Rattle.model.specs.declared.Holding.{Holding}
+use Rattle.model.specs.declared.Setting.{Setting}
 use Rattle.model.specs.declared.Change.{Change}
 use Rattle.model.specs.declared.State.{State}
 use Rattle.model.proofs.StateLaws.{Sized, place-slot, place-row}
@@ -41,15 +42,17 @@ module _ (s : State) (z : Sized s) where
       each-at (holdingAfter c) (s .holdings) (c .slot * 32 + row) emptyHolding (rw (z .holdings) (omega arith))
       ∙ rw (place-slot (c .slot) row h, place-row (c .slot) row h, eq-eqb (c .slot) (c .slot) refl)
 
-  module _ (clock : ℕ) (rows : List Row) (slots : List Slot) (gone : List Bool) where
+  module _ (clock : ℕ) (rows : List Row) (slots : List Slot) (gone : List Bool) (setting : Setting) where
     -- some rows lose all their holdings
-    pub changed-dropped : changed s (holdingsDropped clock rows slots gone) ≡ record {
+    pub changed-dropped : changed s (holdingsDropped clock rows slots gone setting) ≡ record {
       size = s .size;
       delay = s .delay;
       clock = clock;
       rows = rows;
       slots = slots;
       holdings = each (λ k h. cond (marked gone (k % 32)) emptyHolding h) (s .holdings);
+      borders = bordersAfter setting (s .borders);
+      begun = begunAfter setting (s .begun);
     }
     unfolding changed holdingsDropped holdingAfter
     changed-dropped = λ j. record {
@@ -59,18 +62,22 @@ module _ (s : State) (z : Sized s) where
       rows = rows;
       slots = slots;
       holdings =
-          each-same (holdingAfter (holdingsDropped clock rows slots gone)) (λ k h. cond (marked gone (k % 32)) emptyHolding h) (s .holdings) emptyHolding
+          each-same (holdingAfter (holdingsDropped clock rows slots gone setting)) (λ k h. cond (marked gone (k % 32)) emptyHolding h) (s .holdings) emptyHolding
           (λ k b. rw (ne-eqb (k / 32) 64 (λ e. omega (arith, z .holdings)))) j;
+      borders = bordersAfter setting (s .borders);
+      begun = begunAfter setting (s .begun);
     }
 
     -- no row does
-    pub changed-none : ((row : ℕ) → row < 32 → marked gone row ≡ false) → changed s (holdingsDropped clock rows slots gone) ≡ record {
+    pub changed-none : ((row : ℕ) → row < 32 → marked gone row ≡ false) → changed s (holdingsDropped clock rows slots gone setting) ≡ record {
       size = s .size;
       delay = s .delay;
       clock = clock;
       rows = rows;
       slots = slots;
       holdings = s .holdings;
+      borders = bordersAfter setting (s .borders);
+      begun = begunAfter setting (s .begun);
     }
     changed-none f =
         changed-dropped
@@ -81,6 +88,8 @@ module _ (s : State) (z : Sized s) where
           rows = rows;
           slots = slots;
           holdings = each-still (λ k h. cond (marked gone (k % 32)) emptyHolding h) (s .holdings) emptyHolding (λ k _. rw (f (k % 32) (omega arith))) j;
+          borders = bordersAfter setting (s .borders);
+          begun = begunAfter setting (s .begun);
         })
 
   -- one holding of the slot is set

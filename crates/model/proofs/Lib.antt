@@ -11,3 +11,4 @@ pub mod Ranges
 pub mod SameRows
 pub mod Releasing
 pub mod ChangedLaws
+pub mod BordersLaws

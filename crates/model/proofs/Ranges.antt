@@ -17,6 +17,7 @@ use Rattle.model.specs.declared.Content.the-variants.{Empty, Filled}
 use Rattle.model.specs.declared.Holding as Holding'
 use Rattle.model.specs.declared.Row as Row'
 use Rattle.model.specs.declared.Slot as Slot'
+use Rattle.model.specs.declared.Borders as Borders'
 use Rattle.model.specs.declared.State as State'
 use Rattle.model.proofs.StateLaws.{Sized}
 use Rattle.model.proofs.Condition
@@ -24,6 +25,7 @@ use Rattle.model.proofs.Content
 use Rattle.model.proofs.Holding
 use Rattle.model.proofs.Row
 use Rattle.model.proofs.Slot
+use Rattle.model.proofs.Borders
 use Rattle.model.proofs.State
 
 abbrev pub ConditionOk : Condition'.Condition → Type 0
@@ -49,6 +51,11 @@ pub record SlotOk (t : Slot'.Slot) : Type 0 where
   pub content : ContentOk (t .content)
   pub touch : t .touch < 2 ^ 32
 
+pub record BordersOk (b : Borders'.Borders) : Type 0 where
+  pub first : b .first < 2 ^ 32
+  pub second : b .second < 2 ^ 32
+  pub third : b .third < 2 ^ 32
+
 pub record StateOk (s : State'.State) : Type 0 where
   pub size : s .size < 2 ^ 64
   pub delay : s .delay < 2 ^ 32
@@ -57,6 +64,7 @@ pub record StateOk (s : State'.State) : Type 0 where
   pub row : (i : ℕ) → RowOk (getD (s .rows) i freeRow)
   pub slot : (i : ℕ) → SlotOk (getD (s .slots) i emptySlot)
   pub holding : (i : ℕ) → HoldingOk (getD (s .holdings) i emptyHolding)
+  pub borders : BordersOk (s .borders)
 
 -- what holds of each element by its type, holds of the element at an index, or of the default
 module _ (F : Field) (P : F .Value → Type 0) (ok : (x : F .Value) (u : Val) → Is (F .row) (F .into x) (u ∷ []) → P x) (d : F .Value) (pd : P d) where
@@ -86,6 +94,9 @@ row-ok r vs p = record { condition = condition-ok (r .condition) (p .0 .0) (p .1
 pub slot-ok : (t : Slot'.Slot) (vs : List Val) → Is Slot.the-row t vs → SlotOk t
 slot-ok t vs p = record { content = content-ok (t .content) (p .0 .0) (p .1 .1 .0); touch = p .1 .1 .1 .0 .1 }
 
+pub borders-ok : (b : Borders'.Borders) (vs : List Val) → Is Borders.the-row b vs → BordersOk b
+borders-ok b vs p = record { first = p .1 .1 .0 .1; second = p .1 .1 .1 .0 .1; third = p .1 .1 .1 .1 .0 .1 }
+
 pub state-ok : (s : State'.State) (vs : List Val) → Is State.the-row s vs → StateOk s
 state-ok s vs p = record {
   size = p .1 .1 .0 .1;
@@ -99,4 +110,5 @@ state-ok s vs p = record {
   row = λ i. element-ok Row.the-field RowOk (λ x u. row-ok x (u ∷ [])) freeRow (record { condition = tt; deadline = lit< tt }) (s .rows) _ i (p .1 .1 .1 .1 .1 .0 .1 .1);
   slot = λ i. element-ok Slot.the-field SlotOk (λ x u. slot-ok x (u ∷ [])) emptySlot (record { content = tt; touch = lit< tt }) (s .slots) _ i (p .1 .1 .1 .1 .1 .1 .0 .1 .1);
   holding = λ i. element-ok Holding.the-field HoldingOk (λ x u. holding-ok x (u ∷ [])) emptyHolding (record { arrival = lit< tt; touch = lit< tt }) (s .holdings) _ i (p .1 .1 .1 .1 .1 .1 .1 .0 .1 .1);
+  borders = borders-ok (s .borders) _ (p .1 .1 .1 .1 .1 .1 .1 .1 .0);
 }

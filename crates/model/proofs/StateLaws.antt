@@ -8,7 +8,7 @@ use borrow.Author.Tests.{eq-eqb, ne-eqb}
 use lib.Dec.{eqb}
 use lib.ListN.{length, length-set, length-replicate}
 use Rattle.seq.proofs.EachLaws.{set-at, replicate-at}
-use Rattle.model.specs.State.{freeRow, emptySlot, emptyHolding, emptyHoldings, fresh, rowAt, slotAt, holdingAt, withClock, putRow, putSlot, putHolding}
+use Rattle.model.specs.State.{freeRow, emptySlot, emptyHolding, emptyHoldings, fresh, rowAt, slotAt, holdingAt, withClock, withBegun, putRow, putSlot, putHolding}
 use Rattle.model.specs.declared.Row.{Row}
 use Rattle.model.specs.declared.Slot.{Slot}
 use Rattle.model.specs.declared.Holding.{Holding}
@@ -61,6 +61,9 @@ module _ (s : State) (z : Sized s) where
 
   pub sized-clock : (clock : ℕ) → Sized (withClock s clock)
   sized-clock clock = record { rows = z .rows; slots = z .slots; holdings = z .holdings }
+
+  pub sized-begun : Sized (withBegun s)
+  sized-begun = record { rows = z .rows; slots = z .slots; holdings = z .holdings }
 
 -- the fresh state, at each place
 module _ (slots delay : ℕ) where

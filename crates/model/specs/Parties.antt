@@ -1,11 +1,12 @@
--- Document 01, "The parties": rows, classes, the access rule, priority; T-01 of document 02, when a deadline has passed.
-use mathlib.Core.Bool.{Bool, cond}
+-- Document 01, "The parties": rows, classes, the access rule, priority; of document 02, T-01, when a deadline has passed, and T-02, the borders of the classes.
+use mathlib.Core.Bool.{Bool, cond, _&&_}
 use Prim.Native.Nat.{ℕ, _+_, _*_, _/_, _%_}
 use lib.Dec.{leb, ltb, eqb}
 use Rattle.seq.specs.Order.{lexLess}
 use Rattle.model.specs.declared.Mode.{Mode}
 use Rattle.model.specs.declared.Mode.the-variants.{Read, Write}
 use Rattle.model.specs.declared.Rank.{Rank}
+use Rattle.model.specs.declared.Borders.{Borders}
 
 -- each level has eight rows of its own, numbers 0 to 7; over all levels a row is one number below 32
 abbrev pub rowOf : ℕ → ℕ → ℕ
@@ -17,9 +18,17 @@ levelOf row = row / 8
 abbrev pub numberOf : ℕ → ℕ
 numberOf row = row % 8
 
--- class = page / 1,024, rounded down
-abbrev pub classOf : ℕ → ℕ
-classOf page = page / 1024
+-- class 0 lies below the first border, class 1 below the second, class 2 below the third, class 3 at or above it
+unfoldable pub classOf : Borders → ℕ → ℕ
+classOf b page = cond (ltb page (b .first)) 0 (cond (ltb page (b .second)) 1 (cond (ltb page (b .third)) 2 3))
+
+-- the borders until others are set
+abbrev pub usualBorders : Borders
+usualBorders = record { first = 1024; second = 2048; third = 3072 }
+
+-- borders that do not fall and do not exceed 4,096
+unfoldable pub areBorders : Borders → Bool
+areBorders b = leb (b .first) (b .second) && leb (b .second) (b .third) && leb (b .third) 4096
 
 -- mode 0 is read, 1 is write
 abbrev pub modeOf : ℕ → Mode
@@ -35,8 +44,8 @@ allowed level class Read = leb class level
 allowed level class Write = leb level class
 
 -- the access to a page
-abbrev pub mayAccess : ℕ → ℕ → Mode → Bool
-mayAccess level page mode = allowed level (classOf page) mode
+abbrev pub mayAccess : Borders → ℕ → ℕ → Mode → Bool
+mayAccess b level page mode = allowed level (classOf b page) mode
 
 -- the last tick of the clock
 abbrev pub lastClock : ℕ

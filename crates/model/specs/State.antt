@@ -1,4 +1,5 @@
--- Document 01, "State": the empty values, the fresh state, what stands at a row, a slot and a holding, and a state with one part replaced.
+-- Document 01, "State", and T-02 of document 02: the empty values, the fresh state, what stands at a row, a slot and a holding, and a state with one part replaced.
+use mathlib.Core.Bool.{true, false}
 use mathlib.Core.List.{List}
 use Prim.Native.Nat.{ℕ, _+_, _*_}
 use lib.ListN.{getD, set, replicate}
@@ -8,7 +9,9 @@ use Rattle.model.specs.declared.Pin.the-variants.{Absent}
 use Rattle.model.specs.declared.Row.{Row}
 use Rattle.model.specs.declared.Slot.{Slot}
 use Rattle.model.specs.declared.Holding.{Holding}
+use Rattle.model.specs.declared.Borders.{Borders}
 use Rattle.model.specs.declared.State.{State}
+use Rattle.model.specs.Parties.{usualBorders}
 
 abbrev pub freeRow : Row
 freeRow = record { condition = Free; deadline = 0 }
@@ -23,7 +26,7 @@ emptyHolding = record { pin = Absent; arrival = 0; touch = 0 }
 unfoldable pub emptyHoldings : List Holding
 emptyHoldings = replicate 2048 emptyHolding
 
--- a fresh start: clock 0, every row free, all slots and all holdings empty
+-- a fresh start: clock 0, every row free, all slots and all holdings empty, the usual borders, no row begun
 unfoldable pub fresh : ℕ → ℕ → State
 fresh slots delay = record {
   size = slots;
@@ -32,6 +35,8 @@ fresh slots delay = record {
   rows = replicate 32 freeRow;
   slots = replicate 64 emptySlot;
   holdings = emptyHoldings;
+  borders = usualBorders;
+  begun = false;
 }
 
 abbrev pub rowAt : State → ℕ → Row
@@ -45,16 +50,23 @@ abbrev pub holdingAt : State → ℕ → ℕ → Holding
 holdingAt s slot row = getD (s .holdings) (slot * 32 + row) emptyHolding
 
 abbrev pub withClock : State → ℕ → State
-withClock s clock = record { size = s .size; delay = s .delay; clock = clock; rows = s .rows; slots = s .slots; holdings = s .holdings }
+withClock s clock = record { size = s .size; delay = s .delay; clock = clock; rows = s .rows; slots = s .slots; holdings = s .holdings; borders = s .borders; begun = s .begun }
 
 abbrev pub withRows : State → List Row → State
-withRows s rows = record { size = s .size; delay = s .delay; clock = s .clock; rows = rows; slots = s .slots; holdings = s .holdings }
+withRows s rows = record { size = s .size; delay = s .delay; clock = s .clock; rows = rows; slots = s .slots; holdings = s .holdings; borders = s .borders; begun = s .begun }
 
 abbrev pub withSlots : State → List Slot → State
-withSlots s slots = record { size = s .size; delay = s .delay; clock = s .clock; rows = s .rows; slots = slots; holdings = s .holdings }
+withSlots s slots = record { size = s .size; delay = s .delay; clock = s .clock; rows = s .rows; slots = slots; holdings = s .holdings; borders = s .borders; begun = s .begun }
 
 abbrev pub withHoldings : State → List Holding → State
-withHoldings s holdings = record { size = s .size; delay = s .delay; clock = s .clock; rows = s .rows; slots = s .slots; holdings = holdings }
+withHoldings s holdings = record { size = s .size; delay = s .delay; clock = s .clock; rows = s .rows; slots = s .slots; holdings = holdings; borders = s .borders; begun = s .begun }
+
+abbrev pub withBorders : State → Borders → State
+withBorders s b = record { size = s .size; delay = s .delay; clock = s .clock; rows = s .rows; slots = s .slots; holdings = s .holdings; borders = b; begun = s .begun }
+
+-- a row has begun
+abbrev pub withBegun : State → State
+withBegun s = record { size = s .size; delay = s .delay; clock = s .clock; rows = s .rows; slots = s .slots; holdings = s .holdings; borders = s .borders; begun = true }
 
 abbrev pub putRow : State → ℕ → Row → State
 putRow s row x = withRows s (set (s .rows) row x)

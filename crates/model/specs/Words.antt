@@ -19,6 +19,13 @@ use Rattle.model.specs.declared.State.{State}
 use Rattle.model.specs.Parties.{levelOf, rankOf, better}
 use Rattle.model.specs.State.{emptySlot, rowAt, slotAt, holdingAt}
 
+abbrev pub isFree : Condition → Bool
+isFree Free = true
+isFree Idle = false
+isFree (Fetching due) = false
+isFree (Waiting page mode) = false
+isFree (Killed cause) = false
+
 -- idle, fetching and waiting rows are live
 abbrev pub isLive : Condition → Bool
 isLive Free = false

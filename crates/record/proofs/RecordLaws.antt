@@ -18,7 +18,7 @@ use Rattle.words.specs.Bytes.{part}
 use Rattle.seq.proofs.Tests.{and-false-right}
 use Rattle.model.proofs.Call.{the-type}
 use Rattle.model.specs.declared.Call.{Call}
-use Rattle.model.specs.declared.Call.the-variants.{Start, Begin, Request, Retry, Unpin, End, Tick, Look, View, Count}
+use Rattle.model.specs.declared.Call.the-variants.{Start, Begin, Request, Retry, Unpin, End, Tick, Look, View, Count, Borders}
 use Rattle.rules.specs.Content.{isStart}
 use Rattle.record.specs.declared.Input.{Input}
 use Rattle.record.specs.declared.Input.the-variants.{Bad}
@@ -80,3 +80,4 @@ no-start Tick tags f h = refl
 no-start (Look level number) tags f h = refl
 no-start (View level page) tags f h = refl
 no-start (Count level) tags f h = refl
+no-start (Borders first second third) tags f h = refl

@@ -1,11 +1,11 @@
--- Document 01, "The player": the call that a record of 12 bytes names.
+-- Document 01, "The player", and document 02, T-02: the call that a record of 12 bytes names.
 use mathlib.Core.Bool.{Bool, cond, _&&_}
 use mathlib.Core.List.{List, [], _∷_}
-use Prim.Native.Nat.{ℕ, _+_, _*_}
+use Prim.Native.Nat.{ℕ, _+_, _*_, _/_, _%_}
 use lib.Dec.{eqb}
 use lib.ListN.{length, getD}
 use Rattle.words.specs.Bytes.{part}
-use Rattle.model.specs.declared.Call.the-variants.{Start, Begin, Request, Retry, Unpin, End, Tick, Look, View, Count}
+use Rattle.model.specs.declared.Call.the-variants.{Start, Begin, Request, Retry, Unpin, End, Tick, Look, View, Count, Borders}
 use Rattle.record.specs.declared.Input.{Input}
 use Rattle.record.specs.declared.Input.the-variants.{Bad, Good}
 
@@ -31,6 +31,7 @@ kinds level number mode page value =
     Good (Look level number) ∷  -- 7
     Good (View level page) ∷  -- 8
     Good (Count level) ∷  -- 9
+    Good (Borders page (value / 65536) (value % 65536)) ∷  -- 10: the borders in page and the two halves of value, high half first
     []
 
 -- a record of another kind is bad

@@ -1,4 +1,4 @@
--- Document 01, "The player": the line of an answer, as bytes.
+-- Document 01, "The player", and document 02, T-02: the line of an answer, as bytes.
 use mathlib.Core.Bool.{cond}
 use mathlib.Core.List.{List, [], _∷_, _++_}
 use Prim.Native.Nat.{ℕ, zero, suc, _+_, _/_, _%_}
@@ -36,6 +36,7 @@ words =
     (119 ∷ 114 ∷ 105 ∷ 116 ∷ 101 ∷ []) ∷  -- write
     (100 ∷ 111 ∷ 114 ∷ 109 ∷ 97 ∷ 110 ∷ 116 ∷ []) ∷  -- dormant
     (111 ∷ 112 ∷ 101 ∷ 110 ∷ []) ∷  -- open
+    (98 ∷ 111 ∷ 114 ∷ 100 ∷ 101 ∷ 114 ∷ 115 ∷ []) ∷  -- borders
     []
 
 abbrev pub wordText : ℕ → List ℕ

@@ -80,6 +80,11 @@ fn input_of(kind: u32, level: u32, number: u32, mode: u32, page: u32, value: u32
         7 => Input::Good(Call::Look { level, number }),
         8 => Input::Good(Call::View { level, page }),
         9 => Input::Good(Call::Count { level }),
+        10 => Input::Good(Call::Borders {
+            first: page,
+            second: value / 65536,
+            third: value % 65536,
+        }),
         _ => Input::Bad,
     }
 }
@@ -148,7 +153,7 @@ fn put_number(out: &mut [u8], at: usize, n: u64) -> usize
 }
 
 // The words in the order of their numbers, each ended by a zero byte or by its eighth letter.
-const WORDS: [[u8; 8]; 19] = [
+const WORDS: [[u8; 8]; 20] = [
     *b"refused\0",
     *b"started\0",
     *b"begun\0\0\0",
@@ -168,6 +173,7 @@ const WORDS: [[u8; 8]; 19] = [
     *b"write\0\0\0",
     *b"dormant\0",
     *b"open\0\0\0\0",
+    *b"borders\0",
 ];
 
 fn put_word(out: &mut [u8], at: usize, word: u64) -> usize

@@ -3,3 +3,4 @@ pub mod HiddenFill
 pub mod HiddenChoice
 pub mod HiddenServed
 pub mod Hidden
+pub mod OtherBorders

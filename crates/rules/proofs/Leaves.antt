@@ -7,3 +7,4 @@ pub mod ContentLaws
 pub mod RefusalFacts
 pub mod CallEffects
 pub mod ServeCases
+pub mod SettingLaws

@@ -3,17 +3,17 @@ use mathlib.Core.Path.{_≡_, refl}
 use mathlib.Core.List.{map}
 use Rattle.seq.specs.Below.{anyBelow, allBelow, countBelow, pickBelow}
 use Rattle.seq.specs.Each.{each, eachFrom}
-use Rattle.model.specs.Parties.{allowed, better}
+use Rattle.model.specs.Parties.{classOf, areBorders, allowed, better}
 use Rattle.model.specs.State.{fresh, emptyHoldings}
 use Rattle.model.specs.Words.{conflict, stronger, seenHolder, seen, isOpen, dormant, seesDormant, outranks, bestHolder, strongestPin, leastArrival, latestTouch, slotOf}
 use Rattle.model.specs.Changes.{written, dirtied, released, killed, cleared}
 use Rattle.rules.specs.Answers.{word, value, slotTold, backTold}
 use Rattle.rules.specs.Choice.{stepA, beforeDormant, stepB, holderLevel, heldAbove, highestLevel, pinnedAt, inC, inD, heldAtOwnLevel, seenPin, inE, inF, beforeHeld, stepHeld, chosen}
-use Rattle.rules.specs.Refusals.{pinsPage, startRefusal, beginRefusal, requestRefusal, retryRefusal, unpinRefusal, endRefusal, tickRefusal, lookRefusal, viewRefusal, countRefusal}
-use Rattle.rules.specs.Calls.{started, begun, unpinnedAt, unpinned, ended, deliveredRow, isLate, deliveredRows, lateKilled, advanced, ticked, waiting, granted, conflicts, mustWait, step1, step2, step3, pinnersKilled, writeBack, filled, served, requested, retried, lookedAt, viewed, counted}
+use Rattle.rules.specs.Refusals.{pinsPage, startRefusal, beginRefusal, requestRefusal, retryRefusal, unpinRefusal, endRefusal, tickRefusal, lookRefusal, viewRefusal, countRefusal, bordersRefusal}
+use Rattle.rules.specs.Calls.{started, begun, unpinnedAt, unpinned, ended, deliveredRow, isLate, deliveredRows, lateKilled, advanced, ticked, waiting, granted, conflicts, mustWait, step1, step2, step3, pinnersKilled, writeBack, filled, served, requested, retried, lookedAt, viewed, counted, bordered}
 use Rattle.rules.specs.Run.{outcome, answers}
 use Rattle.rules.specs.Marked.{table, lines, lineOf}
 
 pub table-holds : map lines table ≡ map (map lineOf) table
-unfolding anyBelow allBelow countBelow pickBelow each eachFrom allowed better fresh emptyHoldings conflict stronger seenHolder seen isOpen dormant seesDormant outranks bestHolder strongestPin leastArrival latestTouch slotOf written dirtied released killed cleared word value slotTold backTold stepA beforeDormant stepB holderLevel heldAbove highestLevel pinnedAt inC inD heldAtOwnLevel seenPin inE inF beforeHeld stepHeld chosen pinsPage startRefusal beginRefusal requestRefusal retryRefusal unpinRefusal endRefusal tickRefusal lookRefusal viewRefusal countRefusal started begun unpinnedAt unpinned ended deliveredRow isLate deliveredRows lateKilled advanced ticked waiting granted conflicts mustWait step1 step2 step3 pinnersKilled writeBack filled served requested retried lookedAt viewed counted outcome answers
+unfolding anyBelow allBelow countBelow pickBelow each eachFrom classOf areBorders allowed better fresh emptyHoldings conflict stronger seenHolder seen isOpen dormant seesDormant outranks bestHolder strongestPin leastArrival latestTouch slotOf written dirtied released killed cleared word value slotTold backTold stepA beforeDormant stepB holderLevel heldAbove highestLevel pinnedAt inC inD heldAtOwnLevel seenPin inE inF beforeHeld stepHeld chosen pinsPage startRefusal beginRefusal requestRefusal retryRefusal unpinRefusal endRefusal tickRefusal lookRefusal viewRefusal countRefusal bordersRefusal started begun unpinnedAt unpinned ended deliveredRow isLate deliveredRows lateKilled advanced ticked waiting granted conflicts mustWait step1 step2 step3 pinnersKilled writeBack filled served requested retried lookedAt viewed counted bordered outcome answers
 table-holds = refl

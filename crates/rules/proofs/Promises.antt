@@ -11,3 +11,4 @@ pub mod Booking
 pub mod LetsGo
 pub mod Widths
 pub mod Deadlines
+pub mod Borders

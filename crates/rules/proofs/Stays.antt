@@ -2,6 +2,8 @@ pub mod StaysFresh
 pub mod StaysBase
 pub mod StaysChange
 pub mod StaysRows
+pub mod StaysSetting
+pub mod StaysBorders
 pub mod StaysDrop
 pub mod StaysOwn
 pub mod StaysTick

@@ -1,4 +1,4 @@
--- Document 01, "The player": the word and the value of an answer, and what is told to the server alone, as numbers.
+-- Document 01, "The player", and document 02, T-02: the word and the value of an answer, and what is told to the server alone, as numbers.
 use mathlib.Core.Bool.{Bool, _||_}
 use Prim.Native.Nat.{ℕ, _+_}
 use lib.Dec.{eqb}
@@ -28,6 +28,7 @@ use Rattle.model.specs.declared.Answer.the-variants.{
   PageWrite,
   PageDormant,
   Open,
+  Bordered,
 }
 
 abbrev pub causeWord : Cause → ℕ
@@ -35,7 +36,7 @@ causeWord Late = 11
 causeWord Taken = 12
 
 -- the words: 0 refused, 1 started, 2 begun, 3 ready, 4 fetch, 5 wait, 6 unpinned, 7 ended, 8 clock;
--- look: 9 none, 10 idle, 4 fetch, 5 wait, 11 late, 12 taken; view: 13 unseen, 14 active, 15 read, 16 write, 17 dormant; count: 18 open
+-- look: 9 none, 10 idle, 4 fetch, 5 wait, 11 late, 12 taken; view: 13 unseen, 14 active, 15 read, 16 write, 17 dormant; count: 18 open; 19 borders
 unfoldable pub word : Answer → ℕ
 word (Refused number) = 0
 word Started = 1
@@ -57,6 +58,7 @@ word (PageRead arrival) = 15
 word (PageWrite arrival) = 16
 word (PageDormant arrival) = 17
 word (Open count) = 18
+word Bordered = 19
 
 -- the value, 0 if none: a refusal's number, a due tick, the new clock, a view's arrival, the count of open slots
 unfoldable pub value : Answer → ℕ
@@ -80,10 +82,14 @@ value (PageRead arrival) = arrival
 value (PageWrite arrival) = arrival
 value (PageDormant arrival) = arrival
 value (Open count) = count
+value Bordered = 0
 
--- answers by their words: started; ready; fetch or wait; a look's idle; a look's late
+-- answers by their words: started; begun; ready; fetch or wait; a look's idle; a look's late; borders
 abbrev pub isStarted : Answer → Bool
 isStarted a = eqb (word a) 1
+
+abbrev pub isBegun : Answer → Bool
+isBegun a = eqb (word a) 2
 
 abbrev pub isReady : Answer → Bool
 isReady a = eqb (word a) 3
@@ -96,6 +102,9 @@ isIdle a = eqb (word a) 10
 
 abbrev pub isToldLate : Answer → Bool
 isToldLate a = eqb (word a) 11
+
+abbrev pub isBordered : Answer → Bool
+isBordered a = eqb (word a) 19
 
 -- the answers that say that a page may be used: ready, and a look's idle
 unfoldable pub mayUse : Answer → Bool
@@ -123,6 +132,7 @@ slotTold (PageRead arrival) = 0
 slotTold (PageWrite arrival) = 0
 slotTold (PageDormant arrival) = 0
 slotTold (Open count) = 0
+slotTold Bordered = 0
 
 -- the page to write back plus one, and 0 if none
 abbrev pub pageBack : Back → ℕ
@@ -150,6 +160,7 @@ backTold (PageRead arrival) = 0
 backTold (PageWrite arrival) = 0
 backTold (PageDormant arrival) = 0
 backTold (Open count) = 0
+backTold Bordered = 0
 
 -- what a clearance is told: the word and the value
 pub record Told : Type 0 where

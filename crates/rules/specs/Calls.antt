@@ -1,4 +1,4 @@
--- Document 01, "The calls": the answer and the next state of each call, a tick's late rows as T-01 of document 02 has them.
+-- Document 01, "The calls": the answer and the next state of each call, a tick's late rows as T-01 of document 02 has them; and T-02's call for borders.
 use mathlib.Core.Bool.{Bool, true, false, cond, _&&_, not}
 use Prim.Native.Nat.{ℕ, zero, suc, _+_, min}
 use lib.Dec.{leb, eqb}
@@ -17,6 +17,7 @@ use Rattle.model.specs.declared.Pin.the-variants as Pin
 use Rattle.model.specs.declared.Row.{Row}
 use Rattle.model.specs.declared.Slot.{Slot}
 use Rattle.model.specs.declared.Holding.{Holding}
+use Rattle.model.specs.declared.Borders.{Borders}
 use Rattle.model.specs.declared.State.{State}
 use Rattle.model.specs.declared.Outcome.{Outcome}
 use Rattle.model.specs.declared.Back.{Back}
@@ -43,9 +44,10 @@ use Rattle.model.specs.declared.Answer.the-variants.{
   PageWrite,
   PageDormant,
   Open,
+  Bordered,
 }
 use Rattle.model.specs.Parties.{rowOf, levelOf, modeOf, isPast}
-use Rattle.model.specs.State.{freeRow, fresh, rowAt, slotAt, holdingAt, withClock, withRows, putRow, putSlot, putHolding}
+use Rattle.model.specs.State.{freeRow, fresh, rowAt, slotAt, holdingAt, withClock, withRows, withBorders, withBegun, putRow, putSlot, putHolding}
 use Rattle.model.specs.Words.{isLive, arrivalIn, pageIn, dirtyIn, isHeld, pinOf, conflict, stronger, pins, seen, isOpen, seesDormant, outranks, strongestPin, leastArrival, slotOf}
 use Rattle.model.specs.Changes.{written, dirtied, released, killed, cleared}
 use Rattle.rules.specs.Choice.{chosen}
@@ -60,6 +62,7 @@ use Rattle.rules.specs.Refusals.{
   lookRefusal,
   viewRefusal,
   countRefusal,
+  bordersRefusal,
 }
 
 -- a refused call changes nothing
@@ -75,7 +78,7 @@ started s slots delay = unless (startRefusal slots delay) s (record { state = fr
 unfoldable pub begun : State → ℕ → ℕ → ℕ → Outcome
 begun s level number deadline =
     unless (beginRefusal s level number deadline) s
-    (record { state = putRow s (rowOf level number) (record { condition = Idle; deadline = deadline }); answer = Begun })
+    (record { state = putRow (withBegun s) (rowOf level number) (record { condition = Idle; deadline = deadline }); answer = Begun })
 
 -- unpin: the pin becomes none, the holding stays; when a write pin goes and its arrival ≤ clock, the slot becomes dirty
 unfoldable pub unpinnedAt : State → ℕ → ℕ → State
@@ -271,3 +274,7 @@ viewed s level page = unless (viewRefusal level page) s (record { state = s; ans
 unfoldable pub counted : State → ℕ → Outcome
 counted s level =
     unless (countRefusal level) s (record { state = s; answer = Open (countBelow (s .size) (isOpen s level)) })
+
+-- borders: set, as often as asked, until a row begins
+unfoldable pub bordered : State → Borders → Outcome
+bordered s b = unless (bordersRefusal s b) s (record { state = withBorders s b; answer = Bordered })

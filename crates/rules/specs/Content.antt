@@ -1,14 +1,16 @@
--- Document 01, "The calls" and "Two runs side by side": a call's content, its kind and its numbers, and who makes it.
+-- Document 01, "The calls" and "Two runs side by side", and document 02, T-02: a call's content, its kind and its numbers, and who makes it.
 -- Beside the area only the answer is lent, always four numbers long, so no length is part of the content.
 use mathlib.Core.Bool.{Bool, _&&_, _||_, not}
 use Prim.Native.Nat.{ℕ, _<_, _^_}
 use lib.Dec.{leb, eqb}
 use Rattle.model.specs.declared.Call.{Call}
 use Rattle.model.specs.declared.Call.the-variants.{Start, Begin, Request, Retry, Unpin, End, Tick, Look, View, Count}
+use Rattle.model.specs.declared.Call.the-variants as Call
+use Rattle.model.specs.declared.Borders.{Borders}
 use Rattle.model.specs.Parties.{rowOf}
 
 -- a call's kind and numbers, 0 for a number that it has not; kinds as the player has them:
--- 0 start, 1 begin, 2 request, 3 unpin, 4 end, 5 retry, 6 tick, 7 look, 8 view, 9 count
+-- 0 start, 1 begin, 2 request, 3 unpin, 4 end, 5 retry, 6 tick, 7 look, 8 view, 9 count, 10 borders
 pub record Fields : Type 0 where
   pub kind : ℕ
   pub level : ℕ
@@ -18,18 +20,22 @@ pub record Fields : Type 0 where
   pub slots : ℕ
   pub delay : ℕ
   pub deadline : ℕ
+  pub first : ℕ
+  pub second : ℕ
+  pub third : ℕ
 
 abbrev pub fields : Call → Fields
-fields (Start slots delay) = record { kind = 0; level = 0; number = 0; page = 0; mode = 0; slots = slots; delay = delay; deadline = 0 }
-fields (Begin level number deadline) = record { kind = 1; level = level; number = number; page = 0; mode = 0; slots = 0; delay = 0; deadline = deadline }
-fields (Request level number page mode) = record { kind = 2; level = level; number = number; page = page; mode = mode; slots = 0; delay = 0; deadline = 0 }
-fields (Unpin level number page) = record { kind = 3; level = level; number = number; page = page; mode = 0; slots = 0; delay = 0; deadline = 0 }
-fields (End level number) = record { kind = 4; level = level; number = number; page = 0; mode = 0; slots = 0; delay = 0; deadline = 0 }
-fields (Retry level number) = record { kind = 5; level = level; number = number; page = 0; mode = 0; slots = 0; delay = 0; deadline = 0 }
-fields Tick = record { kind = 6; level = 0; number = 0; page = 0; mode = 0; slots = 0; delay = 0; deadline = 0 }
-fields (Look level number) = record { kind = 7; level = level; number = number; page = 0; mode = 0; slots = 0; delay = 0; deadline = 0 }
-fields (View level page) = record { kind = 8; level = level; number = 0; page = page; mode = 0; slots = 0; delay = 0; deadline = 0 }
-fields (Count level) = record { kind = 9; level = level; number = 0; page = 0; mode = 0; slots = 0; delay = 0; deadline = 0 }
+fields (Start slots delay) = record { kind = 0; level = 0; number = 0; page = 0; mode = 0; slots = slots; delay = delay; deadline = 0; first = 0; second = 0; third = 0 }
+fields (Begin level number deadline) = record { kind = 1; level = level; number = number; page = 0; mode = 0; slots = 0; delay = 0; deadline = deadline; first = 0; second = 0; third = 0 }
+fields (Request level number page mode) = record { kind = 2; level = level; number = number; page = page; mode = mode; slots = 0; delay = 0; deadline = 0; first = 0; second = 0; third = 0 }
+fields (Unpin level number page) = record { kind = 3; level = level; number = number; page = page; mode = 0; slots = 0; delay = 0; deadline = 0; first = 0; second = 0; third = 0 }
+fields (End level number) = record { kind = 4; level = level; number = number; page = 0; mode = 0; slots = 0; delay = 0; deadline = 0; first = 0; second = 0; third = 0 }
+fields (Retry level number) = record { kind = 5; level = level; number = number; page = 0; mode = 0; slots = 0; delay = 0; deadline = 0; first = 0; second = 0; third = 0 }
+fields Tick = record { kind = 6; level = 0; number = 0; page = 0; mode = 0; slots = 0; delay = 0; deadline = 0; first = 0; second = 0; third = 0 }
+fields (Look level number) = record { kind = 7; level = level; number = number; page = 0; mode = 0; slots = 0; delay = 0; deadline = 0; first = 0; second = 0; third = 0 }
+fields (View level page) = record { kind = 8; level = level; number = 0; page = page; mode = 0; slots = 0; delay = 0; deadline = 0; first = 0; second = 0; third = 0 }
+fields (Count level) = record { kind = 9; level = level; number = 0; page = 0; mode = 0; slots = 0; delay = 0; deadline = 0; first = 0; second = 0; third = 0 }
+fields (Call.Borders first second third) = record { kind = 10; level = 0; number = 0; page = 0; mode = 0; slots = 0; delay = 0; deadline = 0; first = first; second = second; third = third }
 
 abbrev pub isStart : Call → Bool
 isStart c = eqb (fields c .kind) 0
@@ -61,6 +67,9 @@ isView c = eqb (fields c .kind) 8
 abbrev pub isCount : Call → Bool
 isCount c = eqb (fields c .kind) 9
 
+abbrev pub isBorders : Call → Bool
+isBorders c = eqb (fields c .kind) 10
+
 -- a call for a page: request or retry
 abbrev pub isAsking : Call → Bool
 isAsking c = isRequest c || isRetry c
@@ -76,9 +85,13 @@ namesRow level number c = eqb (fields c .level) level && eqb (fields c .number) 
 abbrev pub rowNamed : Call → ℕ
 rowNamed c = rowOf (fields c .level) (fields c .number)
 
--- start and tick are the server's; every other call counts as made by the level it names
+-- the borders that it names
+abbrev pub bordersNamed : Call → Borders
+bordersNamed c = record { first = fields c .first; second = fields c .second; third = fields c .third }
+
+-- start, tick and borders are the server's; every other call counts as made by the level it names
 abbrev pub isServers : Call → Bool
-isServers c = isStart c || isTick c
+isServers c = isStart c || isTick c || isBorders c
 
 -- the call is made by clearance L or below
 abbrev pub isMadeUpTo : ℕ → Call → Bool
@@ -93,3 +106,6 @@ pub record Fits (c : Call) : Type 0 where
   pub slots : fields c .slots < 2 ^ 32
   pub delay : fields c .delay < 2 ^ 32
   pub deadline : fields c .deadline < 2 ^ 32
+  pub first : fields c .first < 2 ^ 32
+  pub second : fields c .second < 2 ^ 32
+  pub third : fields c .third < 2 ^ 32

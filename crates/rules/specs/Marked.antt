@@ -1,12 +1,12 @@
 -- Document 01, "The player", session S, and "Marked for the table", M1 to M11, M5 as T-01 of document 02 has it: each call with the line it must have.
--- Eight further runs, read off the documents' steps, have what M1 to M11 leave open: a deadline at the clock, the order within steps b, c and d, e and f, and the other words.
+-- Nine further runs, read off the documents' steps, have what M1 to M11 leave open: a deadline at the clock, the order within steps b, c and d, e and f, other borders, and the other words.
 use mathlib.Core.List.{List, [], _∷_, map}
 use Prim.Native.Nat.{ℕ, _+_}
 use Rattle.model.specs.State.{fresh}
 use Rattle.model.specs.declared.Answer.{Answer}
 use Rattle.rules.specs.Answers.{word, value, slotTold, backTold}
 use Rattle.model.specs.declared.Call.{Call}
-use Rattle.model.specs.declared.Call.the-variants.{Start, Begin, Request, Retry, Unpin, End, Tick, Look, View, Count}
+use Rattle.model.specs.declared.Call.the-variants.{Start, Begin, Request, Retry, Unpin, End, Tick, Look, View, Count, Borders}
 use Rattle.rules.specs.Run.{answers}
 
 -- an output line: word, value, slot plus one or 0, page to write back plus one or 0
@@ -52,6 +52,9 @@ ended! = plain 7 0
 
 abbrev pub clock! : ℕ → Line
 clock! n = plain 8 n
+
+abbrev pub borders! : Line
+borders! = plain 19 0
 
 -- a look's words, beside idle: a fetching row's due tick is told without a slot
 abbrev pub none! : Line
@@ -331,6 +334,40 @@ e-before-f =
     ∷ Look 0 1 gives idle!
     ∷ []
 
+-- T-02: borders that fall or exceed 4,096, and borders set twice; a refused begin leaves them to be set, an accepted one does not, also once its row has ended;
+-- a page at a border is of the class above it, one below it of the class below; equal borders leave class 1 empty; a start sets the usual borders again
+abbrev pub other-borders : List Played
+other-borders =
+    Start 2 1 gives started!
+    ∷ Borders 11 10 30 gives refused! 19
+    ∷ Borders 10 31 30 gives refused! 19
+    ∷ Borders 10 20 4097 gives refused! 19
+    ∷ Borders 4096 4096 4096 gives borders!
+    ∷ Begin 4 0 9 gives refused! 4
+    ∷ Tick gives clock! 1
+    ∷ Borders 10 10 30 gives borders!
+    ∷ Begin 0 0 9 gives begun!
+    ∷ Borders 11 10 30 gives refused! 19
+    ∷ Borders 10 10 30 gives refused! 20
+    ∷ Request 0 0 10 0 gives refused! 13
+    ∷ Request 0 0 9 0 gives fetch! 2 0
+    ∷ End 0 0 gives ended!
+    ∷ Borders 0 0 0 gives refused! 20
+    ∷ Begin 1 0 9 gives begun!
+    ∷ Request 1 0 10 0 gives refused! 13
+    ∷ Request 1 0 9 1 gives refused! 14
+    ∷ Begin 2 0 9 gives begun!
+    ∷ Request 2 0 30 0 gives refused! 13
+    ∷ Request 2 0 29 0 gives fetch! 2 1
+    ∷ Begin 3 0 9 gives begun!
+    ∷ Request 3 0 29 1 gives refused! 14
+    ∷ Request 3 0 30 1 gives fetch! 2 0
+    ∷ Start 2 1 gives started!
+    ∷ Begin 0 0 9 gives begun!
+    ∷ Request 0 0 1024 0 gives refused! 13
+    ∷ Request 0 0 1023 0 gives fetch! 1 0
+    ∷ []
+
 -- the words that are left: look none, fetch and wait, view unseen, write and dormant;
 -- 11 and 16 while fetching, 11 while waiting; an accepted retry, which finds the page in its slot
 abbrev pub other-words : List Played
@@ -382,6 +419,7 @@ table =
     ∷ b-slot-number
     ∷ c-before-d
     ∷ e-before-f
+    ∷ other-borders
     ∷ other-words
     ∷ []
 

@@ -1,4 +1,4 @@
--- Document 01, "Refusals": of those that apply to a call the smallest number is given, and 0 stands for none. Refusals 1 and 18 are found before a state is there.
+-- Document 01, "Refusals", and document 02, T-01 and T-02: of those that apply to a call the smallest number is given, and 0 stands for none. Refusals 1 and 18 are found before a state is there.
 use mathlib.Core.Bool.{Bool, true, false, cond, _&&_, not}
 use mathlib.Core.List.{List, [], _∷_}
 use Prim.Native.Nat.{ℕ, _≤_}
@@ -8,22 +8,16 @@ use Rattle.model.specs.declared.Condition.{Condition}
 use Rattle.model.specs.declared.Condition.the-variants.{Free, Idle, Fetching, Waiting, Killed}
 use Rattle.model.specs.declared.Mode.{Mode}
 use Rattle.model.specs.declared.Mode.the-variants.{Read, Write}
+use Rattle.model.specs.declared.Borders.{Borders}
 use Rattle.model.specs.declared.State.{State}
-use Rattle.model.specs.Parties.{rowOf, modeOf, mayAccess, lastClock, isPast}
+use Rattle.model.specs.Parties.{rowOf, modeOf, areBorders, mayAccess, lastClock, isPast}
 use Rattle.model.specs.State.{rowAt}
-use Rattle.model.specs.Words.{pins, slotOf}
+use Rattle.model.specs.Words.{isFree, pins, slotOf}
 
 -- the refusals of a call by rising number, each with whether it applies: the first that does
 abbrev pub firstToApply : List (ℕ × Bool) → ℕ
 firstToApply [] = 0
 firstToApply (r ∷ rs) = cond (r .1) (r .0) (firstToApply rs)
-
-abbrev pub isFree : Condition → Bool
-isFree Free = true
-isFree Idle = false
-isFree (Fetching due) = false
-isFree (Waiting page mode) = false
-isFree (Killed cause) = false
 
 abbrev pub isKilled : Condition → Bool
 isKilled Free = false
@@ -91,8 +85,8 @@ requestRefusal s level number page mode =
     ∷ (9, isFree (conditionAt s level number))
     ∷ (10, isKilled (conditionAt s level number))
     ∷ (11, isBusy (conditionAt s level number))
-    ∷ (13, isRead (modeOf mode) && not (mayAccess level page (modeOf mode)))
-    ∷ (14, not (isRead (modeOf mode)) && not (mayAccess level page (modeOf mode)))
+    ∷ (13, isRead (modeOf mode) && not (mayAccess (s .borders) level page (modeOf mode)))
+    ∷ (14, not (isRead (modeOf mode)) && not (mayAccess (s .borders) level page (modeOf mode)))
     ∷ [])
 
 unfoldable pub retryRefusal : State → ℕ → ℕ → ℕ
@@ -136,3 +130,7 @@ viewRefusal level page = firstToApply ((4, ltb 3 level) ∷ (6, ltb 4095 page) �
 
 unfoldable pub countRefusal : ℕ → ℕ
 countRefusal level = firstToApply ((4, ltb 3 level) ∷ [])
+
+-- borders that fall or exceed 4,096; a row has begun since start
+unfoldable pub bordersRefusal : State → Borders → ℕ
+bordersRefusal s b = firstToApply ((19, not (areBorders b)) ∷ (20, s .begun) ∷ [])

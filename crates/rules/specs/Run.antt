@@ -1,11 +1,11 @@
--- Document 01, "The calls" and "Two runs side by side": what a call does to a state, and what a list of calls is answered.
+-- Document 01, "The calls" and "Two runs side by side", and document 02, T-02: what a call does to a state, and what a list of calls is answered.
 use mathlib.Core.List.{List, [], _∷_}
 use Rattle.model.specs.declared.Call.{Call}
-use Rattle.model.specs.declared.Call.the-variants.{Start, Begin, Request, Retry, Unpin, End, Tick, Look, View, Count}
+use Rattle.model.specs.declared.Call.the-variants.{Start, Begin, Request, Retry, Unpin, End, Tick, Look, View, Count, Borders}
 use Rattle.model.specs.declared.State.{State}
 use Rattle.model.specs.declared.Outcome.{Outcome}
 use Rattle.model.specs.declared.Answer.{Answer}
-use Rattle.rules.specs.Calls.{started, begun, requested, retried, unpinned, ended, ticked, lookedAt, viewed, counted}
+use Rattle.rules.specs.Calls.{started, begun, requested, retried, unpinned, ended, ticked, lookedAt, viewed, counted, bordered}
 
 unfoldable pub outcome : State → Call → Outcome
 outcome s (Start slots delay) = started s slots delay
@@ -18,6 +18,7 @@ outcome s Tick = ticked s
 outcome s (Look level number) = lookedAt s level number
 outcome s (View level page) = viewed s level page
 outcome s (Count level) = counted s level
+outcome s (Borders first second third) = bordered s (record { first = first; second = second; third = third })
 
 -- the state after a list of calls, and their answers
 unfoldable pub after : State → List Call → State

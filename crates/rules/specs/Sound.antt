@@ -1,4 +1,4 @@
--- Document 01, "State": what sound means, a live row's deadline as T-01 of document 02 has it. Its sentences stand beside the tests of the whole state, a slot, a row and a holding.
+-- Document 01, "State": what sound means, a live row's deadline as T-01 of document 02 has it, the borders as T-02 has them. Its sentences stand beside the tests of the whole state, a slot, a row and a holding.
 use mathlib.Core.Bool.{Bool, true, cond, _&&_, _||_, not}
 use Prim.Native.Nat.{ℕ, _+_}
 use lib.Dec.{leb, ltb, eqb}
@@ -12,9 +12,9 @@ use Rattle.model.specs.declared.Pin.{Pin}
 use Rattle.model.specs.declared.Pin.the-variants.{Absent, Unpinned, Read, Write}
 use Rattle.model.specs.declared.Mode.the-variants as Mode
 use Rattle.model.specs.declared.State.{State}
-use Rattle.model.specs.Parties.{levelOf, mayAccess, lastClock, isPast}
+use Rattle.model.specs.Parties.{levelOf, classOf, areBorders, allowed, mayAccess, lastClock, isPast}
 use Rattle.model.specs.State.{rowAt, slotAt, holdingAt}
-use Rattle.model.specs.Words.{isLive, isFilled, pageIn, arrivalIn, lowestIn, hasPage, holds, pins, conflict}
+use Rattle.model.specs.Words.{isFree, isLive, isFilled, pageIn, arrivalIn, lowestIn, hasPage, holds, pins, conflict}
 
 -- the arrays have their sizes, and the numbers of the whole state are in range
 unfoldable pub soundNumbers : State → Bool
@@ -22,12 +22,12 @@ soundNumbers s =
     eqb (length (s .rows)) 32 && eqb (length (s .slots)) 64 && eqb (length (s .holdings)) 2048
     && leb 1 (s .size) && leb (s .size) 64 && leb 1 (s .delay) && leb (s .delay) 255 && leb (s .clock) lastClock
 
--- no pin against the access rule
+-- no pin against the access rule, by the class of the page
 abbrev pub pinAllowed : ℕ → ℕ → Pin → Bool
-pinAllowed level page Absent = true
-pinAllowed level page Unpinned = true
-pinAllowed level page Read = mayAccess level page Mode.Read
-pinAllowed level page Write = mayAccess level page Mode.Write
+pinAllowed level class Absent = true
+pinAllowed level class Unpinned = true
+pinAllowed level class Read = allowed level class Mode.Read
+pinAllowed level class Write = allowed level class Mode.Write
 
 -- the holding has arrived, or is none
 unfoldable pub arrived : State → ℕ → ℕ → Bool
@@ -79,7 +79,7 @@ soundCondition s row (Fetching due) deadline =
     && allBelow 64 (λ slot. arrived s slot row || awaits s row due slot)
 soundCondition s row (Waiting page mode) deadline =
     inTime s deadline && allBelow 64 (λ slot. arrived s slot row)
-    && leb page 4095 && mayAccess (levelOf row) page mode
+    && leb page 4095 && mayAccess (s .borders) (levelOf row) page mode
 
 unfoldable pub soundRow : State → ℕ → Bool
 soundRow s row = soundCondition s row (rowAt s row .condition) (rowAt s row .deadline)
@@ -91,7 +91,7 @@ unfoldable pub soundHolding : State → ℕ → ℕ → Bool
 soundHolding s slot row =
     cond (holds s slot row)
     (isLive (rowAt s row .condition) && isFilled (slotAt s slot .content)
-    && pinAllowed (levelOf row) (pageIn (slotAt s slot .content)) (holdingAt s slot row .pin)
+    && pinAllowed (levelOf row) (classOf (s .borders) (pageIn (slotAt s slot .content))) (holdingAt s slot row .pin)
     && leb (arrivalIn (slotAt s slot .content)) (holdingAt s slot row .arrival)
     && leb (holdingAt s slot row .arrival) (s .clock + s .delay)
     && leb (holdingAt s slot row .touch) (slotAt s slot .touch)
@@ -103,7 +103,13 @@ unfoldable pub soundPins : State → ℕ → Bool
 soundPins s slot =
     allBelow 32 (λ row. allBelow row (λ other. not (conflict (holdingAt s slot row .pin) (holdingAt s slot other .pin))))
 
+-- the borders do not fall and do not exceed 4,096; before any accepted begin rows are free and slots empty
+unfoldable pub soundBorders : State → Bool
+soundBorders s =
+    areBorders (s .borders)
+    && (s .begun || (allBelow 32 (λ row. isFree (rowAt s row .condition)) && allBelow 64 (λ slot. not (isFilled (slotAt s slot .content)))))
+
 unfoldable pub sound : State → Bool
 sound s =
     soundNumbers s && allBelow 64 (soundSlot s) && soundPages s && allBelow 32 (soundRow s)
-    && allBelow 64 (λ slot. allBelow 32 (soundHolding s slot)) && allBelow 64 (soundPins s)
+    && allBelow 64 (λ slot. allBelow 32 (soundHolding s slot)) && allBelow 64 (soundPins s) && soundBorders s

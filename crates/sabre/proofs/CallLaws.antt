@@ -42,6 +42,7 @@ use Rattle.model.specs.declared.Answer.the-variants.{
   PageWrite,
   PageDormant,
   Open,
+  Bordered,
 }
 use Rattle.model.specs.State.{fresh}
 use Rattle.model.specs.Inner.Changed.{changed, outcomeOf}
@@ -51,7 +52,7 @@ use Rattle.rules.specs.Answers.{word, value, slotTold, backTold}
 use Rattle.rules.specs.Refusals.{startRefusal}
 use Rattle.rules.specs.Calls.{unless, started}
 use Rattle.model.specs.declared.Call.{Call}
-use Rattle.model.specs.declared.Call.the-variants.{Start, Begin, Request, Retry, Unpin, End, Tick, Look, View, Count}
+use Rattle.model.specs.declared.Call.the-variants.{Start, Begin, Request, Retry, Unpin, End, Tick, Look, View, Count, Borders}
 use Rattle.rules.specs.Run.{outcome}
 use Rattle.rules.proofs.Facts.SoundFacts.{Sound, facts}
 use Rattle.rules.proofs.Promises.Granting.{grant-fetch, grant-ready}
@@ -78,8 +79,8 @@ module _ (a : List ℕ) (c : Call) where
   finished o r ns b u e p q t = record { returned = rw (u, ← e) p; told = rw (u, ← e) q; left = rw (u, ← e) t }
 
 -- which calls are no start: those of the other tags, and look, view and count
-pub not-start : (c : Call) → OneOf (1 ∷ 2 ∷ 3 ∷ 4 ∷ 5 ∷ 6 ∷ 7 ∷ 8 ∷ 9 ∷ []) (tagOf Call'.the-type c) → isStart c ≡ false
-not-start (Start slots delay) k = absurd (miss (1 ∷ 2 ∷ 3 ∷ 4 ∷ 5 ∷ 6 ∷ 7 ∷ 8 ∷ 9 ∷ []) 0 tt k)
+pub not-start : (c : Call) → OneOf (1 ∷ 2 ∷ 3 ∷ 4 ∷ 5 ∷ 6 ∷ 7 ∷ 8 ∷ 9 ∷ 10 ∷ []) (tagOf Call'.the-type c) → isStart c ≡ false
+not-start (Start slots delay) k = absurd (miss (1 ∷ 2 ∷ 3 ∷ 4 ∷ 5 ∷ 6 ∷ 7 ∷ 8 ∷ 9 ∷ 10 ∷ []) 0 tt k)
 not-start (Begin level number deadline) k = refl
 not-start (Request level number page mode) k = refl
 not-start (Retry level number) k = refl
@@ -89,6 +90,7 @@ not-start Tick k = refl
 not-start (Look level number) k = refl
 not-start (View level page) k = refl
 not-start (Count level) k = refl
+not-start (Borders first second third) k = refl
 
 pub reading-no-start : (c : Call) → isReading c ≡ true → isStart c ≡ false
 reading-no-start c = go (fields c .kind)
@@ -148,6 +150,7 @@ fits-slot s z c = go (outcome s c .answer) refl
     go (PageWrite arrival) e = omega arith
     go (PageDormant arrival) e = omega arith
     go (Open count) e = omega arith
+    go Bordered e = omega arith
 
 pub ready-slot : (x : Answer) (slot : ℕ) (back : Back) → x ≡ Ready slot back → slotTold x ≤ 64 → slot + 1 ≤ 64
 unfolding slotTold
@@ -181,6 +184,7 @@ refused-narrow (PageRead arrival) vs h e = omega (arith, e)
 refused-narrow (PageWrite arrival) vs h e = omega (arith, e)
 refused-narrow (PageDormant arrival) vs h e = omega (arith, e)
 refused-narrow (Open count) vs h e = omega (arith, e)
+refused-narrow Bordered vs h e = omega (arith, e)
 
 -- the numbers of an answer: the word is 0 for a refusal, and the value is then its number
 module _ (x : Answer) (ns : List ℕ) (e : ns ≡ answerNumbers x) where

@@ -15,7 +15,7 @@ ghost use Rattle.rules.specs.Sound.{sound};
 ghost use Rattle.rules.specs.Content.{isReading};
 ghost use Rattle.rules.specs.Answers.{causeWord, pageBack, slotTold};
 ghost use Rattle.model.specs.declared.Answer.the-variants.{Refused};
-ghost use Rattle.model.specs.declared.Call.the-variants.{Start, Begin, Request, Retry, Unpin, End, Tick, Look, View, Count};
+ghost use Rattle.model.specs.declared.Call.the-variants.{Start, Begin, Request, Retry, Unpin, End, Tick, Look, View, Count, Borders};
 ghost use Rattle.model.specs.Inner.Changed.{changed};
 ghost use Rattle.area.specs.Layout.{encoded, decoded, exact};
 ghost use Rattle.sabre.specs.Lent.{isRefused, answerOn, areaAfter, status, answerNumbers};
@@ -73,6 +73,7 @@ fn answer_numbers(x: Answer) -> [u64; 4]
         Answer::PageWrite(arrival) => [16, arrival as u64, 0, 0],
         Answer::PageDormant(arrival) => [17, arrival as u64, 0, 0],
         Answer::Open(count) => [18, count as u64, 0, 0],
+        Answer::Bordered => [19, 0, 0, 0],
     }
 }
 
@@ -307,4 +308,27 @@ pub extern "C" fn sabre_count(area: &[u8], level: u32, answer: &mut [u64; 4]) ->
     ensures told { λ _. ⌜ now (answer .exit) ≡ answerNumbers (answerOn (now (area .entry)) (Count level)) ⌝ }
 {
     ask(area, Call::Count { level }, answer)
+}
+
+#[no_mangle]
+pub extern "C" fn sabre_borders(
+    area: &mut [u8],
+    first: u32,
+    second: u32,
+    third: u32,
+    answer: &mut [u64; 4],
+) -> u32
+    ensures returned { λ r. ⌜ r ≡ status (answerOn (now (area .entry)) (Borders first second third)) ⌝ }
+    ensures told { λ _. ⌜ now (answer .exit) ≡ answerNumbers (answerOn (now (area .entry)) (Borders first second third)) ⌝ }
+    ensures left { λ _. ⌜ now (area .exit) ≡ areaAfter (now (area .entry)) (Borders first second third) ⌝ }
+{
+    make(
+        area,
+        Call::Borders {
+            first,
+            second,
+            third,
+        },
+        answer,
+    )
 }

@@ -39,6 +39,10 @@ pub or-false : (a b : Bool) → a || b ≡ false → (a ≡ false) × (b ≡ fal
 or-false true b e = true-false (cc)
 or-false false b e = (refl, e)
 
+pub or-none : (a : Bool) → a || false ≡ a
+or-none true = refl
+or-none false = refl
+
 pub or-true-right : (a b : Bool) → b ≡ true → a || b ≡ true
 or-true-right true b e = refl
 or-true-right false b e = e

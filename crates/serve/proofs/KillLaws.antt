@@ -21,6 +21,8 @@ kill-none some cause s z h = λ j. record {
   rows = each-still (λ row x. cond (some row) (killedRow cause) x) (s .rows) freeRow (λ row k. rw (h row (rw (z .rows) at k))) j;
   slots = each-still (λ slot x. cond (wrote slot) (dirtied x) x) (s .slots) emptySlot (λ slot k. rw (unwritten slot)) j;
   holdings = each-still (λ k x. cond (some (k % 32)) emptyHolding x) (s .holdings) emptyHolding (λ k i. rw (h (k % 32) (omega arith))) j;
+  borders = s .borders;
+  begun = s .begun;
 }
   where
     wrote : ℕ → Bool

@@ -13,6 +13,7 @@ use Rattle.seq.proofs.EachLaws.{each-length, each-at, each-same, replicate-at}
 use Rattle.model.specs.declared.Answer.the-variants.{Wait}
 use Rattle.model.specs.declared.Back.{Back}
 use Rattle.model.specs.declared.Cause.the-variants.{Taken}
+use Rattle.model.specs.declared.Setting.the-variants.{Left}
 use Rattle.model.specs.declared.Change.{Change}
 use Rattle.model.specs.declared.Holding.{Holding}
 use Rattle.model.specs.declared.Mode.{Mode}
@@ -20,7 +21,7 @@ use Rattle.model.specs.declared.Slot.{Slot}
 use Rattle.model.specs.declared.State.{State}
 use Rattle.model.specs.State.{emptyHolding}
 use Rattle.model.specs.Changes.{released, killed, cleared}
-use Rattle.model.specs.Inner.Changed.{marked, holdingAfter, changed, outcomeOf}
+use Rattle.model.specs.Inner.Changed.{marked, holdingAfter, bordersAfter, begunAfter, changed, outcomeOf}
 use Rattle.model.proofs.StateLaws.{Sized}
 use Rattle.model.proofs.ChangedLaws.{holdings-are, held-at, held-set, changed-none}
 use Rattle.rules.specs.Calls.{waiting, granted, filled}
@@ -29,9 +30,9 @@ use Rattle.serve.specs.Inner.SlotHoldings.{holdingsOn}
 use Rattle.serve.specs.Inner.Replies.{waitReply, rowsTaken, slotFilled, granting}
 use Rattle.serve.proofs.SlotLaws.{held-by, held-long}
 
--- a change that leaves the clock and the rows
+-- a change that leaves the clock, the rows and the borders
 abbrev pub leaving : State → List Slot → List Bool → ℕ → List Holding → Change
-leaving s left gone slot held = record { clock = s .clock; rows = s .rows; slots = left; gone = gone; slot = slot; held = held }
+leaving s left gone slot held = record { clock = s .clock; rows = s .rows; slots = left; gone = gone; slot = slot; held = held; setting = Left }
 
 -- the slots once the marked rows have lost their holdings, and the holdings of one slot as they stand in the state
 abbrev pub taking : State → List Bool → ℕ → Change
@@ -49,7 +50,7 @@ filled-slot c d page due level e h = rw e h
 module _ (s : State) (z : Sized s) where
   pub after-wait : (row page : ℕ) (mode : Mode) → outcomeOf s (waitReply (s .clock) (s .rows) (s .slots) row page mode) ≡ waiting s row page mode
   unfolding outcomeOf waitReply waiting
-  after-wait row page mode = λ j. record { state = changed-none s z (s .clock) (waiting s row page mode .state .rows) (s .slots) (replicate 32 false) (λ r _. replicate-at 32 r false) j; answer = Wait }
+  after-wait row page mode = λ j. record { state = changed-none s z (s .clock) (waiting s row page mode .state .rows) (s .slots) (replicate 32 false) Left (λ r _. replicate-at 32 r false) j; answer = Wait }
 
   -- step 4
   after-granting : (c : Change) (row : ℕ) (mode : Mode) (arrival : ℕ) (back : Back) → c .slot < 64 → row < 32 → length (c .held) ≡ 32
@@ -68,6 +69,8 @@ module _ (s : State) (z : Sized s) where
           holdings =
               (sym (held-set s z c (granting c row mode arrival back .change) row (heldNow (getD (c .held) row emptyHolding) mode arrival (c .clock)) b h l refl refl refl)
               ∙ ap (λ (own : Holding). set old place (heldNow own mode arrival (c .clock))) (sym (held-at s z c row b h))) j;
+          borders = bordersAfter (c .setting) (s .borders);
+          begun = begunAfter (c .setting) (s .begun);
         };
         answer = granting c row mode arrival back .answer;
       }
@@ -82,6 +85,8 @@ module _ (s : State) (z : Sized s) where
     rows = rowsTaken (taking s gone slot) .rows;
     slots = released (marked gone) s .slots;
     holdings = each-same (holdingAfter (rowsTaken (taking s gone slot))) (λ k h. cond (marked gone (k % 32)) emptyHolding h) (s .holdings) emptyHolding (λ k _. there k) j;
+    borders = s .borders;
+    begun = s .begun;
   }
     where
       there : (k : ℕ) → holdingAfter (rowsTaken (taking s gone slot)) k (getD (s .holdings) k emptyHolding) ≡ cond (marked gone (k % 32)) emptyHolding (getD (s .holdings) k emptyHolding)
@@ -107,6 +112,8 @@ module _ (s : State) (z : Sized s) where
         holdings =
             holdings-are s z (slotFilled c page (c .clock + s .delay) level) (each (λ k h. cond (eqb (k / 32) (c .slot)) emptyHolding h) left)
             (each-length (λ k h. cond (eqb (k / 32) (c .slot)) emptyHolding h) left ∙ long) there j;
+        borders = bordersAfter (c .setting) (s .borders);
+        begun = begunAfter (c .setting) (s .begun);
       }
     where
       long : length (each (holdingAfter c) (s .holdings)) ≡ 2048

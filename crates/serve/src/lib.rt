@@ -11,6 +11,7 @@ use model::Pin;
 use model::Rank;
 use model::Reply;
 use model::Row;
+use model::Setting;
 use model::Slot;
 use model::State;
 use seq::Found;
@@ -120,7 +121,7 @@ pub fn see_dormant(held: [Holding; 32], x: Slot, level: usize) -> bool
         if see(held, 3) {
             return false;
         }
-        return choice::is_filled(c);
+        return model::is_filled(c);
     }
     false
 }
@@ -287,6 +288,7 @@ fn grant(c: Change, row: usize, mode: Mode, arrival: u32, back: Back) -> Reply
     held[row] = h;
     let gone = c.gone;
     let answer = grant_answer(slot, arrival, clock, back);
+    let setting = c.setting;
     let change = Change {
         clock,
         rows,
@@ -294,6 +296,7 @@ fn grant(c: Change, row: usize, mode: Mode, arrival: u32, back: Back) -> Reply
         gone,
         slot,
         held,
+        setting,
     };
     Reply { change, answer }
 }
@@ -309,7 +312,7 @@ fn wait(clock: u32, rows: [Row; 32], slots: [Slot; 64], row: usize, page: u32, m
         condition: Condition::Waiting { page, mode },
         deadline: x.deadline,
     };
-    let change = model::drop_holdings(clock, n, slots, [false; 32]);
+    let change = model::drop_holdings(clock, n, slots, [false; 32], Setting::Left);
     Reply {
         change,
         answer: Answer::Wait,
@@ -411,6 +414,7 @@ fn take_rows(c: Change) -> Change
     let all = c.held;
     let held = model::remaining_holdings(all, gone);
     let slots = c.slots;
+    let setting = c.setting;
     Change {
         clock: c.clock,
         rows,
@@ -418,6 +422,7 @@ fn take_rows(c: Change) -> Change
         gone,
         slot: c.slot,
         held,
+        setting,
     }
 }
 
@@ -432,6 +437,7 @@ fn fill_slot(c: Change, page: u32, due: u32, level: usize) -> Change
     slots[slot] = x;
     let rows = c.rows;
     let gone = c.gone;
+    let setting = c.setting;
     Change {
         clock: c.clock,
         rows,
@@ -443,6 +449,7 @@ fn fill_slot(c: Change, page: u32, due: u32, level: usize) -> Change
             arrival: 0,
             touch: 0,
         }; 32],
+        setting,
     }
 }
 
@@ -485,6 +492,7 @@ pub fn serve(s: State, row: usize, page: u32, mode: Mode) -> Reply
             gone,
             slot: chosen,
             held,
+            setting: Setting::Left,
         };
         return into_slot(c, row, page, mode, due);
     };
@@ -505,6 +513,7 @@ pub fn serve(s: State, row: usize, page: u32, mode: Mode) -> Reply
         gone,
         slot,
         held,
+        setting: Setting::Left,
     };
     let taken = take_rows(c);
     grant(taken, row, mode, arrival, Back::Nothing)

@@ -13,12 +13,12 @@ use Rattle.model.specs.declared.Condition.the-variants.{Free, Idle, Fetching, W
 use Rattle.model.specs.declared.Content.{Content}
 use Rattle.model.specs.declared.Content.the-variants.{Empty, Filled}
 use Rattle.model.specs.declared.State.{State}
-use Rattle.model.specs.Parties.{levelOf, isPast}
+use Rattle.model.specs.Parties.{levelOf, classOf, isPast}
 use Rattle.model.specs.State.{rowAt, slotAt, holdingAt}
-use Rattle.model.specs.Words.{isFilled, holds, pins}
+use Rattle.model.specs.Words.{isFilled, pageIn, holds, pins}
 use Rattle.model.proofs.StateLaws.{Sized}
-use Rattle.rules.specs.Sound.{soundNumbers, arrived, awaits, soundContent, soundSlot, soundCondition, soundRow, soundHolding, soundPins, soundPages, sound}
-use Rattle.sound.specs.Inner.Tests.{inRange, contentTest, slotTest, placeTaken, dueIn, arrivedTest, awaitsTest, fetchingTest, waitingTest, conditionTest, rowTest, fitTest, heldTest, holdingTest}
+use Rattle.rules.specs.Sound.{soundNumbers, arrived, awaits, soundContent, soundSlot, soundCondition, soundRow, soundHolding, soundPins, soundPages, soundBorders, sound}
+use Rattle.sound.specs.Inner.Tests.{inRange, contentTest, slotTest, placeTaken, dueIn, arrivedTest, awaitsTest, fetchingTest, waitingTest, conditionTest, rowTest, fitTest, heldTest, holdingTest, bordersTest}
 use Rattle.sound.proofs.PageLaws.{pages-apart}
 
 pub numbers-test : (s : State) → Sized s → inRange (s .size) (s .delay) (s .clock) ≡ soundNumbers s
@@ -61,13 +61,13 @@ abbrev pub expectedIn : State → ℕ → ℕ → Bool
 expectedIn s row due = allBelow 64 (λ slot. arrived s slot row || awaits s row due slot)
 
 pub row-test : (s : State) (row : ℕ) →
-    rowTest (rowAt s row) (levelOf row) (s .clock) (settledIn s row) (expectedIn s row (dueIn (rowAt s row .condition))) (countBelow 64 (awaits s row (dueIn (rowAt s row .condition))))
+    rowTest (s .borders) (rowAt s row) (levelOf row) (s .clock) (settledIn s row) (expectedIn s row (dueIn (rowAt s row .condition))) (countBelow 64 (awaits s row (dueIn (rowAt s row .condition))))
     ≡ soundRow s row
 unfolding rowTest fetchingTest waitingTest soundRow
 row-test s row = go (rowAt s row .condition)
   where
     go : (c : Condition) →
-        conditionTest c (rowAt s row .deadline) (levelOf row) (s .clock) (settledIn s row) (expectedIn s row (dueIn c)) (countBelow 64 (awaits s row (dueIn c)))
+        conditionTest (s .borders) c (rowAt s row .deadline) (levelOf row) (s .clock) (settledIn s row) (expectedIn s row (dueIn c)) (countBelow 64 (awaits s row (dueIn c)))
         ≡ soundCondition s row c (rowAt s row .deadline)
     go Free = refl
     go Idle = refl
@@ -78,7 +78,7 @@ row-test s row = go (rowAt s row .condition)
 -- the same, as the loop over a row's holdings leaves it
 pub row-end : (s : State) (row due n : ℕ) (settled expected : Bool) (number : ℕ) → n ≡ 64 → due ≡ dueIn (rowAt s row .condition)
     → settled ≡ allBelow n (λ slot. arrived s slot row) → expected ≡ allBelow n (λ slot. arrived s slot row || awaits s row due slot) → number ≡ countBelow n (awaits s row due)
-    → rowTest (rowAt s row) (levelOf row) (s .clock) settled expected number ≡ soundRow s row
+    → rowTest (s .borders) (rowAt s row) (levelOf row) (s .clock) settled expected number ≡ soundRow s row
 row-end s row due n settled expected number e d p q r = rw (p, q, r, e, d) (row-test s row)
 
 -- a row whose holdings all have an arrival at most the clock
@@ -102,7 +102,7 @@ module _ (s : State) (row : ℕ) (past : (slot : ℕ) → slot < 64 → leb (hol
       let b = ltb-true (s .clock) due e in
       omega arith)))
 
-  past-row : rowTest (rowAt s row) (levelOf row) (s .clock) true true 0 ≡ soundRow s row
+  past-row : rowTest (s .borders) (rowAt s row) (levelOf row) (s .clock) true true 0 ≡ soundRow s row
   unfolding rowTest fetchingTest waitingTest soundRow
   past-row = go (rowAt s row .condition)
     where
@@ -114,7 +114,7 @@ module _ (s : State) (row : ℕ) (past : (slot : ℕ) → slot < 64 → leb (hol
       fetching due a true e = rw (past-awaited due e)
       fetching due a false e = late a (eqb 0 1) (eqb (countBelow 64 (awaits s row due)) 1) true
 
-      go : (c : Condition) → conditionTest c (rowAt s row .deadline) (levelOf row) (s .clock) true true 0 ≡ soundCondition s row c (rowAt s row .deadline)
+      go : (c : Condition) → conditionTest (s .borders) c (rowAt s row .deadline) (levelOf row) (s .clock) true true 0 ≡ soundCondition s row c (rowAt s row .deadline)
       go Free = refl
       go Idle = rw past-settled
       go (Fetching due) = rw (past-expected due) (fetching due (not (isPast (s .clock) (rowAt s row .deadline))) (ltb (s .clock) due) refl)
@@ -125,27 +125,27 @@ module _ (s : State) (row : ℕ) (past : (slot : ℕ) → slot < 64 → leb (hol
 pub row-again : (s : State) (row due m n k : ℕ) (quiet settled expected : Bool) (number : ℕ) → m ≡ 64 → k ≡ n → due ≡ dueIn (rowAt s row .condition)
     → quiet ≡ allBelow m (λ slot. leb (holdingAt s slot row .arrival) (s .clock)) → n ≡ cond quiet 0 64
     → settled ≡ allBelow k (λ slot. arrived s slot row) → expected ≡ allBelow k (λ slot. arrived s slot row || awaits s row due slot) → number ≡ countBelow k (awaits s row due)
-    → (t : Bool) → t ≡ rowTest (rowAt s row) (levelOf row) (s .clock) settled expected number → t ≡ soundRow s row
+    → (t : Bool) → t ≡ rowTest (s .borders) (rowAt s row) (levelOf row) (s .clock) settled expected number → t ≡ soundRow s row
 unfolding allBelow countBelow
 row-again s row due m n k quiet settled expected number e f d q w x y z t h = h ∙ go quiet refl
   where
-    go : (b : Bool) → quiet ≡ b → rowTest (rowAt s row) (levelOf row) (s .clock) settled expected number ≡ soundRow s row
+    go : (b : Bool) → quiet ≡ b → rowTest (s .borders) (rowAt s row) (levelOf row) (s .clock) settled expected number ≡ soundRow s row
     go false g = row-end s row due k settled expected number (f ∙ w ∙ rw g) d x y z
     go true g =
         let v : k ≡ 0 = f ∙ w ∙ rw g in
         none v
       where
-        none : k ≡ 0 → rowTest (rowAt s row) (levelOf row) (s .clock) settled expected number ≡ soundRow s row
+        none : k ≡ 0 → rowTest (s .borders) (rowAt s row) (levelOf row) (s .clock) settled expected number ≡ soundRow s row
         none v = rw (x, y, z, v) (past-row s row (λ slot h. all-each (λ i. leb (holdingAt s i row .arrival) (s .clock)) 64 slot (ap (λ (j : ℕ). allBelow j (λ i. leb (holdingAt s i row .arrival) (s .clock))) (sym e) ∙ sym q ∙ g) h))
 
 and-assoc : (a b c : Bool) → a && (b && c) ≡ a && b && c
 and-assoc true b c = refl
 and-assoc false b c = refl
 
-pub holding-test : (s : State) (slot row latest : ℕ) (t : Bool) → latest ≡ s .clock + s .delay
-    → t ≡ holdingTest (levelOf row) (rowAt s row) (slotAt s slot) (holdingAt s slot row) latest → t ≡ soundHolding s slot row
+pub holding-test : (s : State) (slot row class latest : ℕ) (t : Bool) → class ≡ classOf (s .borders) (pageIn (slotAt s slot .content)) → latest ≡ s .clock + s .delay
+    → t ≡ holdingTest (levelOf row) (rowAt s row) class (slotAt s slot) (holdingAt s slot row) latest → t ≡ soundHolding s slot row
 unfolding holdingTest heldTest fitTest soundHolding
-holding-test s slot row latest t e h = rw e at h ∙ simp and-assoc
+holding-test s slot row class latest t d e h = rw (d, e) at h ∙ simp and-assoc
 
 pages-joined : (s : State) → soundNumbers s && allBelow 64 (soundSlot s) && allBelow 64 (λ slot. not (placeTaken (s .slots) slot)) ≡ soundNumbers s && allBelow 64 (soundSlot s) && soundPages s
 pages-joined s = go (soundNumbers s)
@@ -154,10 +154,14 @@ pages-joined s = go (soundNumbers s)
     go true = pages-apart s
     go false = refl
 
+borders-test : (s : State) → bordersTest (s .borders) (s .begun) (s .rows) (s .slots) ≡ soundBorders s
+unfolding bordersTest soundBorders
+borders-test s = refl
+
 -- the whole test from its parts, each joined to those before it
-pub sound-test : (s : State) → Sized s → (numbers slots pages holdings b2 b3 b4 : Bool) → numbers ≡ inRange (s .size) (s .delay) (s .clock) → slots ≡ allBelow 64 (soundSlot s)
+pub sound-test : (s : State) → Sized s → (numbers slots pages holdings borders b2 b3 b4 b5 : Bool) → numbers ≡ inRange (s .size) (s .delay) (s .clock) → slots ≡ allBelow 64 (soundSlot s)
     → pages ≡ allBelow 64 (λ slot. not (placeTaken (s .slots) slot)) → holdings ≡ allBelow 32 (soundRow s) && allBelow 64 (λ slot. allBelow 32 (soundHolding s slot)) && allBelow 64 (soundPins s)
-    → b2 ≡ numbers && slots → b3 ≡ b2 && pages → b4 ≡ b3 && holdings → b4 ≡ sound s
+    → borders ≡ bordersTest (s .borders) (s .begun) (s .rows) (s .slots) → b2 ≡ numbers && slots → b3 ≡ b2 && pages → b4 ≡ b3 && holdings → b5 ≡ b4 && borders → b5 ≡ sound s
 unfolding sound
-sound-test s z numbers slots pages holdings b2 b3 b4 e1 e2 e3 e4 f2 f3 f4 =
-    rw (f4, f3, f2, e1, e2, e3, e4, numbers-test s z, pages-joined s) (simp and-assoc)
+sound-test s z numbers slots pages holdings borders b2 b3 b4 b5 e1 e2 e3 e4 e5 f2 f3 f4 f5 =
+    rw (f5, f4, f3, f2, e1, e2, e3, e4, e5, numbers-test s z, pages-joined s, borders-test s) (simp and-assoc)

@@ -1,4 +1,5 @@
-// The test whether a state is sound: document 01, "State".
+// The test whether a state is sound: document 01, "State", and document 02, T-01 and T-02.
+use model::Borders;
 use model::Condition;
 use model::Content;
 use model::Holding;
@@ -11,9 +12,12 @@ ghost use mathlib.Core.Path.{_≡_};
 ghost use mathlib.Core.Bool.{cond, _&&_, not};
 ghost use Prim.Native.Nat.{_+_, _<_, _≤_};
 ghost use Rattle.seq.specs.Below.{allBelow};
-ghost use Rattle.model.specs.Parties.{mayAccess};
+ghost use Rattle.model.specs.Parties.{classOf, allowed};
+ghost use Rattle.model.specs.State.{freeRow, emptySlot};
+ghost use Rattle.model.specs.Words.{isFree, isFilled, pageIn};
+ghost use lib.ListN.{getD};
 ghost use Rattle.rules.specs.Sound.{pinAllowed, soundSlot, soundRow, soundHolding, soundPins, sound};
-ghost use Rattle.sound.specs.Inner.Tests.{inRange, slotTest, placeIn, noPages, placeTaken, dueIn, arrivedTest, awaitsTest, fetchingTest, waitingTest, rowTest, fitTest, heldTest, holdingTest, pinWeight};
+ghost use Rattle.sound.specs.Inner.Tests.{inRange, slotTest, placeIn, noPages, placeTaken, dueIn, arrivedTest, awaitsTest, fetchingTest, waitingTest, rowTest, fitTest, heldTest, holdingTest, bordersTest, pinWeight};
 
 fn unless(a: bool, b: bool) -> bool
     ensures { λ r. ⌜ r ≡ a && not b ⌝ }
@@ -206,16 +210,24 @@ fn is_fetching_sound(due: u32, past: bool, clock: u32, expected: bool, number: u
 }
 
 // A waiting row, by whether its deadline is past, and whether all its holdings have arrived.
-fn is_waiting_sound(page: u32, mode: Mode, past: bool, level: usize, settled: bool) -> bool
+fn is_waiting_sound(
+    b: Borders,
+    page: u32,
+    mode: Mode,
+    past: bool,
+    level: usize,
+    settled: bool,
+) -> bool
     requires { ⌜ level < 4 ⌝ }
-    ensures { λ r. ⌜ r ≡ waitingTest page mode past level settled ⌝ }
+    ensures { λ r. ⌜ r ≡ waitingTest b page mode past level settled ⌝ }
 {
     if past {
         return false;
     }
     if settled {
         if page <= 4095 {
-            return model::is_allowed(level, page, mode);
+            let class = model::class_of(b, page);
+            return model::is_allowed(level, class, mode);
         }
         return false;
     }
@@ -224,6 +236,7 @@ fn is_waiting_sound(page: u32, mode: Mode, past: bool, level: usize, settled: bo
 
 // A row, by whether all its holdings have arrived, whether all have arrived or are awaited, and how many are awaited.
 fn is_row_sound(
+    b: Borders,
     x: Row,
     level: usize,
     clock: u32,
@@ -232,7 +245,7 @@ fn is_row_sound(
     number: usize,
 ) -> bool
     requires { ⌜ level < 4 ⌝ }
-    ensures { λ r. ⌜ r ≡ rowTest x level clock settled expected number ⌝ }
+    ensures { λ r. ⌜ r ≡ rowTest b x level clock settled expected number ⌝ }
 {
     let c = x.condition;
     let past = model::is_past(clock, x.deadline);
@@ -250,7 +263,7 @@ fn is_row_sound(
             return is_fetching_sound(due, past, clock, expected, number);
         }
         Condition::Waiting { page, mode } => {
-            return is_waiting_sound(page, mode, past, level, settled);
+            return is_waiting_sound(b, page, mode, past, level, settled);
         }
         Condition::Killed(_) => {
             return x.deadline == 0;
@@ -268,20 +281,19 @@ fn again(passed: bool) -> usize
     64
 }
 
-// The access rule for any page number. It is computed, so that the loop over the 2,048 holdings has no table look-up.
-fn may_access(level: usize, page: u32, mode: Mode) -> bool
-    ensures { λ r. ⌜ r ≡ mayAccess level page mode ⌝ }
+// The access rule for any class. It is computed, so that the loop over the 2,048 holdings has no table look-up.
+fn may_access(level: usize, class: usize, mode: Mode) -> bool
+    ensures { λ r. ⌜ r ≡ allowed level class mode ⌝ }
 {
-    let class = (page / 1024) as usize;
     match mode {
         Mode::Read => class <= level,
         Mode::Write => level <= class,
     }
 }
 
-fn is_pin_allowed(level: usize, page: u32, p: Pin) -> bool
+fn is_pin_allowed(level: usize, class: usize, p: Pin) -> bool
     requires { ⌜ level < 4 ⌝ }
-    ensures { λ r. ⌜ r ≡ pinAllowed level page p ⌝ }
+    ensures { λ r. ⌜ r ≡ pinAllowed level class p ⌝ }
 {
     match p {
         Pin::Absent => {
@@ -291,18 +303,18 @@ fn is_pin_allowed(level: usize, page: u32, p: Pin) -> bool
             return true;
         }
         Pin::Read => {
-            return may_access(level, page, Mode::Read);
+            return may_access(level, class, Mode::Read);
         }
         Pin::Write => {
-            return may_access(level, page, Mode::Write);
+            return may_access(level, class, Mode::Write);
         }
     }
 }
 
-// A holding on a filled slot, by the slot's page, arrival, lowest level and touch.
+// A holding on a filled slot, by its page's class, and by the slot's arrival, lowest level and touch.
 fn is_fit(
     level: usize,
-    page: u32,
+    class: usize,
     arrival: u32,
     lowest: usize,
     touch: u32,
@@ -310,10 +322,10 @@ fn is_fit(
     latest: u64,
 ) -> bool
     requires { ⌜ level < 4 ⌝ }
-    ensures { λ r. ⌜ r ≡ fitTest level page arrival lowest touch h latest ⌝ }
+    ensures { λ r. ⌜ r ≡ fitTest level class arrival lowest touch h latest ⌝ }
 {
     let p = h.pin;
-    if is_pin_allowed(level, page, p) {
+    if is_pin_allowed(level, class, p) {
         if h.arrival < arrival {
             return false;
         }
@@ -328,10 +340,10 @@ fn is_fit(
     false
 }
 
-// A holding that is there: only of a live row, and only in a filled slot.
-fn is_held_sound(level: usize, live: bool, x: Slot, h: Holding, latest: u64) -> bool
+// A holding that is there: only of a live row, and only in a filled slot, whose page has the class.
+fn is_held_sound(level: usize, live: bool, class: usize, x: Slot, h: Holding, latest: u64) -> bool
     requires { ⌜ level < 4 ⌝ }
-    ensures { λ r. ⌜ r ≡ heldTest level live x h latest ⌝ }
+    ensures { λ r. ⌜ r ≡ heldTest level live class x h latest ⌝ }
 {
     if live {
         let c = x.content;
@@ -340,32 +352,48 @@ fn is_held_sound(level: usize, live: bool, x: Slot, h: Holding, latest: u64) -> 
                 return false;
             }
             Content::Filled {
-                page,
+                page: _,
                 arrival,
                 dirty: _,
                 lowest,
             } => {
-                return is_fit(level, page, arrival, lowest, x.touch, h, latest);
+                return is_fit(level, class, arrival, lowest, x.touch, h, latest);
             }
         }
     }
     false
 }
 
-fn is_holding_sound(level: usize, y: Row, x: Slot, h: Holding, latest: u64) -> bool
+fn is_holding_sound(level: usize, y: Row, class: usize, x: Slot, h: Holding, latest: u64) -> bool
     requires { ⌜ level < 4 ⌝ }
-    ensures { λ r. ⌜ r ≡ holdingTest level y x h latest ⌝ }
+    ensures { λ r. ⌜ r ≡ holdingTest level y class x h latest ⌝ }
 {
     let p = h.pin;
     if model::is_held(p) {
         let c = y.condition;
         let live = model::is_live(c);
-        return is_held_sound(level, live, x, h, latest);
+        return is_held_sound(level, live, class, x, h, latest);
     }
     if h.arrival == 0 {
         return h.touch == 0;
     }
     false
+}
+
+// The class of the page in a slot, and of page 0 where there is none.
+fn class_in(b: Borders, x: Slot) -> usize
+    ensures { λ r. ⌜ r ≡ classOf b (pageIn (x .content)) ⌝ }
+{
+    let c = x.content;
+    match c {
+        Content::Empty => model::class_of(b, 0),
+        Content::Filled {
+            page,
+            arrival: _,
+            dirty: _,
+            lowest: _,
+        } => model::class_of(b, page),
+    }
 }
 
 // The weight of a pin: 32 read pins weigh less than a write pin, and a write pin beside another pin more than 64.
@@ -411,7 +439,7 @@ fn are_rows_and_holdings_sound(s: State) -> bool
             expected = seq::both(expected, known);
             number = counted(number, awaited);
         }
-        let t = is_row_sound(x, r / 8, s.clock, settled, expected, number);
+        let t = is_row_sound(s.borders, x, r / 8, s.clock, settled, expected, number);
         valid = seq::both(valid, t);
     }
     let mut ok = true;
@@ -419,12 +447,13 @@ fn are_rows_and_holdings_sound(s: State) -> bool
     for i in 0..64usize {
         let latest = latest_arrival(s.clock, s.delay);
         let x = slots[i];
+        let class = class_in(s.borders, x);
         let mut fit = true;
         let mut weight: u32 = 0;
         for r in 0..32usize {
             let h = holdings[i * 32 + r];
             let y = rows[r];
-            let t = is_holding_sound(r / 8, y, x, h, latest);
+            let t = is_holding_sound(r / 8, y, class, x, h, latest);
             let p = h.pin;
             fit = seq::both(fit, t);
             weight = weight + pin_weight(p);
@@ -436,6 +465,45 @@ fn are_rows_and_holdings_sound(s: State) -> bool
     seq::both(seq::both(valid, ok), clear)
 }
 
+fn are_rows_free(rows: [Row; 32]) -> bool
+    ensures { λ r. ⌜ r ≡ allBelow 32 (λ row. isFree (getD rows row freeRow .condition)) ⌝ }
+{
+    let mut ok = true;
+    for r in 0..32usize {
+        let x = rows[r];
+        let c = x.condition;
+        let free = model::is_free(c);
+        ok = seq::both(ok, free);
+    }
+    ok
+}
+
+fn are_slots_empty(slots: [Slot; 64]) -> bool
+    ensures { λ r. ⌜ r ≡ allBelow 64 (λ slot. not (isFilled (getD slots slot emptySlot .content))) ⌝ }
+{
+    let mut ok = true;
+    for i in 0..64usize {
+        let x = slots[i];
+        let c = x.content;
+        let filled = model::is_filled(c);
+        ok = unless(ok, filled);
+    }
+    ok
+}
+
+// The borders do not fall and are at most 4,096, and before a row has begun rows are free and slots empty.
+fn are_borders_sound(b: Borders, begun: bool, rows: [Row; 32], slots: [Slot; 64]) -> bool
+    ensures { λ r. ⌜ r ≡ bordersTest b begun rows slots ⌝ }
+{
+    if model::are_borders(b) {
+        if begun {
+            return true;
+        }
+        return seq::both(are_rows_free(rows), are_slots_empty(slots));
+    }
+    false
+}
+
 // Whether the state is sound.
 pub fn is_sound(s: State) -> bool
     ensures { λ r. ⌜ r ≡ sound s ⌝ }
@@ -444,5 +512,11 @@ pub fn is_sound(s: State) -> bool
     let slots = are_slots_sound(s);
     let pages = are_pages_apart(s);
     let holdings = are_rows_and_holdings_sound(s);
-    seq::both(seq::both(seq::both(numbers, slots), pages), holdings)
+    let rows = s.rows;
+    let all = s.slots;
+    let borders = are_borders_sound(s.borders, s.begun, rows, all);
+    seq::both(
+        seq::both(seq::both(seq::both(numbers, slots), pages), holdings),
+        borders,
+    )
 }

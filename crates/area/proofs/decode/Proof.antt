@@ -1,14 +1,15 @@
 use native.Mathlib.Omega.{arith}
 use mathlib.Core.Path.{_≡_, refl, _∙_, sym, ap}
-use mathlib.Core.Bool.{Bool, true, false, _&&_}
+use mathlib.Core.Bool.{Bool, true, false, not, _&&_}
 use mathlib.Core.List.{List}
 use Prim.Native.Nat.{ℕ, _≤_, _-_, _+_, _*_}
+use lib.Dec.{eqb}
 use Rattle.seq.specs.Below.{allBelow}
 use Rattle.seq.specs.Each.{each, eachBelow}
 use Rattle.seq.proofs.EachLaws.{each-below-none}
 use Rattle.words.specs.Bytes.{hasWords}
 use Rattle.model.specs.State.{emptyHolding, emptyHoldings}
-use Rattle.area.specs.Layout.{low, exact, decoded, holdingFrom, holdingWords}
+use Rattle.area.specs.Layout.{low, decoded, holdingFrom, holdingWords}
 use Rattle.area.specs.Inner.Exact.{exactHoldings}
 use Rattle.area.proofs.LoopLaws.{empty-holdings-long, read-turn, read-all, read-test}
 use Rattle.area.proofs.AreaSteps.{fresh-holdings, decode-state, exact-tests, tests-next, framed}
@@ -17,6 +18,7 @@ use Rattle.area.proofs.decode.Tie as tie
 use Rattle.area.proofs.decode.Reads as reads
 use Rattle.area.proofs.decode.Lts as lts
 use Rattle.seq.proofs.both.Reads as both-reads
+use Rattle.area.proofs.get_borders.Reads as get-borders-reads
 use Rattle.area.proofs.get_holding.Reads as get-holding-reads
 use Rattle.area.proofs.get_rows.Reads as get-rows-reads
 use Rattle.area.proofs.get_slots.Reads as get-slots-reads
@@ -40,10 +42,10 @@ unfolding decoded
 all-read a = refl
 
 abbrev Inv-loop : tie.InvT-loop
-Inv-loop a whole size delay clock frame same₀ rows slots holdings₀ k₀ same holdings k = (k ≤ 2048) × (holdings ≡ eachBelow k (λ j _. holdingFrom a (6656 + j * 24)) emptyHoldings) × (same ≡ same₀ && allBelow k (λ j. hasWords a (6656 + j * 24) (holdingWords (holdingFrom a (6656 + j * 24)))))
+Inv-loop a whole size delay clock borders begun frame same₀ rows slots holdings₀ k₀ same holdings k = (k ≤ 2048) × (holdings ≡ eachBelow k (λ j _. holdingFrom a (6656 + j * 24)) emptyHoldings) × (same ≡ same₀ && allBelow k (λ j. hasWords a (6656 + j * 24) (holdingWords (holdingFrom a (6656 + j * 24)))))
 
 abbrev μ-loop : tie.MeasureT-loop
-μ-loop a whole size delay clock frame same₀ rows slots holdings₀ k₀ same holdings k = 2048 - k
+μ-loop a whole size delay clock borders begun frame same₀ rows slots holdings₀ k₀ same holdings k = 2048 - k
 
 word-requires : tie.Need-word-requires Inv-loop μ-loop
 word-requires c κs = omega arith
@@ -66,6 +68,12 @@ get-rows-requires c κs = omega arith
 get-slots-requires : tie.Need-get-slots-requires Inv-loop μ-loop
 get-slots-requires c κs = omega arith
 
+get-borders-requires : tie.Need-get-borders-requires Inv-loop μ-loop
+get-borders-requires c κs = omega arith
+
+word-requires-4 : tie.Need-word-requires-4 Inv-loop μ-loop
+word-requires-4 c κs = omega arith
+
 is-frame-requires : tie.Need-is-frame-requires Inv-loop μ-loop
 is-frame-requires c κs = omega arith
 
@@ -80,7 +88,9 @@ fresh-state-requires c κs = omega arith
 
 loop-holds : tie.Need-loop-holds Inv-loop μ-loop
 unfolding allBelow
-loop-holds c = (omega arith, fresh-holdings _ _ _ (c .before .fresh-state .ensures) ∙ each-below-none (λ j _. holdingFrom (c .before .before .before .before .before .before .before .before .before .before .before .before .before .before .before .args .a .now) (6656 + j * 24)) emptyHoldings, sym (and-true _))
+loop-holds c =
+    let a = c .before .before .before .before .before .before .before .before .before .before .before .before .before .before .before .before .before .args .a .now in
+    (omega arith, fresh-holdings _ _ _ (c .before .fresh-state .ensures) ∙ each-below-none (λ j _. holdingFrom a (6656 + j * 24)) emptyHoldings, sym (and-true _))
 
 mul-at : tie.Need-mul-at Inv-loop μ-loop
 mul-at c = omega arith
@@ -89,7 +99,7 @@ add-at : tie.Need-add-at Inv-loop μ-loop
 add-at c = omega arith
 
 get-holding-requires : tie.Need-get-holding-requires Inv-loop μ-loop
-get-holding-requires c κs = omega arith
+get-holding-requires c κs = omega (arith, c .before .before .before .before .before .before .before .before .before .before .before .before .before .before .before .before .before .before .before .pre)
 
 holding-words-requires : tie.Need-holding-words-requires Inv-loop μ-loop
 holding-words-requires c κs = omega arith
@@ -98,7 +108,7 @@ slice-aggregate-has-words : tie.Need-slice-aggregate-has-words Inv-loop μ-loop
 slice-aggregate-has-words c = omega arith
 
 has-words-requires : tie.Need-has-words-requires Inv-loop μ-loop
-has-words-requires c κs = omega (arith, c .before .before .before .before .before .before .before .before .before .before .before .before .before .before .before .before .before .before .before .before .pre)
+has-words-requires c κs = omega (arith, c .before .before .before .before .before .before .before .before .before .before .before .before .before .before .before .before .before .before .before .before .before .before .pre)
 
 both-requires-3 : tie.Need-both-requires-3 Inv-loop μ-loop
 both-requires-3 c κs = omega arith
@@ -116,29 +126,40 @@ loop-less : tie.Need-loop-less Inv-loop μ-loop
 loop-less c = omega arith
 
 loop-again : tie.Need-loop-again Inv-loop μ-loop
-loop-again c = let a = c .before .before .before .before .before .before .before .before .before .before .before .before .before .before .before .before .before .before .before .before .before .before .args .a .now in
-    let w = c .before .before .before .before .before .before .loop in (
+loop-again c =
+    let g = c .before .before .before .before in
+    let w = g .before .before .loop in
+    let b = g .before .before .before .before .before .before .before in
+    let a = b .before .before .before .before .before .before .before .before .before .before .before .before .before .args .a .now in
+    let words = c .before .before .before .holding-words in (
       omega arith,
-      read-turn (λ j. holdingFrom a (6656 + j * 24)) emptyHoldings emptyHolding 2048 empty-holdings-long (w .k) (w .holdings) _ (omega arith) (w .inv .1) (c .before .before .before .before .get-holding .ensures),
-      tests-next (λ j. hasWords a (6656 + j * 24) (holdingWords (holdingFrom a (6656 + j * 24)))) (w .k) (c .before .before .before .before .before .before .before .before .before .before .before .both2 .result) (w .same) _ _ (w .inv .2)
-          (read-test holdingWords a (6656 + w .k * 24) _ (c .before .before .before .before .get-holding .result) _ (c .before .before .before .holding-words .result) (c .before .has-words .ensures) (c .before .before .before .holding-words .ensures) (c .before .before .before .before .get-holding .ensures))
+      read-turn (λ j. holdingFrom a (6656 + j * 24)) emptyHoldings emptyHolding 2048 empty-holdings-long (w .k) (w .holdings) _ (omega arith) (w .inv .1) (g .get-holding .ensures),
+      tests-next (λ j. hasWords a (6656 + j * 24) (holdingWords (holdingFrom a (6656 + j * 24)))) (w .k) (b .both2 .result) (w .same) _ _ (w .inv .2)
+          (read-test holdingWords a (6656 + w .k * 24) _ (g .get-holding .result) _ (words .result) (c .before .has-words .ensures) (words .ensures) (g .get-holding .ensures))
           (c .both3 .ensures),
     )
 
 returns : tie.Need-returns Inv-loop μ-loop
 returns c =
-    let a = c .before .before .before .before .before .before .before .before .before .before .before .before .before .before .before .before .before .args .a .now in
     let w = c .before .loop in
+    let b = c .before .before .before .before .before .before in
+    let f = b .before .before in
+    let g = f .before .before in
+    let l = g .before .before .before in
+    let d = l .before .before in
+    let a = d .before .before .before .before .args .a .now in
     let e : w .k ≡ 2048 = omega arith in
-    let size = c .before .before .before .before .before .before .before .before .before .before .before .before .before .before .before .word .ensures in
-    let delay = c .before .before .before .before .before .before .before .before .before .before .before .before .before .low .ensures ∙ ap low (c .before .before .before .before .before .before .before .before .before .before .before .before .before .before .word2 .ensures) in
-    let clock = c .before .before .before .before .before .before .before .before .before .before .before .low2 .ensures ∙ ap low (c .before .before .before .before .before .before .before .before .before .before .before .before .word3 .ensures) in
-    let rows = c .before .before .before .before .before .before .before .before .before .before .get-rows .ensures in
-    let slots = c .before .before .before .before .before .before .before .before .before .get-slots .ensures in
+    let size = d .before .before .word .ensures in
+    let delay = d .low .ensures ∙ ap low (d .before .word2 .ensures) in
+    let clock = l .low2 .ensures ∙ ap low (l .before .word3 .ensures) in
+    let rows = g .before .before .get-rows .ensures in
+    let slots = g .before .get-slots .ensures in
+    let borders = g .get-borders .ensures in
+    let begun = ap (λ (n : ℕ). not (eqb n 0)) (f .before .word4 .ensures) in
     let holdings = read-all (λ j. holdingFrom a (6656 + j * 24)) emptyHoldings emptyHolding 2048 empty-holdings-long (w .k) (w .holdings) e (w .inv .1) ∙ all-read a in
-    let framing = framed a _ _ _ _ size delay clock (c .before .before .before .before .before .before .before .before .is-frame .ensures) in (
-      decode-state a _ size delay clock (rows .0) (slots .0) holdings,
-      exact-tests a _ _ _ _ _ _ _ (λ i. omega (arith, c .before .before .before .before .before .before .before .before .before .before .before .before .before .before .before .before .shared-slice-known .given i)) (omega arith) framing (rows .1) (slots .1) (all-exact a) (c .before .before .before .before .before .before .before .both .ensures) (c .before .before .before .before .before .before .both2 .ensures) (w .inv .2 ∙ rw e),
+    let framing = framed a _ _ _ _ _ _ size delay clock borders begun (f .is-frame .ensures) in (
+      decode-state a _ size delay clock (rows .0) (slots .0) holdings borders begun,
+      exact-tests a _ _ _ _ _ _ _ (λ i. omega (arith, d .before .before .before .shared-slice-known .given i)) (omega arith) framing (rows .1) (slots .1) (all-exact a) (b .before .both .ensures) (b .both2 .ensures) (w .inv .2 ∙ rw e),
     )
 
 pub decode-spec : {M : Type 1} → statement M
@@ -154,6 +175,8 @@ decode-spec =
     low-requires-2
     get-rows-requires
     get-slots-requires
+    get-borders-requires
+    word-requires-4
     is-frame-requires
     both-requires
     both-requires-2

@@ -1,12 +1,11 @@
 use native.Mathlib.Omega.{arith}
-use mathlib.Core.Path.{_≡_, refl, _∙_, sym, ap}
-use Prim.Native.Nat.{ℕ, _≤_, _-_, _+_, _*_, _<_}
+use mathlib.Core.Path.{_≡_, refl, _∙_, ap}
+use Prim.Native.Nat.{_≤_, _-_}
 use lib.ListN.{length, getD}
 use Rattle.words.specs.Bytes.{spliced, joined, wordBytes}
 use Rattle.words.proofs.SpliceLaws.{spliced-none, words-length}
 use Rattle.model.specs.State.{emptyHolding}
-use Rattle.model.proofs.Ranges.{state-ok}
-use Rattle.area.specs.Layout.{holdingWords}
+use Rattle.area.specs.Layout.{headerWords, holdingWords}
 use Rattle.area.proofs.Elements.{holding-wide}
 use Rattle.area.proofs.LoopLaws.{write-turn}
 use Rattle.area.proofs.AreaSteps.{encode-steps}
@@ -80,7 +79,7 @@ loop-again : tie.Need-loop-again Inv-loop μ-loop
 loop-again c = (
   omega arith,
   omega arith,
-  write-turn 24 (λ j. wordBytes (holdingWords (getD (c .before .before .before .before .before .before .before .before .before .before .before .before .before .before .before .before .before .before .before .before .before .before .before .before .before .before .before .before .before .before .args .t2 .holdings) j emptyHolding))) (λ j. words-length (holdingWords (getD (c .before .before .before .before .before .before .before .before .before .before .before .before .before .before .before .before .before .before .before .before .before .before .before .before .before .before .before .before .before .before .args .t2 .holdings) j emptyHolding)) ∙ holding-wide (getD (c .before .before .before .before .before .before .before .before .before .before .before .before .before .before .before .before .before .before .before .before .before .before .before .before .before .before .before .before .before .before .args .t2 .holdings) j emptyHolding)) 6656 2048 (c .before .before .before .before .before .before .before .before .loop .k) (c .before .before .before .before .before .before .before .before .before .before .before .put-slots .last .0) (c .before .before .before .before .before .before .before .before .loop .a) _ _ (omega arith) (omega arith)
+  write-turn 24 (λ j. wordBytes (holdingWords (getD (c .before .before .before .before .before .before .before .before .before .before .before .before .before .before .before .before .before .before .before .before .before .before .before .before .before .before .before .before .before .before .before .args .t2 .holdings) j emptyHolding))) (λ j. words-length (holdingWords (getD (c .before .before .before .before .before .before .before .before .before .before .before .before .before .before .before .before .before .before .before .before .before .before .before .before .before .before .before .before .before .before .before .args .t2 .holdings) j emptyHolding)) ∙ holding-wide (getD (c .before .before .before .before .before .before .before .before .before .before .before .before .before .before .before .before .before .before .before .before .before .before .before .before .before .before .before .before .before .before .before .args .t2 .holdings) j emptyHolding)) 6656 2048 (c .before .before .before .before .before .before .before .before .loop .k) (c .before .before .before .before .before .before .before .before .before .before .before .put-slots .last .0) (c .before .before .before .before .before .before .before .before .loop .a) _ _ (omega arith) (omega arith)
       (c .before .before .before .before .before .before .before .before .loop .inv .2) (c .before .before .put-words2 .ensures) (ap wordBytes (c .before .before .before .before .before .holding-words .ensures)),
 )
 
@@ -91,7 +90,15 @@ same-length : tie.Need-same-length Inv-loop μ-loop
 same-length c = omega arith
 
 returns : tie.Need-returns Inv-loop μ-loop
-returns c = let e : c .before .before .before .before .before .loop .k ≡ 2048 = omega arith in encode-steps (c .before .before .before .before .before .before .before .before .before .before .before .before .before .before .before .before .before .before .before .before .before .before .before .before .before .before .before .args .t2) (c .before .before .before .before .before .before .before .before .before .before .before .before .before .before .before .before .before .before .before .before .before .before .before .before .before .before .before .args .a .now) _ _ _ _ _ _ (c .before .before .before .before .before .before .before .before .before .before .before .before .before .before .before .before .before .before .before .before .before .before .before .before .before .header-words .result) (omega arith) (c .before .before .before .before .before .before .before .before .before .before .before .before .before .before .before .before .before .before .before .before .before .before .before .before .before .header-words .ensures) (c .before .before .before .before .before .before .before .before .before .before .before .before .before .before .before .before .before .before .before .before .before .before .put-words .ensures) (c .before .before .before .before .before .before .before .before .before .before .before .before .before .before .before .before .before .before .put-zeros .ensures) (c .before .before .before .before .before .before .before .before .before .before .before .before .before .put-rows .ensures) (c .before .before .before .before .before .before .before .before .put-slots .ensures) (c .before .before .before .before .before .loop .inv .2 ∙ rw e) (c .before .before .put-zeros2 .ensures)
+unfolding headerWords
+returns c =
+    let w = c .before .before .before .before .before in
+    let z = w .before .before .before .before .before .before .before .before .before .before .before .before .before in
+    let h = z .before .before .before .before .before .before .before in
+    let g = h .before .before .before in
+    let e : w .loop .k ≡ 2048 = omega arith in
+    encode-steps (g .args .t2) (g .args .a .now) _ _ _ _ _ _ (h .header-words .result) (omega arith) (h .header-words .ensures) (z .before .before .before .before .put-words .ensures) (z .put-zeros .ensures)
+    (w .before .before .before .before .before .before .before .before .put-rows .ensures) (w .before .before .before .put-slots .ensures) (w .loop .inv .2 ∙ rw e) (c .before .before .put-zeros2 .ensures)
 
 pub encode-spec : {M : Type 1} → statement M
 encode-spec =

@@ -1,8 +1,17 @@
--- For the code; proved equal to the bytes of the changed state, proofs/Amends.antt: the holdings of some rows written over with zeros, in all 64 slots.
+-- For the code; proved equal to the bytes of the changed state, proofs/Amends.antt: what a call makes of the borders and of whether a row has begun written over the header, and the holdings of some rows with zeros,
+-- in all 64 slots.
 use mathlib.Core.Bool.{Bool, cond}
-use mathlib.Core.List.{List}
+use mathlib.Core.List.{List, [], _∷_}
 use Prim.Native.Nat.{ℕ, zero, suc, _+_, _*_}
-use Rattle.words.specs.Bytes.{spliced, zeroWords}
+use Rattle.words.specs.Bytes.{spliced, wordBytes, zeroWords}
+use Rattle.model.specs.declared.Setting.{Setting}
+use Rattle.model.specs.declared.Setting.the-variants.{Left, Begun, Set}
+
+-- the borders, and the mark that a row has begun
+unfoldable pub settingPut : Setting → List ℕ → List ℕ
+settingPut Left a = a
+settingPut Begun a = spliced a 64 (wordBytes (1 ∷ []))
+settingPut (Set first second third) a = spliced a 40 (wordBytes (first ∷ second ∷ third ∷ []))
 
 -- the holdings of a row on the first n slots
 unfoldable pub rowDropped : ℕ → ℕ → List ℕ → List ℕ

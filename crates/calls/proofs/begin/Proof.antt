@@ -1,11 +1,16 @@
 use mathlib.Core.Path.{_≡_, _∙_}
 use native.Mathlib.Omega.{arith}
+use lib.ListN.{set}
 use Rattle.model.specs.declared.Answer.the-variants.{Begun}
+use Rattle.model.specs.declared.Condition.the-variants.{Idle}
+use Rattle.model.specs.declared.Setting.the-variants as Setting
+use Rattle.model.specs.Parties.{rowOf}
+use Rattle.model.specs.State.{withBegun, putRow}
 use Rattle.model.proofs.Ranges.{state-ok}
 use Rattle.rules.specs.Refusals.{beginRefusal}
 use Rattle.rules.specs.Calls.{begun}
 use Rattle.calls.proofs.RefusalLaws.{taken}
-use Rattle.calls.proofs.ReplyLaws.{refused-after, left-after}
+use Rattle.calls.proofs.ReplyLaws.{refused-after, set-after}
 use borrow.Author.Needs.{needs}
 use Rattle.calls.proofs.begin.Statement.{statement}
 use Rattle.calls.proofs.begin.Tie as tie
@@ -29,8 +34,9 @@ unfolding begun
 returns-2 c =
     let b = c .before .before in
     let a = b .before .before .before .before .before .before .before .before in
-    left-after (a .args .s) (state-ok (a .args .s) _ (a .good .0) .sized) (c .leave-holdings2 .result) _ Begun (c .leave-holdings2 .ensures)
-    ∙ rw (b .before .before .before .before .before .row-of .ensures) (taken _ _ _ _ (number b) (c .before .if1 .left))
+    let row = b .before .before .before .before .before .row-of in
+    set-after (a .args .s) (state-ok (a .args .s) _ (a .good .0) .sized) (c .make-setting .result) (set (a .args .s .rows) (row .result) (record { condition = Idle; deadline = a .args .deadline })) Setting.Begun Begun (c .make-setting .ensures)
+    ∙ rw (row .ensures) (taken _ _ (a .args .s) (record { state = putRow (withBegun (a .args .s)) (rowOf (a .args .level) (a .args .number)) (record { condition = Idle; deadline = a .args .deadline }); answer = Begun }) (number b) (c .before .if1 .left))
 
 pub begin-spec : {M : Type 1} → statement M
 begin-spec =

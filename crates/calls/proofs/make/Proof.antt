@@ -7,7 +7,7 @@ use Rattle.calls.proofs.make.Statement.{statement}
 use Rattle.calls.proofs.make.Tie as tie
 
 ask-requires : tie.Need-ask-requires
-ask-requires c κs = (it-reads (c .before .args .s) (c .before .args .c) (c .match .keys7) (c .before .pre .0) .0, c .before .pre .1)
+ask-requires c κs = (it-reads (c .before .args .s) (c .before .args .c) (c .match .keys8) (c .before .pre .0) .0, c .before .pre .1)
 
 returns : tie.Need-returns
 unfolding outcome
@@ -34,9 +34,13 @@ unfolding outcome
 returns-6 c = rw (c .before .enum-told .given .1) (c .tick .ensures)
 
 returns-7 : tie.Need-returns-7
-returns-7 c =
+unfolding outcome
+returns-7 c = rw (c .before .before .c6 .given .1) (c .set-borders .ensures)
+
+returns-8 : tie.Need-returns-8
+returns-8 c =
     let b = c .before .before .before .before .before in
-    let k = c .before .before .before .before .match .keys7 in
+    let k = c .before .before .before .before .match .keys8 in
     same-after (b .args .s) (state-ok (b .args .s) _ (b .good .0) .sized) (c .leave-holdings .result) _ _ (c .leave-holdings .ensures) (c .before .before .before .ask .ensures) (it-reads (b .args .s) (b .args .c) k (b .pre .0) .1)
 
 pub make-spec : {M : Type 1} → statement M
@@ -44,5 +48,5 @@ make-spec =
     tie.close
     (tie.spec
     (λ c. search needs) (λ c κs. search needs) (λ c. search needs) (λ c κs. search needs) (λ c. search needs) (λ c κs. search needs)
-    (λ c. search needs) (λ c κs. search needs) (λ c. search needs) (λ c κs. search needs) (λ c. search needs) (λ c κs. search needs) ask-requires
-    (λ c κs. search needs) returns returns-2 returns-3 returns-4 returns-5 returns-6 returns-7)
+    (λ c. search needs) (λ c κs. search needs) (λ c. search needs) (λ c κs. search needs) (λ c. search needs) (λ c κs. search needs) (λ c. search needs) (λ c κs. search needs) ask-requires
+    (λ c κs. search needs) returns returns-2 returns-3 returns-4 returns-5 returns-6 returns-7 returns-8)

@@ -13,6 +13,7 @@ use Rattle.model.specs.declared.Holding.{Holding}
 use Rattle.model.specs.declared.Pin.{Pin}
 use Rattle.model.specs.declared.Pin.the-variants.{Absent}
 use Rattle.model.specs.declared.Row.{Row}
+use Rattle.model.specs.declared.Setting.{Setting}
 use Rattle.model.specs.Parties.{isPast}
 use Rattle.model.specs.State.{freeRow}
 use Rattle.model.specs.Words.{isLive, strength}
@@ -20,9 +21,9 @@ use Rattle.model.specs.Inner.Changed.{holdingsDropped}
 use Rattle.serve.specs.Inner.SlotHoldings.{seenTest}
 use Rattle.serve.specs.Inner.SlotHoldings.{heldBy}
 
--- a reply that changes no holding
-unfoldable pub holdingsLeft : ℕ → List Row → List Slot → Answer → Reply
-holdingsLeft clock rows slots answer = record { change = holdingsDropped clock rows slots (replicate 32 false); answer = answer }
+-- a reply that changes no holding, with its setting
+unfoldable pub settingMade : ℕ → List Row → List Slot → Setting → Answer → Reply
+settingMade clock rows slots setting answer = record { change = holdingsDropped clock rows slots (replicate 32 false) setting; answer = answer }
 
 -- a live row whose deadline has passed
 abbrev pub lateRow : ℕ → Row → Bool

@@ -5,7 +5,7 @@ use Rattle.choice.proofs.summary_with.Tie as tie
 use Rattle.choice.proofs.summary_with.Reads as reads
 use Rattle.choice.proofs.summary_with.Lts as lts
 use Rattle.choice.proofs.dirty_in.Reads as dirty-in-reads
-use Rattle.choice.proofs.is_filled.Reads as is-filled-reads
+use Rattle.model.proofs.is_filled.Reads as is-filled-reads
 use Rattle.choice.proofs.lowest_in.Reads as lowest-in-reads
 use Rattle.choice.proofs.page_in.Reads as page-in-reads
 use Rattle.model.proofs.is_better.Reads as is-better-reads

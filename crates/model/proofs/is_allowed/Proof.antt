@@ -9,7 +9,7 @@ use Rattle.seq.proofs.BelowLaws.{all-each}
 use Rattle.seq.proofs.Tests.{beq-true}
 use Rattle.model.specs.declared.Mode.{Mode}
 use Rattle.model.specs.declared.Mode.the-variants.{Read, Write}
-use Rattle.model.specs.Parties.{modeOf, modeNumber, classOf, allowed}
+use Rattle.model.specs.Parties.{modeOf, modeNumber, allowed}
 use borrow.Author.Needs.{needs}
 use Rattle.model.proofs.is_allowed.Statement.{statement}
 use Rattle.model.proofs.is_allowed.Tie as tie
@@ -53,9 +53,6 @@ entry level class mode l k =
     beq-true (getD table (level * 8 + class * 2 + modeNumber mode) false) (allowed level class mode)
     (rw (e1, e2, e3, number-back mode) at (all-each right 32 (level * 8 + class * 2 + modeNumber mode) rule (omega arith)))
 
-cast-class : tie.Need-cast-class
-cast-class c = search needs
-
 mul-at : tie.Need-mul-at
 mul-at c = search needs
 
@@ -78,7 +75,7 @@ returns : tie.Need-returns
 unfolding table
 returns c =
     let l = c .before .args .level in
-    let k = c .before .args .page / 1024 in
+    let k = c .before .args .class in
     let m = c .before .args .mode in
     ap (λ (n : ℕ). getD table (l * 8 + k * 2 + n) false) (c .mode-number .ensures) ∙ entry l k m (omega arith) (omega arith)
 
@@ -86,7 +83,6 @@ pub is-allowed-spec : {M : Type 1} → statement M
 is-allowed-spec =
     tie.close
     (tie.spec
-    cast-class
     mul-at
     mul-at-2
     add-at

@@ -1,5 +1,5 @@
 -- For the code; a call's reply is proved equal to its outcome, crates/calls: what a call makes of a state, as a change of its parts.
-use mathlib.Core.Bool.{Bool, false, cond}
+use mathlib.Core.Bool.{Bool, true, false, cond}
 use mathlib.Core.List.{List}
 use Prim.Native.Nat.{ℕ, _/_, _%_}
 use lib.Dec.{eqb}
@@ -10,9 +10,12 @@ use Rattle.model.specs.declared.Slot.{Slot}
 use Rattle.model.specs.declared.Holding.{Holding}
 use Rattle.model.specs.declared.State.{State}
 use Rattle.model.specs.declared.Outcome.{Outcome}
+use Rattle.model.specs.declared.Borders.{Borders}
+use Rattle.model.specs.declared.Setting.{Setting}
+use Rattle.model.specs.declared.Setting.the-variants.{Left, Begun, Set}
 use Rattle.model.specs.declared.Change.{Change}
 use Rattle.model.specs.declared.Reply.{Reply}
-use Rattle.model.specs.State.{emptyHolding}
+use Rattle.model.specs.State.{emptyHolding, withClock, withRows, withSlots, withHoldings}
 
 -- the rows that a list of marks names
 abbrev pub marked : List Bool → ℕ → Bool
@@ -22,22 +25,41 @@ marked marks row = getD marks row false
 unfoldable pub holdingAfter : Change → ℕ → Holding → Holding
 holdingAfter c k h = cond (eqb (k / 32) (c .slot)) (getD (c .held) (k % 32) emptyHolding) (cond (marked (c .gone) (k % 32)) emptyHolding h)
 
--- the state after a change
-unfoldable pub changed : State → Change → State
-changed s c = record {
+-- the borders after a change, and whether a row has begun
+abbrev pub bordersAfter : Setting → Borders → Borders
+bordersAfter Left b = b
+bordersAfter Begun b = b
+bordersAfter (Set first second third) b = record { first = first; second = second; third = third }
+
+abbrev pub begunAfter : Setting → Bool → Bool
+begunAfter Left begun = begun
+begunAfter Begun begun = true
+begunAfter (Set first second third) begun = begun
+
+abbrev pub withSetting : State → Setting → State
+withSetting s x = record {
   size = s .size;
   delay = s .delay;
-  clock = c .clock;
-  rows = c .rows;
-  slots = c .slots;
-  holdings = each (holdingAfter c) (s .holdings);
+  clock = s .clock;
+  rows = s .rows;
+  slots = s .slots;
+  holdings = s .holdings;
+  borders = bordersAfter x (s .borders);
+  begun = begunAfter x (s .begun);
 }
+
+-- the state after a change
+unfoldable pub changed : State → Change → State
+changed s c =
+    withSetting
+    (withHoldings (withSlots (withRows (withClock s (c .clock)) (c .rows)) (c .slots)) (each (holdingAfter c) (s .holdings)))
+    (c .setting)
 
 -- what a call leaves and answers
 unfoldable pub outcomeOf : State → Reply → Outcome
 outcomeOf s r = record { state = changed s (r .change); answer = r .answer }
 
 -- some rows lose all their holdings, and no other holding changes
-unfoldable pub holdingsDropped : ℕ → List Row → List Slot → List Bool → Change
-holdingsDropped clock rows slots gone =
-    record { clock = clock; rows = rows; slots = slots; gone = gone; slot = 64; held = replicate 32 emptyHolding }
+unfoldable pub holdingsDropped : ℕ → List Row → List Slot → List Bool → Setting → Change
+holdingsDropped clock rows slots gone setting =
+    record { clock = clock; rows = rows; slots = slots; gone = gone; slot = 64; held = replicate 32 emptyHolding; setting = setting }

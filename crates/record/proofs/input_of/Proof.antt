@@ -21,4 +21,5 @@ input-of-spec =
     (λ c. rw (c .match .keys8))
     (λ c. rw (c .match .keys9))
     (λ c. rw (c .match .keys10))
-    (λ c. let a = c .before .args in sym (List·getD-eq-default (kinds (a .level) (a .number) (a .mode) (a .page) (a .value)) Bad (none-below 10 (a .kind) (c .match .rest)))))
+    (λ c. rw (c .match .keys11))
+    (λ c. let a = c .before .args in sym (List·getD-eq-default (kinds (a .level) (a .number) (a .mode) (a .page) (a .value)) Bad (none-below 11 (a .kind) (c .match .rest)))))

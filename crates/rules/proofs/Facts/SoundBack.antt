@@ -16,10 +16,10 @@ use Rattle.model.specs.declared.Content.the-variants.{Empty, Filled}
 use Rattle.model.specs.declared.State.{State}
 use Rattle.model.specs.Parties.{levelOf, lastClock}
 use Rattle.model.specs.State.{rowAt, slotAt, holdingAt}
-use Rattle.model.specs.Words.{isFilled, pageIn, arrivalIn, lowestIn, hasPage, holds, conflict}
+use Rattle.model.specs.Words.{isFree, isFilled, pageIn, arrivalIn, lowestIn, hasPage, holds, conflict}
 use Rattle.model.proofs.ContentLaws.{page-has}
-use Rattle.rules.specs.Sound.{soundNumbers, arrived, awaits, soundContent, soundSlot, samePage, soundPages, inTime, soundCondition, soundRow, soundHolding, soundPins, sound}
-use Rattle.rules.proofs.Facts.SoundFacts.{SlotSound, Settled, RowSound, Sound}
+use Rattle.rules.specs.Sound.{soundNumbers, arrived, awaits, soundContent, soundSlot, samePage, soundPages, inTime, soundCondition, soundRow, soundHolding, soundPins, soundBorders, sound}
+use Rattle.rules.proofs.Facts.SoundFacts.{SlotSound, Settled, RowSound, BordersSound, Sound}
 
 slot-back : (s : State) (i : ℕ) → SlotSound s i → soundSlot s i ≡ true
 unfolding soundSlot
@@ -97,10 +97,21 @@ pins-back s i a h =
     each-pairs (λ row other. not (conflict (holdingAt s i row .pin) (holdingAt s i other .pin))) 32
     (λ r q b c. false-not (conflict (holdingAt s i r .pin) (holdingAt s i q .pin)) (h .no-conflict i r q a b (omega arith) (λ e. omega arith)))
 
-pub back : (s : State) → Sound s → sound s ≡ true
+borders-back : (s : State) → BordersSound s → soundBorders s ≡ true
+unfolding soundBorders
+borders-back s h = both-true (h .valid) (go (s .begun) refl)
+  where
+    go : (b : Bool) → s .begun ≡ b → s .begun || (allBelow 32 (λ row. isFree (rowAt s row .condition)) && allBelow 64 (λ slot. not (isFilled (slotAt s slot .content)))) ≡ true
+    go true e = rw e
+    go false e =
+        rw e (both-true
+        (each-all (λ row. isFree (rowAt s row .condition)) 32 (λ r g. rw (h .free e r g)))
+        (each-all (λ slot. not (isFilled (slotAt s slot .content))) 64 (λ i g. rw (h .empty e i g))))
+
+pub back : (s : State) → Sound s → BordersSound s → sound s ≡ true
 unfolding sound soundNumbers soundRow
-back s h =
-    both-true (both-true (both-true (both-true (both-true
+back s h b =
+    both-true (both-true (both-true (both-true (both-true (both-true
     (both-true (both-true (both-true (both-true (both-true (both-true (both-true
     (eq-eqb (length (s .rows)) 32 (h .sized .rows))
     (eq-eqb (length (s .slots)) 64 (h .sized .slots)))
@@ -114,4 +125,5 @@ back s h =
     (pages-back s h))
     (each-all (soundRow s) 32 (λ r b. row-back s r (rowAt s r .condition) (rowAt s r .deadline) (h .row r b))))
     (each-all (λ slot. allBelow 32 (soundHolding s slot)) 64 (λ i a. each-all (soundHolding s i) 32 (λ r b. holding-back s i r a b h))))
-    (each-all (soundPins s) 64 (λ i a. pins-back s i a h))
+    (each-all (soundPins s) 64 (λ i a. pins-back s i a h)))
+    (borders-back s b)

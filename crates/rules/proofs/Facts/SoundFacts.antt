@@ -18,13 +18,13 @@ use Rattle.model.specs.declared.Pin.{Pin}
 use Rattle.model.specs.declared.Pin.the-variants.{Absent, Unpinned, Read, Write}
 use Rattle.model.specs.declared.Holding.{Holding}
 use Rattle.model.specs.declared.State.{State}
-use Rattle.model.specs.Parties.{levelOf, mayAccess, lastClock}
+use Rattle.model.specs.Parties.{levelOf, classOf, areBorders, mayAccess, lastClock}
 use Rattle.model.specs.State.{emptyHolding, rowAt, slotAt, holdingAt}
-use Rattle.model.specs.Words.{isLive, isFilled, pageIn, arrivalIn, lowestIn, hasPage, isHeld, holds, conflict}
+use Rattle.model.specs.Words.{isFree, isLive, isFilled, pageIn, arrivalIn, lowestIn, hasPage, isHeld, holds, conflict}
 use Rattle.model.proofs.StateLaws.{Sized}
 use Rattle.model.proofs.ContentLaws.{has-page}
 use Rattle.model.proofs.PinLaws.{conflict-comm}
-use Rattle.rules.specs.Sound.{soundNumbers, pinAllowed, arrived, awaits, soundContent, soundSlot, samePage, soundPages, inTime, soundCondition, soundRow, soundHolding, soundPins, sound}
+use Rattle.rules.specs.Sound.{soundNumbers, pinAllowed, arrived, awaits, soundContent, soundSlot, samePage, soundPages, inTime, soundCondition, soundRow, soundHolding, soundPins, soundBorders, sound}
 
 -- a slot
 pub record SlotSound (s : State) (slot : ℕ) : Type 0 where
@@ -50,14 +50,14 @@ abbrev pub RowSound : State → ℕ → Condition → ℕ → Type 0
 RowSound s row Free deadline = deadline ≡ 0
 RowSound s row Idle deadline = Settled s row deadline
 RowSound s row (Fetching due) deadline = Awaiting s row due deadline
-RowSound s row (Waiting page mode) deadline = Settled s row deadline × (page ≤ 4095) × (mayAccess (levelOf row) page mode ≡ true)
+RowSound s row (Waiting page mode) deadline = Settled s row deadline × (page ≤ 4095) × (mayAccess (s .borders) (levelOf row) page mode ≡ true)
 RowSound s row (Killed cause) deadline = deadline ≡ 0
 
 -- a holding that is there
 pub record Held (s : State) (slot row : ℕ) : Type 0 where
   pub live : isLive (rowAt s row .condition) ≡ true
   pub filled : isFilled (slotAt s slot .content) ≡ true
-  pub allowed : pinAllowed (levelOf row) (pageIn (slotAt s slot .content)) (holdingAt s slot row .pin) ≡ true
+  pub allowed : pinAllowed (levelOf row) (classOf (s .borders) (pageIn (slotAt s slot .content))) (holdingAt s slot row .pin) ≡ true
   pub after : arrivalIn (slotAt s slot .content) ≤ holdingAt s slot row .arrival
   pub arrival : holdingAt s slot row .arrival ≤ s .clock + s .delay
   pub touch : holdingAt s slot row .touch ≤ slotAt s slot .touch
@@ -67,7 +67,13 @@ pub record Held (s : State) (slot row : ℕ) : Type 0 where
 abbrev pub RowsSound : State → Type 0
 RowsSound s = (r : ℕ) → r < 32 → RowSound s r (rowAt s r .condition) (rowAt s r .deadline)
 
--- what it says of a state, with a given part for the rows
+-- what it says of the borders, and of the time before a row has begun
+pub record BordersSound (s : State) : Type 0 where
+  pub valid : areBorders (s .borders) ≡ true
+  pub free : s .begun ≡ false → (r : ℕ) → r < 32 → rowAt s r .condition ≡ Free
+  pub empty : s .begun ≡ false → (i : ℕ) → i < 64 → isFilled (slotAt s i .content) ≡ false
+
+-- what it says of a state but for these, with a given part for the rows
 pub record Facts (Rows : Type 0) (s : State) : Type 0 where
   pub sized : Sized s
   pub size-least : 1 ≤ s .size
@@ -221,6 +227,26 @@ facts s e = record {
   unheld = λ i q a b. unheld-facts s i q (all-each (soundHolding s i) 32 q (all-each (λ slot. allBelow 32 (soundHolding s slot)) 64 i (search parts depth 20) a) b);
   no-conflict = λ i q o a. pins-facts s i (all-each (soundPins s) 64 i (search parts depth 20) a) q o;
 }
+
+pub is-free : (x : Condition) → isFree x ≡ true → x ≡ Free
+is-free Free e = refl
+is-free Idle e = true-false (sym e)
+is-free (Fetching due) e = true-false (sym e)
+is-free (Waiting page mode) e = true-false (sym e)
+is-free (Killed cause) e = true-false (sym e)
+
+pub borders-facts : (s : State) → sound s ≡ true → BordersSound s
+unfolding sound soundBorders
+borders-facts s e = record {
+  valid = search parts depth 20;
+  free = λ b r g. is-free (rowAt s r .condition) (all-each (λ row. isFree (rowAt s row .condition)) 32 r (before b .0) g);
+  empty = λ b i g. not-true (isFilled (slotAt s i .content)) (all-each (λ slot. not (isFilled (slotAt s slot .content))) 64 i (before b .1) g);
+}
+  where
+    before : s .begun ≡ false → (allBelow 32 (λ row. isFree (rowAt s row .condition)) ≡ true) × (allBelow 64 (λ slot. not (isFilled (slotAt s slot .content))) ≡ true)
+    before b =
+        let k : s .begun || (allBelow 32 (λ row. isFree (rowAt s row .condition)) && allBelow 64 (λ slot. not (isFilled (slotAt s slot .content)))) ≡ true = search parts depth 20 in
+        and-true (allBelow 32 (λ row. isFree (rowAt s row .condition))) (allBelow 64 (λ slot. not (isFilled (slotAt s slot .content)))) (rw b at k)
 
 -- an empty slot has no holder
 pub empty-unheld : (s : State) → Sound s → (i r : ℕ) → i < 64 → r < 32 → isFilled (slotAt s i .content) ≡ false → holds s i r ≡ false

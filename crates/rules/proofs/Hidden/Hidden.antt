@@ -1,18 +1,21 @@
 -- A call that is not kept for a clearance leaves the state alike for it.
-use mathlib.Core.Path.{_≡_, ap}
+use mathlib.Core.Path.{_≡_, refl, ap}
 use mathlib.Core.Bool.{false, true}
 use Prim.Native.Nat.{ℕ, _<_}
 use native.Mathlib.Omega.{arith}
 use borrow.Author.Tests.{leb-false, ne-eqb}
 use lib.Dec.{leb, eqb}
 use Rattle.seq.proofs.Tests.{true-false}
+use Rattle.model.specs.declared.Borders.{Borders}
 use Rattle.model.specs.declared.Call.{Call}
 use Rattle.model.specs.declared.Condition.the-variants.{Idle}
 use Rattle.model.specs.declared.Outcome.{Outcome}
 use Rattle.model.specs.declared.State.{State}
 use Rattle.model.specs.Parties.{rowOf, levelOf}
-use Rattle.model.specs.State.{freeRow}
+use Rattle.model.specs.State.{freeRow, withBorders, withBegun}
 use Rattle.model.specs.Changes.{released}
+use Rattle.model.specs.Words.{slotOf}
+use Rattle.model.proofs.StateLaws.{sized-begun}
 use Rattle.model.proofs.ChangeLaws.{sized-released}
 use Rattle.rules.specs.Answers.{word, isStarted}
 use Rattle.rules.specs.Run.{outcome}
@@ -22,8 +25,8 @@ use Rattle.rules.proofs.Facts.SoundFacts.{Sound, facts}
 use Rattle.rules.proofs.Leaves.ContentLaws.{asks-above}
 use Rattle.rules.proofs.Leaves.PageLaws.{found-below}
 use Rattle.rules.proofs.Leaves.RefusalFacts.{Named}
-use Rattle.rules.proofs.Leaves.CallEffects.{Effect, unchanged, starts, begins, unpins, ends, ticks, serves, effect}
-use Rattle.rules.proofs.Same.Alike.{Alike}
+use Rattle.rules.proofs.Leaves.CallEffects.{Effect, unchanged, starts, begins, unpins, ends, ticks, sets, serves, effect}
+use Rattle.rules.proofs.Same.Alike.{holdingOn, Alike}
 use Rattle.rules.proofs.Same.AlikeLaws.{alike-refl, alike-trans}
 use Rattle.rules.proofs.Hidden.HiddenChanges.{row-hidden, released-hidden, unpinned-hidden}
 use Rattle.rules.proofs.Hidden.HiddenServed.{served-hidden}
@@ -31,6 +34,15 @@ use Rattle.rules.proofs.Hidden.HiddenServed.{served-hidden}
 -- the row of a call that is not kept is above the clearance
 higher : (L level number : ℕ) → leb level L ≡ false → Named level number → L < levelOf (rowOf level number)
 higher L level number k n = omega (arith, leb-false level L k, n .own-level)
+
+-- the borders and the mark that a row has begun are no part of what is alike
+pub borders-hidden : (L : ℕ) (s : State) (b : Borders) → Alike L s (withBorders s b)
+unfolding holdingOn slotOf
+borders-hidden L s b = record { size = refl; delay = refl; clock = refl; row = λ _ _ _. refl; holding = λ _ _ _ _. refl }
+
+begun-hidden : (L : ℕ) (s : State) → Alike L s (withBegun s)
+unfolding holdingOn slotOf
+begun-hidden L s = record { size = refl; delay = refl; clock = refl; row = λ _ _ _. refl; holding = λ _ _ _ _. refl }
 
 pub hidden : (L : ℕ) (s : State) (c : Call) → sound s ≡ true → isKept L c ≡ false → isStarted (outcome s c .answer) ≡ false → Alike L s (outcome s c .state)
 unfolding isKept word
@@ -43,7 +55,8 @@ hidden L s c y k r = go (outcome s c) r (effect s c)
     go o n (unchanged a q e) = rw e (alike-refl L s)
     go o n (starts slots delay q t e) = true-false (rw e at n)
     go o n (begins level number deadline q t e) =
-        rw e (row-hidden L s (z .sized) (rowOf level number) (t .names .row-is) (higher L level number (rw q at k) (t .names)) (record { condition = Idle; deadline = deadline }))
+        rw e (alike-trans (begun-hidden L s)
+        (row-hidden L (withBegun s) (sized-begun s (z .sized)) (rowOf level number) (t .names .row-is) (higher L level number (rw q at k) (t .names)) (record { condition = Idle; deadline = deadline })))
     go o n (unpins level number page slot q t f p e) =
         rw e (unpinned-hidden L s (z .sized) (rowOf level number) (t .names .row-is) (higher L level number (rw q at k) (t .names)) slot (found-below s z page slot f))
     go o n (ends level number q m e) =
@@ -52,4 +65,5 @@ hidden L s c y k r = go (outcome s c) r (effect s c)
         rw e (alike-trans (released-hidden L s (z .sized) (z .size-most) (eqb me) (λ r b l. ne-eqb me r (λ w. let v : levelOf me ≡ levelOf r = ap levelOf w in omega arith)))
         (row-hidden L (released (eqb me) s) (sized-released (eqb me) s (z .sized)) me (m .row-is) up freeRow))
     go o n (ticks q h e) = true-false (rw q at k)
+    go o n (sets b q t e) = rw e (borders-hidden L s b)
     go o n (serves row page mode b a m e) = rw e (served-hidden L s z row b (asks-above s c row page mode L k a) page mode)

@@ -9,25 +9,27 @@ use Rattle.seq.specs.declared.Found.{Found}
 use Rattle.seq.specs.declared.Found.the-variants.{At, Nowhere}
 use Rattle.seq.proofs.Tests.{true-false}
 use Rattle.model.specs.declared.Answer.{Answer}
-use Rattle.model.specs.declared.Answer.the-variants.{Refused, Started, Begun, Unpinned, Ended, Clock, Open}
+use Rattle.model.specs.declared.Answer.the-variants.{Refused, Started, Begun, Unpinned, Ended, Clock, Open, Bordered}
 use Rattle.model.specs.declared.Call.{Call}
+use Rattle.model.specs.declared.Borders.{Borders}
 use Rattle.model.specs.declared.Call.the-variants.{Start, Begin, Request, Retry, Unpin, End, Tick, Look, View, Count}
+use Rattle.model.specs.declared.Call.the-variants as Call
 use Rattle.model.specs.declared.Condition.{Condition}
 use Rattle.model.specs.declared.Condition.the-variants.{Free, Idle, Fetching, Waiting, Killed}
 use Rattle.model.specs.declared.Mode.{Mode}
 use Rattle.model.specs.declared.Outcome.{Outcome}
 use Rattle.model.specs.declared.State.{State}
 use Rattle.model.specs.Parties.{rowOf, levelOf, modeOf, mayAccess, lastClock}
-use Rattle.model.specs.State.{freeRow, fresh, rowAt, putRow}
+use Rattle.model.specs.State.{freeRow, fresh, rowAt, withBorders, withBegun, putRow}
 use Rattle.model.specs.Words.{pins, slotOf}
 use Rattle.model.specs.Changes.{released}
-use Rattle.rules.specs.Refusals.{conditionAt, pinsPage, startRefusal, beginRefusal, requestRefusal, retryRefusal, unpinRefusal, endRefusal, tickRefusal, lookRefusal, viewRefusal, countRefusal, StartTaken}
-use Rattle.rules.specs.Calls.{unless, started, begun, unpinnedAt, unpinned, ended, advanced, deliveredRows, lateKilled, ticked, served, requested, servedAgain, retried, looked, lookedAt, viewedIn, viewed, counted}
+use Rattle.rules.specs.Refusals.{conditionAt, pinsPage, startRefusal, beginRefusal, requestRefusal, retryRefusal, unpinRefusal, endRefusal, tickRefusal, lookRefusal, viewRefusal, countRefusal, bordersRefusal, StartTaken}
+use Rattle.rules.specs.Calls.{unless, started, begun, unpinnedAt, unpinned, ended, advanced, deliveredRows, lateKilled, ticked, served, requested, servedAgain, retried, looked, lookedAt, viewedIn, viewed, counted, bordered}
 use Rattle.rules.specs.Content.{isReading}
 use Rattle.rules.specs.Requests.{Asks}
 use Rattle.rules.specs.Run.{outcome}
 use Rattle.rules.proofs.Leaves.ContentLaws.{asking-own, asks-asking}
-use Rattle.rules.proofs.Leaves.RefusalFacts.{unless-is, Named, BeginTaken, UnpinTaken, start-taken, begin-taken, request-taken, retry-taken, unpin-taken, end-taken, tick-taken, look-taken}
+use Rattle.rules.proofs.Leaves.RefusalFacts.{unless-is, Named, BeginTaken, UnpinTaken, BordersTaken, start-taken, begin-taken, request-taken, retry-taken, unpin-taken, end-taken, tick-taken, look-taken, borders-taken}
 
 -- the calls that leave the state: refused ones, and look, view and count
 pub data Still (s : State) (c : Call) (a : Answer) : Type 0 where
@@ -39,18 +41,19 @@ pub data Still (s : State) (c : Call) (a : Answer) : Type 0 where
 -- a row that may be served: idle, with a request that no refusal applies to, or waiting
 abbrev pub MayAsk : State → ℕ → ℕ → Mode → Type 0
 MayAsk s row page mode =
-    ((rowAt s row .condition ≡ Idle) × (page ≤ 4095) × (mayAccess (levelOf row) page mode ≡ true)) ⊎ (rowAt s row .condition ≡ Waiting page mode)
+    ((rowAt s row .condition ≡ Idle) × (page ≤ 4095) × (mayAccess (s .borders) (levelOf row) page mode ≡ true)) ⊎ (rowAt s row .condition ≡ Waiting page mode)
 
 pub data Effect (s : State) (c : Call) (o : Outcome) : Type 0 where
   unchanged : (a : Answer) → Still s c a → o ≡ record { state = s; answer = a } → Effect s c o
   starts : (slots delay : ℕ) → c ≡ Start slots delay → StartTaken slots delay → o ≡ record { state = fresh slots delay; answer = Started } → Effect s c o
   begins : (level number deadline : ℕ) → c ≡ Begin level number deadline → BeginTaken s level number deadline
-      → o ≡ record { state = putRow s (rowOf level number) (record { condition = Idle; deadline = deadline }); answer = Begun } → Effect s c o
+      → o ≡ record { state = putRow (withBegun s) (rowOf level number) (record { condition = Idle; deadline = deadline }); answer = Begun } → Effect s c o
   unpins : (level number page slot : ℕ) → c ≡ Unpin level number page → UnpinTaken s level number page → slotOf s page ≡ At slot → pins s slot (rowOf level number) ≡ true
       → o ≡ record { state = unpinnedAt s (rowOf level number) slot; answer = Unpinned } → Effect s c o
   ends : (level number : ℕ) → c ≡ End level number → Named level number
       → o ≡ record { state = putRow (released (eqb (rowOf level number)) s) (rowOf level number) freeRow; answer = Ended } → Effect s c o
   ticks : c ≡ Tick → s .clock < lastClock → o ≡ record { state = lateKilled (deliveredRows (advanced s)); answer = Clock (s .clock + 1) } → Effect s c o
+  sets : (b : Borders) → c ≡ Call.Borders (b .first) (b .second) (b .third) → BordersTaken s b → o ≡ record { state = withBorders s b; answer = Bordered } → Effect s c o
   serves : (row page : ℕ) (mode : Mode) → row < 32 → Asks s c row page mode → MayAsk s row page mode → o ≡ served s row page mode → Effect s c o
 
 -- a refused call
@@ -78,7 +81,7 @@ module _ (s : State) where
   retry-effect level number n (Killed cause) e = unchanged (Refused 10) (refused 9 refl) refl
 
   pub effect : (c : Call) → Effect s c (outcome s c)
-  unfolding outcome started begun requested retried unpinned ended ticked lookedAt viewed counted
+  unfolding outcome started begun requested retried unpinned ended ticked lookedAt viewed counted bordered
   effect (Start slots delay) = by-refusal s (Start slots delay) (startRefusal slots delay) _ (λ e. starts slots delay refl (start-taken slots delay e) refl)
   effect (Begin level number deadline) = by-refusal s (Begin level number deadline) (beginRefusal s level number deadline) _ (λ e.
       begins level number deadline refl (begin-taken s level number deadline e) refl)
@@ -96,6 +99,9 @@ module _ (s : State) where
   effect (Look level number) = by-refusal s (Look level number) (lookRefusal level number) _ (λ e. unchanged _ (looks level number refl (look-taken level number e) refl) refl)
   effect (View level page) = by-refusal s (View level page) (viewRefusal level page) _ (λ e. unchanged _ (views level page refl refl) refl)
   effect (Count level) = by-refusal s (Count level) (countRefusal level) _ (λ e. unchanged _ (counts level _ refl refl) refl)
+  effect (Call.Borders first second third) =
+      let b : Borders = record { first = first; second = second; third = third } in
+      by-refusal s (Call.Borders first second third) (bordersRefusal s b) _ (λ e. sets b refl (borders-taken s b e) refl)
 
 -- look, view and count change nothing
 pub reading-still : (s : State) (c : Call) → isReading c ≡ true → outcome s c .state ≡ s
@@ -108,4 +114,5 @@ reading-still s c r = go (outcome s c) (effect s c)
     go o (unpins level number page slot q t f p e) = true-false (sym (rw q at r))
     go o (ends level number q n e) = true-false (sym (rw q at r))
     go o (ticks q h e) = true-false (sym (rw q at r))
+    go o (sets b q t e) = true-false (sym (rw q at r))
     go o (serves row page mode b a m e) = true-false (sym r ∙ asking-own c (asks-asking s c row page mode a) .1)

@@ -7,7 +7,7 @@ use native.Mathlib.Omega.{arith}
 use borrow.Author.Tests.{eqb-true, leb-false}
 use Rattle.seq.proofs.Tests.{true-false, and-right, or-false, or-true-right}
 use Rattle.model.specs.declared.Call.{Call}
-use Rattle.model.specs.declared.Call.the-variants.{Start, Begin, Request, Retry, Unpin, End, Tick, Look, View, Count}
+use Rattle.model.specs.declared.Call.the-variants.{Start, Begin, Request, Retry, Unpin, End, Tick, Look, View, Count, Borders}
 use Rattle.model.specs.declared.Condition.the-variants.{Waiting}
 use Rattle.model.specs.declared.Mode.{Mode}
 use Rattle.model.specs.declared.State.{State}
@@ -41,6 +41,7 @@ start-is Tick e = true-false (sym e)
 start-is (Look level number) e = true-false (sym e)
 start-is (View level page) e = true-false (sym e)
 start-is (Count level) e = true-false (sym e)
+start-is (Borders first second third) e = true-false (sym e)
 
 -- a request or retry is not the server's, and changes the state
 pub asking-own : (c : Call) → isAsking c ≡ true → (isServers c ≡ false) × (isReading c ≡ false)

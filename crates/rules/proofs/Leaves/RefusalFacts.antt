@@ -1,5 +1,5 @@
 -- What it says of a call and its numbers that no refusal applies; what holds of a call, refused or not.
-use mathlib.Core.Path.{_≡_, refl, sym}
+use mathlib.Core.Path.{_≡_, refl}
 use mathlib.Core.Bool.{Bool, true, false, _&&_, not}
 use mathlib.Core.List.{List, [], _∷_}
 use Prim.Native.Nat.{ℕ, zero, suc, _<_, _≤_}
@@ -11,10 +11,13 @@ use Rattle.model.specs.declared.Condition.{Condition}
 use Rattle.model.specs.declared.Condition.the-variants.{Free, Idle, Fetching, Waiting, Killed}
 use Rattle.model.specs.declared.Answer.the-variants.{Refused}
 use Rattle.model.specs.declared.Outcome.{Outcome}
+use Rattle.model.specs.declared.Borders.{Borders}
 use Rattle.model.specs.declared.State.{State}
-use Rattle.model.specs.Parties.{rowOf, levelOf, modeOf, mayAccess, lastClock, isPast}
+use Rattle.model.specs.Parties.{rowOf, levelOf, modeOf, areBorders, mayAccess, lastClock, isPast}
+use Rattle.model.specs.Words.{isFree}
 use Rattle.rules.specs.Calls.{unless}
-use Rattle.rules.specs.Refusals.{firstToApply, isFree, isKilled, isBusy, isWaiting, isRead, conditionAt, pinsPage, startRefusal, beginRefusal, requestRefusal, retryRefusal, unpinRefusal, endRefusal, tickRefusal, lookRefusal, StartTaken}
+use Rattle.rules.specs.Refusals.{firstToApply, isKilled, isBusy, isWaiting, isRead, conditionAt, pinsPage, startRefusal, beginRefusal, requestRefusal, retryRefusal, unpinRefusal, endRefusal, tickRefusal, lookRefusal, bordersRefusal, StartTaken}
+use Rattle.rules.proofs.Facts.SoundFacts.{is-free}
 
 -- what holds of a refused call and of an accepted one
 pub unless-is : (P : Outcome → Type 0) (n : ℕ) (s : State) (o : Outcome) → ((k : ℕ) → P (record { state = s; answer = Refused (suc k) })) → (n ≡ 0 → P o) → P (unless n s o)
@@ -36,13 +39,6 @@ none-apply (r ∷ rs) n e = go (r .1) refl (none-apply rs (n .1))
     go : (b : Bool) → r .1 ≡ b → (firstToApply rs ≡ 0 → NoneApply rs) → (r .1 ≡ false) × NoneApply rs
     go true q f = absurd (let z = rw q at e in omega (arith, n .0))
     go false q f = (q, f (rw q at e))
-
-is-free : (x : Condition) → isFree x ≡ true → x ≡ Free
-is-free Free e = refl
-is-free Idle e = true-false (sym e)
-is-free (Fetching due) e = true-false (sym e)
-is-free (Waiting page mode) e = true-false (sym e)
-is-free (Killed cause) e = true-false (sym e)
 
 is-idle : (x : Condition) → isFree x ≡ false → isKilled x ≡ false → isBusy x ≡ false → x ≡ Idle
 is-idle Free e f g = true-false e
@@ -102,14 +98,14 @@ pub record RequestTaken (s : State) (level number page mode : ℕ) : Type 0 wher
   pub names : Named level number
   pub page-is : page ≤ 4095
   pub idle : conditionAt s level number ≡ Idle
-  pub allowed : mayAccess (levelOf (rowOf level number)) page (modeOf mode) ≡ true
+  pub allowed : mayAccess (s .borders) (levelOf (rowOf level number)) page (modeOf mode) ≡ true
 
 pub request-taken : (s : State) (level number page mode : ℕ) → requestRefusal s level number page mode ≡ 0 → RequestTaken s level number page mode
 unfolding requestRefusal
 request-taken s level number page mode e =
     let x = conditionAt s level number in
     let reading = isRead (modeOf mode) in
-    let may = mayAccess level page (modeOf mode) in
+    let may = mayAccess (s .borders) level page (modeOf mode) in
     let n = none-apply (
     (4, ltb 3 level) ∷ (5, ltb 7 number) ∷ (6, ltb 4095 page) ∷ (7, ltb 1 mode) ∷ (9, isFree x) ∷ (10, isKilled x) ∷ (11, isBusy x)
     ∷ (13, reading && not may) ∷ (14, not reading && not may) ∷ []) (omega arith) e in
@@ -164,3 +160,13 @@ look-taken level number e =
 pub tick-taken : (s : State) → tickRefusal s ≡ 0 → s .clock < lastClock
 unfolding tickRefusal
 tick-taken s e = let n = none-apply ((17, leb lastClock (s .clock)) ∷ []) (omega arith) e in leb-false lastClock (s .clock) (n .0)
+
+pub record BordersTaken (s : State) (b : Borders) : Type 0 where
+  pub valid : areBorders b ≡ true
+  pub unbegun : s .begun ≡ false
+
+pub borders-taken : (s : State) (b : Borders) → bordersRefusal s b ≡ 0 → BordersTaken s b
+unfolding bordersRefusal
+borders-taken s b e =
+    let n = none-apply ((19, not (areBorders b)) ∷ (20, s .begun) ∷ []) (omega arith) e in
+    record { valid = not-false (areBorders b) (n .0); unbegun = n .1 .0 }

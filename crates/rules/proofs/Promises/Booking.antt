@@ -19,7 +19,7 @@ use Rattle.model.specs.declared.Outcome.{Outcome}
 use Rattle.model.specs.declared.Slot.{Slot}
 use Rattle.model.specs.declared.State.{State}
 use Rattle.model.specs.Parties.{rowOf, levelOf}
-use Rattle.model.specs.State.{freeRow, slotAt, holdingAt, putRow}
+use Rattle.model.specs.State.{freeRow, slotAt, holdingAt, withBorders, withBegun, putRow}
 use Rattle.model.specs.Words.{hasPage, dirtyIn, isWrite, pins, slotOf}
 use Rattle.model.specs.Changes.{released, killed, cleared}
 use Rattle.model.proofs.StateLaws.{Sized, slot-put}
@@ -33,7 +33,7 @@ use Rattle.rules.specs.Calls.{unpinnedAt, waiting, granted, pinnersKille
 use Rattle.model.specs.declared.Call.{Call}
 use Rattle.rules.proofs.Facts.SoundFacts.{Sound}
 use Rattle.rules.proofs.Leaves.PageLaws.{found-below}
-use Rattle.rules.proofs.Leaves.CallEffects.{Effect, unchanged, starts, begins, unpins, ends, ticks, serves}
+use Rattle.rules.proofs.Leaves.CallEffects.{Effect, unchanged, starts, begins, unpins, ends, ticks, sets, serves}
 use Rattle.rules.proofs.Leaves.GrantLaws.{granted-clock}
 use Rattle.rules.proofs.Leaves.TickLaws.{later, ticked-slot, ticked-holding, ticked-clock}
 use Rattle.rules.proofs.Promises.Serving.{Serving, waits, waits-g, joins, fills, serving}
@@ -133,9 +133,10 @@ module _ (s : State) (z : Sound s) (page slot : ℕ) (b : slot < 64) where
   unfolding unpinnedAt released word
   writes c o n (unchanged a x e) = rw e (stay (s .clock) refl (booked-same (s .clock) page s s slot refl (λ _ _. refl)))
   writes c o n (starts slots delay q x e) = true-false (rw e at n)
-  writes c o n (begins level number deadline q t e) = rw e (stay (s .clock) refl (booked-same (s .clock) page s (putRow s (rowOf level number) (record { condition = Idle; deadline = deadline })) slot refl (λ _ _. refl)))
+  writes c o n (begins level number deadline q t e) = rw e (stay (s .clock) refl (booked-same (s .clock) page s (putRow (withBegun s) (rowOf level number) (record { condition = Idle; deadline = deadline })) slot refl (λ _ _. refl)))
   writes c o n (unpins level number p i q t f x e) =
       rw e (stay (s .clock) refl (unpinned-booked s (z .sized) (rowOf level number) i (t .names .row-is) (found-below s z p i f) page slot))
   writes c o n (ends level number q m e) = rw e (stay (s .clock) refl (ended-booked (rowOf level number)))
   writes c o n (ticks q x e) = rw e (stay (s .clock + 1) (ticked-clock s (z .sized)) ticked-booked)
+  writes c o n (sets b q t e) = rw e (stay (s .clock) refl (booked-same (s .clock) page s (withBorders s b) slot refl (λ _ _. refl)))
   writes c o n (serves row p mode r a x e) = served-writes row p mode r o (rw (← e) at (serving s row p mode))

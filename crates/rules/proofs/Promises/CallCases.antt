@@ -26,6 +26,7 @@ use Rattle.model.specs.declared.Answer.the-variants.{
   PageWrite,
   PageDormant,
   Open,
+  Bordered,
 }
 use Rattle.model.specs.declared.Call.{Call}
 use Rattle.model.specs.declared.Condition.{Condition}
@@ -61,6 +62,7 @@ isServed (PageRead arrival) = false
 isServed (PageWrite arrival) = false
 isServed (PageDormant arrival) = false
 isServed (Open n) = false
+isServed Bordered = false
 
 -- questions are answered by no served answer
 looked-other : (x : Condition) → isServed (looked x) ≡ false

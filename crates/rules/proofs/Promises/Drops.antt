@@ -29,7 +29,7 @@ use Rattle.rules.specs.Requests.{Asks}
 use Rattle.rules.specs.Slots.{Refilled}
 use Rattle.rules.proofs.Facts.SoundFacts.{Sound}
 use Rattle.rules.proofs.Leaves.PageLaws.{found-below}
-use Rattle.rules.proofs.Leaves.CallEffects.{Effect, unchanged, starts, begins, unpins, ends, ticks, serves}
+use Rattle.rules.proofs.Leaves.CallEffects.{Effect, unchanged, starts, begins, unpins, ends, ticks, sets, serves}
 use Rattle.rules.proofs.Leaves.GrantLaws.{granted-row}
 use Rattle.rules.proofs.Leaves.TickLaws.{later, ticked-row, ticked-holding}
 use Rattle.rules.proofs.Promises.Serving.{Serving, waits, waits-g, joins, fills, serving}
@@ -139,4 +139,5 @@ module _ (s : State) (z : Sound s) (slot q : ℕ) (b : slot < 64) (m : q < 32) (
         true-false (sym (unpinned-holds s (z .sized) (rowOf level number) i (t .names .row-is) (found-below s z page i f) slot q m before) ∙ (rw e at h))
     drop o (ends level number k n e) h = inl (rw e (ended-drop (rowOf level number) (n .row-is) (rw e at h)))
     drop o (ticks k x e) h = inl (rw e (ticked-drop (rw e at h)))
+    drop o (sets b k t e) h = true-false (sym before ∙ (rw e at h))
     drop o (serves row page mode r a x e) h = served-drop row page mode r a o (rw (← e) at (serving s row page mode)) h

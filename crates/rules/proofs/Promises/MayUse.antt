@@ -30,7 +30,7 @@ use Rattle.rules.specs.Requests.{Names}
 use Rattle.rules.specs.Arrivals.{AllArrived}
 use Rattle.rules.proofs.Facts.SoundFacts.{Sound, RowSound, facts}
 use Rattle.rules.proofs.Leaves.ContentLaws.{asks-names}
-use Rattle.rules.proofs.Leaves.CallEffects.{refused, looks, views, counts, Effect, unchanged, starts, begins, unpins, ends, ticks, serves, effect}
+use Rattle.rules.proofs.Leaves.CallEffects.{refused, looks, views, counts, Effect, unchanged, starts, begins, unpins, ends, ticks, sets, serves, effect}
 use Rattle.rules.proofs.Promises.CallCases.{viewed-is}
 use Rattle.rules.proofs.Promises.Serving.{Serving, waits, waits-g, joins, fills, serving}
 use Rattle.rules.proofs.Stays.StaysSound.{stays-sound}
@@ -82,6 +82,7 @@ module _ (s : State) (z : Sound s) where
       go o (unpins level number page slot q t f p e) = true-false (sym (rw q at (n .kind)))
       go o (ends level number q m e) = true-false (sym (rw q at (n .kind)))
       go o (ticks q h e) = true-false (sym (rw q at (n .kind)))
+      go o (sets b q t e) = true-false (sym (rw q at (n .kind)))
       go o (serves r page mode b a m e) =
           let w : row ≡ r = n .row-is ∙ sym (a .row-is) in
           rw (w, e) (inr (b, served-says r page mode b _ (serving s r page mode)))
@@ -117,6 +118,7 @@ used-names s c o (begins level number deadline q t e) u = true-false (sym (rw e 
 used-names s c o (unpins level number page slot q t f p e) u = true-false (sym (rw e at u))
 used-names s c o (ends level number q m e) u = true-false (sym (rw e at u))
 used-names s c o (ticks q h e) u = true-false (sym (rw e at u))
+used-names s c o (sets b q t e) u = true-false (sym (rw e at u))
 used-names s c o (serves row page mode b a m e) u = record { kind = asks-names s c row page mode a .kind; row-is = refl }
 
 -- an answer that says that a page may be used goes to a request, retry or look of a row, and every page that the row holds has arrived

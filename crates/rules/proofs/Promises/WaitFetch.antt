@@ -30,7 +30,7 @@ use Rattle.rules.specs.Requests.{Asks}
 use Rattle.rules.specs.Waits.{Outranked, HeldUpTo, NoSlot}
 use Rattle.rules.proofs.Facts.SoundFacts.{Sound, facts}
 use Rattle.rules.proofs.Leaves.PageLaws.{found-slot, found-below, not-found}
-use Rattle.rules.proofs.Leaves.CallEffects.{Effect, unchanged, starts, begins, unpins, ends, ticks, serves, effect}
+use Rattle.rules.proofs.Leaves.CallEffects.{Effect, unchanged, starts, begins, unpins, ends, ticks, sets, serves, effect}
 use Rattle.rules.proofs.Promises.Serving.{Serving, waits, waits-g, joins, fills, serving}
 use Rattle.rules.proofs.Choosing.ChoiceSteps.{neither, no-step-a, no-step-b, c-or-d}
 use Rattle.rules.proofs.Promises.CallCases.{isServed, still-unserved}
@@ -72,6 +72,7 @@ served-alone s z c = go (outcome s c) (effect s c)
     go o (unpins level number page slot q t f p e) k = true-false (sym (rw e at k))
     go o (ends level number q n e) k = true-false (sym (rw e at k))
     go o (ticks q h e) k = true-false (sym (rw e at k))
+    go o (sets b q t e) k = true-false (sym (rw e at k))
     go o (serves row page mode h a m e) k = (row, page, mode, a, h, e)
 
 -- one that is not told to wait is granted

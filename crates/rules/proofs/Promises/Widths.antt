@@ -19,22 +19,24 @@ use Rattle.model.specs.declared.Content.the-variants.{Empty, Filled}
 use Rattle.model.specs.declared.Mode.{Mode}
 use Rattle.model.specs.declared.Outcome.{Outcome}
 use Rattle.model.specs.declared.Row.{Row}
+use Rattle.model.specs.declared.Borders.{Borders}
 use Rattle.model.specs.declared.State.{State}
-use Rattle.model.specs.Parties.{rowOf, levelOf}
+use Rattle.model.specs.Parties.{rowOf, levelOf, areBorders}
 use Rattle.model.specs.State.{freeRow, emptySlot, emptyHolding, fresh, rowAt, slotAt, holdingAt}
 use Rattle.model.specs.Words.{holds, pins}
 use Rattle.model.specs.Changes.{killedRow, released, killed, cleared}
 use Rattle.model.proofs.StateLaws.{Sized, row-put, fresh-row}
 use Rattle.model.proofs.ChangeLaws.{killed-row, sized-released}
+use Rattle.model.proofs.BordersLaws.{in-order}
 use Rattle.model.proofs.PinLaws.{pin-held}
-use Rattle.model.proofs.Ranges.{ConditionOk, ContentOk, HoldingOk, RowOk, SlotOk, StateOk}
+use Rattle.model.proofs.Ranges.{ConditionOk, ContentOk, HoldingOk, RowOk, SlotOk, BordersOk, StateOk}
 use Rattle.rules.specs.Sound.{awaits, sound}
 use Rattle.rules.specs.Calls.{unpinnedAt, deliveredRow, isLate, waiting, granted, pinnersKilled, filled}
 use Rattle.model.specs.declared.Call.{Call}
 use Rattle.rules.specs.Run.{outcome}
 use Rattle.rules.specs.Content.{Fits}
-use Rattle.rules.proofs.Facts.SoundFacts.{Sound, Awaiting, RowSound, facts}
-use Rattle.rules.proofs.Leaves.CallEffects.{Effect, unchanged, starts, begins, unpins, ends, ticks, serves, effect}
+use Rattle.rules.proofs.Facts.SoundFacts.{Sound, Awaiting, RowSound, facts, borders-facts}
+use Rattle.rules.proofs.Leaves.CallEffects.{Effect, unchanged, starts, begins, unpins, ends, ticks, sets, serves, effect}
 use Rattle.rules.proofs.Leaves.GrantLaws.{grantedRow, granted-row}
 use Rattle.rules.proofs.Leaves.TickLaws.{later, ticked-row}
 use Rattle.rules.proofs.Promises.Serving.{Serving, waits, waits-g, joins, fills, serving}
@@ -96,6 +98,7 @@ module _ (s : State) (z : Sound s) (narrow : Narrow s) (q : ℕ) (b : q < 32) wh
       rw (e, row-put (released (eqb row) s) (sized-released (eqb row) s (z .sized)) row freeRow q (n .row-is)) (either (eqb q row) freeRow (rowAt s q) (omega arith) (narrow q))
   call-narrow c f o (ticks k x e) =
       rw (e, ticked-row s (z .sized) q b) (either (isLate (later s) q) (killedRow Late) (deliveredRow (s .clock + 1) (rowAt s q)) (omega arith) (narrow q))
+  call-narrow c f o (sets b k t e) = rw e (narrow q)
   call-narrow c f o (serves row page mode r a x e) = served-narrow row page mode r o (rw (← e) at (serving s row page mode))
 
 pub stays-narrow : (s : State) (c : Call) → sound s ≡ true → Fits c → Narrow s → Narrow (outcome s c .state)
@@ -139,6 +142,11 @@ module _ (s : State) (z : Sound s) where
           record { arrival = omega (arith, h .arrival, z .clock-most, z .delay-most); touch = omega (arith, h .touch, z .slot slot b .touch, z .clock-most) }
       go false e = rw (z .unheld slot row b r e) (record { arrival = omega arith; touch = omega arith })
 
+pub borders-fit : (b : Borders) → areBorders b ≡ true → BordersOk b
+borders-fit b e =
+    let x = in-order b e in
+    record { first = omega (arith, x .first, x .second, x .third); second = omega (arith, x .second, x .third); third = omega (arith, x .third) }
+
 -- every number of the state fits its word
 pub sound-ok : (s : State) → sound s ≡ true → Narrow s → StateOk s
 sound-ok s e narrow = record {
@@ -152,6 +160,7 @@ sound-ok s e narrow = record {
       (λ i b. record { content = content-fits s z i b (slotAt s i .content) refl; touch = omega (arith, z .slot i b .touch, z .clock-most) });
   holding = everywhere HoldingOk (s .holdings) emptyHolding 2048 (z .sized .holdings) (record { arrival = omega arith; touch = omega arith })
       (λ k b. let n : k / 32 * 32 + k % 32 ≡ k = omega arith in rw n at (holding-fits s z (k / 32) (k % 32) (omega arith) (omega arith)));
+  borders = borders-fit (s .borders) (borders-facts s e .valid);
 }
   where
     z : Sound s

@@ -14,10 +14,10 @@ use Rattle.model.specs.declared.Holding.{Holding}
 use Rattle.model.specs.declared.Row.{Row}
 use Rattle.model.specs.declared.State.{State}
 use Rattle.model.specs.Parties.{rowOf, levelOf}
-use Rattle.model.specs.State.{freeRow, rowAt, putRow}
+use Rattle.model.specs.State.{freeRow, rowAt, withBegun, putRow}
 use Rattle.model.specs.Words.{isHeld, seen, isOpen, slotOf}
 use Rattle.model.specs.Changes.{released}
-use Rattle.model.proofs.StateLaws.{Sized}
+use Rattle.model.proofs.StateLaws.{Sized, sized-begun}
 use Rattle.model.proofs.ChangeLaws.{sized-released}
 use Rattle.model.proofs.SeenLaws.{no-dormant, none-seen}
 use Rattle.rules.specs.Answers.{told}
@@ -37,6 +37,11 @@ use Rattle.rules.proofs.Same.SameRefusals.{same-tick-refusal, own-row, 
 unseen : (L : ℕ) (s t : State) → Alike L s t → (page i : ℕ) → slotOf s page ≡ At i → slotOf t page ≡ Nowhere → (level : ℕ) → level ≤ L → seen s level i ≡ false
 unseen L s t alike page i at-s at-t level up = none-seen s level i (λ r h l.
     ap (λ (x : Holding). isHeld (x .pin)) (sym (on-slot s page i r at-s) ∙ alike .holding page r h (omega arith) ∙ on-nowhere t page r at-t))
+
+-- the mark that a row has begun is no part of it
+same-begun-mark : (L : ℕ) (s t : State) → Alike L s t → Alike L (withBegun s) (withBegun t)
+unfolding holdingOn slotOf
+same-begun-mark L s t a = record { size = a .size; delay = a .delay; clock = a .clock; row = a .row; holding = a .holding }
 
 -- ---- tick
 
@@ -81,10 +86,10 @@ module _ (L : ℕ) (s t : State) (y : Sound s) (z : Sound t) (alike : Alike L s 
     same-begun number deadline =
         let x : Row = record { condition = Idle; deadline = deadline } in
         same-unless L s t (beginRefusal s level number deadline) (beginRefusal t level number deadline)
-        (record { state = putRow s (rowOf level number) x; answer = Begun })
-        (record { state = putRow t (rowOf level number) x; answer = Begun })
+        (record { state = putRow (withBegun s) (rowOf level number) x; answer = Begun })
+        (record { state = putRow (withBegun t) (rowOf level number) x; answer = Begun })
         alike (same-begin-refusal L s t alike two level number low deadline)
-        (λ e. (refl, same-put-row L s t (y .sized) (z .sized) alike (rowOf level number) x x (begin-taken s level number deadline e .names .row-is) refl))
+        (λ e. (refl, same-put-row L (withBegun s) (withBegun t) (sized-begun s (y .sized)) (sized-begun t (z .sized)) (same-begun-mark L s t alike) (rowOf level number) x x (begin-taken s level number deadline e .names .row-is) refl))
 
     pub same-ended : (number : ℕ) → Same L (ended s level number) (ended t level number)
     unfolding ended

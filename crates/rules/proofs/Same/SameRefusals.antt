@@ -1,5 +1,5 @@
 -- Two states alike for L refuse the same calls of a level up to L.
-use mathlib.Core.Path.{_≡_, refl, ap}
+use mathlib.Core.Path.{_≡_, refl, sym, _∙_, ap}
 use mathlib.Core.Bool.{Bool, true, false}
 use Prim.Native.Nat.{ℕ, _≤_}
 use native.Mathlib.Omega.{arith}
@@ -8,12 +8,14 @@ use lib.Dec.{ltb}
 use Rattle.seq.specs.Below.{atFound}
 use Rattle.seq.specs.declared.Found.{Found}
 use Rattle.seq.specs.declared.Found.the-variants.{At, Nowhere}
+use Rattle.model.specs.declared.Condition.the-variants.{Free}
 use Rattle.model.specs.declared.Row.{Row}
 use Rattle.model.specs.declared.State.{State}
 use Rattle.model.specs.Parties.{rowOf}
 use Rattle.model.specs.State.{emptyHolding, rowAt, holdingAt}
 use Rattle.model.specs.Words.{isPin, pins, slotOf}
 use Rattle.rules.specs.Refusals.{conditionAt, pinsPage, beginRefusal, requestRefusal, retryRefusal, unpinRefusal, endRefusal, tickRefusal}
+use Rattle.rules.proofs.Facts.SoundFacts.{BordersSound}
 use Rattle.rules.proofs.Same.Alike.{holdingOn, Alike}
 
 pub pins-on : (s : State) (row page : ℕ) → pinsPage s row page ≡ isPin (holdingOn s page row .pin)
@@ -48,9 +50,17 @@ module _ (L : ℕ) (s t : State) (alike : Alike L s t) where
     unfolding beginRefusal
     same-begin-refusal deadline = by-row (λ x. beginRefusal x level number deadline) (λ e. rw e) (λ h. rw (own-condition h, alike .clock))
 
-    pub same-request-refusal : (page mode : ℕ) → requestRefusal s level number page mode ≡ requestRefusal t level number page mode
+    -- before a row has begun every row is free, and the borders are not asked
+    pub same-request-refusal : BordersSound s → (s .begun ≡ true → s .borders ≡ t .borders) → (page mode : ℕ)
+        → requestRefusal s level number page mode ≡ requestRefusal t level number page mode
     unfolding requestRefusal
-    same-request-refusal page mode = by-row (λ x. requestRefusal x level number page mode) (λ e. rw e) (λ h. rw (own-condition h))
+    same-request-refusal o agree page mode = by-row (λ x. requestRefusal x level number page mode) (λ e. rw e) (λ h. go h (s .begun) refl)
+      where
+        go : number ≤ 7 → (b : Bool) → s .begun ≡ b → requestRefusal s level number page mode ≡ requestRefusal t level number page mode
+        go h true e = rw (own-condition h, agree e)
+        go h false e =
+            let f : conditionAt s level number ≡ Free = o .free e (rowOf level number) (omega arith) in
+            rw (f, sym (own-condition h) ∙ f)
 
     pub same-retry-refusal : retryRefusal s level number ≡ retryRefusal t level number
     unfolding retryRefusal

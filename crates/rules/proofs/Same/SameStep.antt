@@ -1,4 +1,4 @@
--- A call by a level up to L, or a tick, on two states alike for L gives the same answer and alike states.
+-- A call by a level up to L, or a tick, on two states alike for L gives the same answer and alike states, where the borders agree once a row of the first has begun.
 use mathlib.Core.Path.{_≡_, refl, sym, _∙_}
 use mathlib.Core.Bool.{Bool, true, false, _&&_}
 use Prim.Native.Nat.{ℕ, _<_, _≤_}
@@ -18,11 +18,11 @@ use Rattle.model.specs.Words.{isHeld}
 use Rattle.rules.specs.Calls.{served, requested, servedAgain, retried}
 use Rattle.rules.specs.Refusals.{requestRefusal, retryRefusal}
 use Rattle.model.specs.declared.Call.{Call}
-use Rattle.model.specs.declared.Call.the-variants.{Start, Begin, Request, Retry, Unpin, End, Tick, Look, View, Count}
+use Rattle.model.specs.declared.Call.the-variants.{Start, Begin, Request, Retry, Unpin, End, Tick, Look, View, Count, Borders}
 use Rattle.rules.specs.Run.{outcome}
 use Rattle.rules.specs.Secrecy.{isKept}
 use Rattle.rules.specs.Sound.{sound}
-use Rattle.rules.proofs.Facts.SoundFacts.{Sound, facts}
+use Rattle.rules.proofs.Facts.SoundFacts.{Sound, BordersSound, facts, borders-facts}
 use Rattle.rules.proofs.Same.Alike.{holdingOn, Alike, Same}
 use Rattle.rules.proofs.Leaves.RefusalFacts.{Named, request-taken, retry-taken}
 use Rattle.rules.proofs.Same.SameSlots.{same-open-count}
@@ -46,12 +46,12 @@ same-request L s t me page mode two h l y z alike = go (anyBelow 32 (λ r. leb (
         (λ w. true-false (sym (both-true (le-leb (levelOf r) L m) w) ∙ any-none (λ r. leb (levelOf r) L && isHeld (holdingOn s page r .pin)) 32 r e k)))
 
 module _ (L : ℕ) (s t : State) (two : L ≤ 2) (y : Sound s) (z : Sound t) (alike : Alike L s t) (level number : ℕ) (low : level ≤ L) where
-  same-requested : (page mode : ℕ) → Same L (requested s level number page mode) (requested t level number page mode)
+  same-requested : BordersSound s → (s .begun ≡ true → s .borders ≡ t .borders) → (page mode : ℕ) → Same L (requested s level number page mode) (requested t level number page mode)
   unfolding requested
-  same-requested page mode =
+  same-requested o agree page mode =
       same-unless L s t (requestRefusal s level number page mode) (requestRefusal t level number page mode)
       (served s (rowOf level number) page (modeOf mode)) (served t (rowOf level number) page (modeOf mode))
-      alike (same-request-refusal L s t alike two level number low page mode)
+      alike (same-request-refusal L s t alike two level number low o agree page mode)
       (λ e.
       let n = request-taken s level number page mode e .names in
       same-request L s t (rowOf level number) page (modeOf mode) two (n .row-is) (omega (arith, n .own-level)) y z alike)
@@ -73,16 +73,17 @@ module _ (L : ℕ) (s t : State) (two : L ≤ 2) (y : Sound s) (z : Sound t) (al
       let n = retry-taken s level number e in
       rw (← own-condition L s t alike two level number low (n .number-is)) (again n (rowAt s (rowOf level number) .condition)))
 
-pub same-step : (L : ℕ) (s t : State) (c : Call) → L ≤ 2 → sound s ≡ true → sound t ≡ true → Alike L s t → isKept L c ≡ true
+pub same-step : (L : ℕ) (s t : State) (c : Call) → L ≤ 2 → sound s ≡ true → sound t ≡ true → Alike L s t → (s .begun ≡ true → s .borders ≡ t .borders) → isKept L c ≡ true
     → Same L (outcome s c) (outcome t c)
 unfolding outcome isKept
-same-step L s t (Start slots delay) two y z a k = true-false (sym k)
-same-step L s t (Begin level number deadline) two y z a k = same-begun L s t (facts s y) (facts t z) a two level (leb-true level L k) number deadline
-same-step L s t (Request level number page mode) two y z a k = same-requested L s t two (facts s y) (facts t z) a level number (leb-true level L k) page mode
-same-step L s t (Retry level number) two y z a k = same-retried L s t two (facts s y) (facts t z) a level number (leb-true level L k)
-same-step L s t (Unpin level number page) two y z a k = same-unpinned L s t two (facts s y) (facts t z) a level number page (leb-true level L k)
-same-step L s t (End level number) two y z a k = same-ended L s t (facts s y) (facts t z) a two level (leb-true level L k) number
-same-step L s t Tick two y z a k = same-ticked L s t (facts s y) (facts t z) a
-same-step L s t (Look level number) two y z a k = same-looked L s t (facts s y) (facts t z) a two level (leb-true level L k) number
-same-step L s t (View level page) two y z a k = same-viewed L s t (facts s y) (facts t z) a two level (leb-true level L k) page
-same-step L s t (Count level) two y z a k = same-counted L s t (facts s y) (facts t z) a two level (leb-true level L k) (same-open-count L s t (facts s y) (facts t z) a level (leb-true level L k))
+same-step L s t (Start slots delay) two y z a g k = true-false (sym k)
+same-step L s t (Begin level number deadline) two y z a g k = same-begun L s t (facts s y) (facts t z) a two level (leb-true level L k) number deadline
+same-step L s t (Request level number page mode) two y z a g k = same-requested L s t two (facts s y) (facts t z) a level number (leb-true level L k) (borders-facts s y) g page mode
+same-step L s t (Retry level number) two y z a g k = same-retried L s t two (facts s y) (facts t z) a level number (leb-true level L k)
+same-step L s t (Unpin level number page) two y z a g k = same-unpinned L s t two (facts s y) (facts t z) a level number page (leb-true level L k)
+same-step L s t (End level number) two y z a g k = same-ended L s t (facts s y) (facts t z) a two level (leb-true level L k) number
+same-step L s t Tick two y z a g k = same-ticked L s t (facts s y) (facts t z) a
+same-step L s t (Look level number) two y z a g k = same-looked L s t (facts s y) (facts t z) a two level (leb-true level L k) number
+same-step L s t (View level page) two y z a g k = same-viewed L s t (facts s y) (facts t z) a two level (leb-true level L k) page
+same-step L s t (Count level) two y z a g k = same-counted L s t (facts s y) (facts t z) a two level (leb-true level L k) (same-open-count L s t (facts s y) (facts t z) a level (leb-true level L k))
+same-step L s t (Borders first second third) two y z a g k = true-false (sym k)

@@ -105,17 +105,17 @@ pub record StillHeld (h k : Holding) : Type 0 where
   pub held : isHeld (h .pin) ≡ true
   pub arrival : k .arrival ≡ h .arrival
   pub touch : k .touch ≡ h .touch
-  pub allowed : (level page : ℕ) → pinAllowed level page (h .pin) ≡ true → pinAllowed level page (k .pin) ≡ true
+  pub allowed : (level class : ℕ) → pinAllowed level class (h .pin) ≡ true → pinAllowed level class (k .pin) ≡ true
 
 pub still-held : (h k : Holding) → HoldingStays h k → isHeld (k .pin) ≡ true → StillHeld h k
 still-held h k (same e) w = record {
   held = rw e at w;
   arrival = rw e;
   touch = rw e;
-  allowed = λ level page a. rw e a;
+  allowed = λ level class a. rw e a;
 }
 still-held h k (gone e) w = true-false (sym (rw e at w))
-still-held h k (loose v e) w = record { held = v; arrival = rw e; touch = rw e; allowed = λ level page a. rw e }
+still-held h k (loose v e) w = record { held = v; arrival = rw e; touch = rw e; allowed = λ level class a. rw e }
 
 pub not-held : (h k : Holding) → HoldingStays h k → (isHeld (h .pin) ≡ false → h ≡ emptyHolding) → isHeld (k .pin) ≡ false → k ≡ emptyHolding
 not-held h k (same e) f w = e ∙ f (rw e at w)

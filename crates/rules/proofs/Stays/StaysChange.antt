@@ -5,7 +5,7 @@ use Prim.Native.Nat.{ℕ, _<_, _≤_}
 use native.Mathlib.Omega.{arith}
 use Rattle.seq.proofs.Tests.{true-false}
 use Rattle.model.specs.declared.State.{State}
-use Rattle.model.specs.Parties.{levelOf, lastClock}
+use Rattle.model.specs.Parties.{levelOf, classOf, lastClock}
 use Rattle.model.specs.State.{emptyHolding, rowAt, slotAt, holdingAt}
 use Rattle.model.specs.Words.{isLive, isFilled, pageIn, holds, conflict}
 use Rattle.model.proofs.StateLaws.{Sized}
@@ -25,12 +25,14 @@ pub data HoldingChange (s t : State) (i r : ℕ) : Type 0 where
   new-holding : holds t i r ≡ true → Held t i r
       → ((q : ℕ) → q < 32 → (r ≡ q → ⊥) → conflict (holdingAt t i r .pin) (holdingAt t i q .pin) ≡ false) → HoldingChange s t i r
 
+-- the borders stay while a row is live
 pub record Change (s t : State) : Type 0 where
   pub sized : Sized t
   pub size : t .size ≡ s .size
   pub delay : t .delay ≡ s .delay
   pub clock : s .clock ≤ t .clock
   pub clock-most : t .clock ≤ lastClock
+  pub borders : (r : ℕ) → r < 32 → isLive (rowAt s r .condition) ≡ true → t .borders ≡ s .borders
   pub slot : (i : ℕ) → i < 64 → SlotChange s t i
   pub holding : (i r : ℕ) → i < 64 → r < 32 → HoldingChange s t i r
   pub live : (i r : ℕ) → i < 64 → r < 32 → holds t i r ≡ true → isLive (rowAt t r .condition) ≡ true
@@ -64,7 +66,7 @@ module _ (s t : State) (b : Base s) (c : Change s t) where
       record {
         live = c .live i r h g w;
         filled = k .filled ∙ x .filled;
-        allowed = rw (k .page) (m .allowed (levelOf r) (pageIn (slotAt s i .content)) (x .allowed));
+        allowed = rw (k .page, c .borders r g (x .live)) (m .allowed (levelOf r) (classOf (s .borders) (pageIn (slotAt s i .content))) (x .allowed));
         after = omega (arith, k .arrival, m .arrival, x .after);
         arrival = omega (arith, m .arrival, x .arrival, c .clock, c .delay);
         touch = omega (arith, m .touch, x .touch, k .later);

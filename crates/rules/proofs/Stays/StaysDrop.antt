@@ -12,7 +12,7 @@ use Rattle.model.specs.State.{freeRow, emptyHolding, rowAt, slotAt, holdingAt, 
 use Rattle.model.specs.Words.{isLive, holds}
 use Rattle.model.specs.Changes.{dirtied, released, killed, killedRow, wroteSlot}
 use Rattle.model.proofs.StateLaws.{Sized, row-put, sized-put-row}
-use Rattle.model.proofs.ChangeLaws.{released-holding, released-slot, sized-released, killed-row, killed-slot, killed-holding, sized-killed, killed-clock, killed-delay, killed-size}
+use Rattle.model.proofs.ChangeLaws.{released-holding, released-slot, sized-released, killed-row, killed-slot, killed-holding, sized-killed, killed-clock, killed-delay, killed-size, killed-borders}
 use Rattle.rules.proofs.Facts.SoundFacts.{RowSound, Sound}
 use Rattle.rules.proofs.Stays.StaysBase.{Base, base, whole, SlotStays, slot-marked, marked-touch, HoldingStays, same, gone}
 use Rattle.rules.proofs.Stays.StaysChange.{old-slot, old-holding, base-change}
@@ -24,6 +24,7 @@ pub record Dropped (some : ℕ → Bool) (s t : State) : Type 0 where
   pub size : t .size ≡ s .size
   pub delay : t .delay ≡ s .delay
   pub clock : t .clock ≡ s .clock
+  pub borders : t .borders ≡ s .borders
   pub slot : (i : ℕ) → i < 64 → SlotStays (slotAt s i) (slotAt t i)
   pub touch : (i : ℕ) → i < 64 → slotAt t i .touch ≡ slotAt s i .touch
   pub gone-row : (r : ℕ) → r < 32 → some r ≡ true → RowSound t r (rowAt t r .condition) (rowAt t r .deadline)
@@ -41,6 +42,7 @@ dropped-sound some s t b rows d =
       delay = d .delay;
       clock = omega (arith, d .clock);
       clock-most = omega (arith, d .clock, b .clock-most);
+      borders = λ _ _ _. d .borders;
       slot = λ i h. old-slot (d .slot i h) (omega (arith, d .touch i h, d .clock, b .slot i h .touch));
       holding = λ i r h g. old-holding (holding i r h g (some r) refl);
       live = λ i r h g w. live i r h g w (some r) refl;
@@ -58,18 +60,19 @@ dropped-sound some s t b rows d =
     row r g true e = d .gone-row r g e
     row r g false e =
         row-stays s t r (λ i h. same (d .old-holding i r h g e)) (λ i h _. d .old-holding i r h g e)
-        (d .clock) (d .old-row r g e) (rows r g e)
+        (d .clock) (λ _. d .borders) (d .old-row r g e) (rows r g e)
 
 -- the slots and holdings as a release leaves them, and one row put in place of each of the set
-released-dropped : (some : ℕ → Bool) (s t : State) (x : Row) → Sized t → t .size ≡ s .size → t .delay ≡ s .delay → t .clock ≡ s .clock
+released-dropped : (some : ℕ → Bool) (s t : State) (x : Row) → Sized t → t .size ≡ s .size → t .delay ≡ s .delay → t .clock ≡ s .clock → t .borders ≡ s .borders
     → ((i : ℕ) → i < 64 → slotAt t i ≡ cond (wroteSlot some s i) (dirtied (slotAt s i)) (slotAt s i))
     → ((i r : ℕ) → r < 32 → holdingAt t i r ≡ cond (some r) emptyHolding (holdingAt s i r))
     → ((r : ℕ) → r < 32 → rowAt t r ≡ cond (some r) x (rowAt s r)) → ((r : ℕ) → RowSound t r (x .condition) (x .deadline)) → Dropped some s t
-released-dropped some s t x z size delay clock slots holdings rows own = record {
+released-dropped some s t x z size delay clock borders slots holdings rows own = record {
   sized = z;
   size = size;
   delay = delay;
   clock = clock;
+  borders = borders;
   slot = λ i h. slot-marked (wroteSlot some s i) (slotAt s i) (slotAt t i) (slots i h);
   touch = λ i h. marked-touch (wroteSlot some s i) (slotAt s i) (slotAt t i) (slots i h);
   gone-row = λ r g e. rw (rows r g, e) (own r);
@@ -83,7 +86,7 @@ pub killed-rest : (some : ℕ → Bool) (cause : Cause) (s : State) → Base s �
     → Sound (killed some cause s)
 killed-rest some cause s b rows =
     dropped-sound some s (killed some cause s) b rows
-    (released-dropped some s (killed some cause s) (killedRow cause) (sized-killed some s (b .sized) cause) (killed-size some cause s) (killed-delay some cause s) (killed-clock some cause s)
+    (released-dropped some s (killed some cause s) (killedRow cause) (sized-killed some s (b .sized) cause) (killed-size some cause s) (killed-delay some cause s) (killed-clock some cause s) (killed-borders some cause s)
     (killed-slot some s (b .sized) cause) (killed-holding some s (b .sized) cause) (killed-row some s (b .sized) cause) (λ r. refl))
 
 pub killed-sound : (some : ℕ → Bool) (cause : Cause) (s : State) → Sound s → Sound (killed some cause s)
@@ -96,6 +99,6 @@ ended-sound s row b h =
     let u : State = released (eqb row) s in
     let uz : Sized u = sized-released (eqb row) s (h .sized) in
     dropped-sound (eqb row) s (putRow u row freeRow) (base s h) (λ r g _. h .row r g)
-    (released-dropped (eqb row) s (putRow u row freeRow) freeRow (sized-put-row u uz row freeRow) refl refl refl
+    (released-dropped (eqb row) s (putRow u row freeRow) freeRow (sized-put-row u uz row freeRow) refl refl refl refl
     (released-slot (eqb row) s (h .sized)) (released-holding (eqb row) s (h .sized))
     (λ r g. row-put u uz row freeRow r b ∙ ap (λ (x : Bool). cond x freeRow (rowAt s r)) (eqb-sym r row)) (λ r. refl))

@@ -79,6 +79,7 @@ module _ (s : State) (slot page level : ℕ) (h : Sound s) (b : slot < s .size) 
           delay = refl;
           clock = omega arith;
           clock-most = h .clock-most;
+          borders = λ _ _ _. refl;
           slot = slots;
           holding = λ i r _ g. old-holding (holdings i r g);
           live = λ i r f g w. elim (ℕ-discrete i slot) [
@@ -91,4 +92,4 @@ module _ (s : State) (slot page level : ℕ) (h : Sound s) (b : slot < s .size) 
           | yes e ↦ true-false (sym w ∙ ap (λ (j : ℕ). pins s j r) e ∙ loose r g)
           | no e ↦ other-holding i r g e
         ])
-        refl refl (h .row r g))
+        refl (λ _. refl) refl (h .row r g))

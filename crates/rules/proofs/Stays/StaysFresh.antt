@@ -4,12 +4,14 @@ use mathlib.Core.Bool.{true}
 use Prim.Native.Nat.{ℕ, _≤_}
 use native.Mathlib.Omega.{arith}
 use Rattle.seq.proofs.Tests.{true-false}
+use Rattle.model.specs.declared.Row.{Row}
 use Rattle.model.specs.declared.Slot.{Slot}
+use Rattle.model.specs.Parties.{areBorders}
 use Rattle.model.specs.State.{fresh, slotAt}
 use Rattle.model.specs.Words.{isFilled, conflict}
 use Rattle.model.proofs.StateLaws.{fresh-row, fresh-slot, fresh-holding, fresh-sized}
 use Rattle.rules.specs.Sound.{sound}
-use Rattle.rules.proofs.Facts.SoundFacts.{Sound}
+use Rattle.rules.proofs.Facts.SoundFacts.{Sound, BordersSound}
 use Rattle.rules.proofs.Facts.SoundBack.{back}
 
 module _ (slots delay : ℕ) where
@@ -40,5 +42,13 @@ module _ (slots delay : ℕ) where
     no-conflict = λ i r q _ _ _ _. rw (fresh-holding slots delay i r) refl;
   }
 
+  pub fresh-borders : BordersSound (fresh slots delay)
+  unfolding fresh areBorders
+  fresh-borders = record {
+    valid = refl;
+    free = λ _ r _. ap (λ (x : Row). x .condition) (fresh-row slots delay r);
+    empty = λ _ i _. ap (λ (x : Slot). isFilled (x .content)) (fresh-slot slots delay i);
+  }
+
   pub fresh-sound : 1 ≤ slots → slots ≤ 64 → 1 ≤ delay → delay ≤ 255 → sound (fresh slots delay) ≡ true
-  fresh-sound a b c d = back (fresh slots delay) (fresh-facts a b c d)
+  fresh-sound a b c d = back (fresh slots delay) (fresh-facts a b c d) fresh-borders

@@ -109,6 +109,7 @@ module _ (s : State) (row slot : ℕ) (mode : Mode) (arrival : ℕ) (h : Sound s
     delay = refl;
     clock = omega arith;
     clock-most = h .clock-most;
+    borders = λ _ _ _. refl;
     slot = λ i b. old-slot (slots i) (touches i b);
     holding = holdings;
     live = held-live;
@@ -158,7 +159,7 @@ module _ (s : State) (row slot : ℕ) (mode : Mode) (arrival : ℕ) (h : Sound s
   granted-sound back =
       put-row-sound t row (grantedRow s row arrival) (g .asking .row-is) held-base
       (live (leb arrival (s .clock))) own-row
-      (λ r b m. row-stays s t r (λ i _. same (at-other-row i r b m)) (λ i _ _. at-other-row i r b m) refl refl (h .row r b))
+      (λ r b m. row-stays s t r (λ i _. same (at-other-row i r b m)) (λ i _ _. at-other-row i r b m) refl (λ _. refl) refl (h .row r b))
     where
       live : (b : Bool) → isLive (cond b Idle (Fetching arrival)) ≡ true
       live true = refl

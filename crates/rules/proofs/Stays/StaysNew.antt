@@ -10,7 +10,7 @@ use Rattle.model.specs.declared.Content.{Content}
 use Rattle.model.specs.declared.Content.the-variants.{Empty, Filled}
 use Rattle.model.specs.declared.Holding.{Holding}
 use Rattle.model.specs.declared.State.{State}
-use Rattle.model.specs.Parties.{levelOf, mayAccess}
+use Rattle.model.specs.Parties.{levelOf, classOf, allowed, mayAccess}
 use Rattle.model.specs.State.{rowAt, slotAt, holdingAt}
 use Rattle.model.specs.Words.{isLive, isFilled, pageIn, arrivalIn, lowestIn, isHeld, isPin, pinOf, conflict, holds}
 use Rattle.model.proofs.PinLaws.{mode-held, mode-pin, stronger-is}
@@ -30,15 +30,15 @@ pub record Grantable (s : State) (row slot : ℕ) (mode : Mode) (arrival : ℕ) 
   pub asking : Asking s row
   pub slot-is : slot < 64
   pub filled : isFilled (slotAt s slot .content) ≡ true
-  pub allowed : mayAccess (levelOf row) (pageIn (slotAt s slot .content)) mode ≡ true
+  pub allowed : mayAccess (s .borders) (levelOf row) (pageIn (slotAt s slot .content)) mode ≡ true
   pub least : arrivalIn (slotAt s slot .content) ≤ arrival
   pub most : arrival ≤ s .clock + s .delay
   pub own : holds s slot row ≡ true → arrival ≤ s .clock
   pub alone : (q : ℕ) → q < 32 → (row ≡ q → ⊥) → conflict (pinOf mode) (holdingAt s slot q .pin) ≡ false
 
-mode-allowed : (level page : ℕ) (mode : Mode) → mayAccess level page mode ≡ true → pinAllowed level page (pinOf mode) ≡ true
-mode-allowed level page Mode.Read e = e
-mode-allowed level page Mode.Write e = e
+mode-allowed : (level class : ℕ) (mode : Mode) → allowed level class mode ≡ true → pinAllowed level class (pinOf mode) ≡ true
+mode-allowed level class Mode.Read e = e
+mode-allowed level class Mode.Write e = e
 
 pub lowest-least : (level : ℕ) (c : Content) → isFilled c ≡ true → lowestIn (withLowest level c) ≤ level
 lowest-least level Empty e = true-false (sym e)
@@ -47,7 +47,7 @@ lowest-least level (Filled p a d l) e = omega arith
 -- what the new holding is, whether or not the row had one
 pub record New (s : State) (row slot arrival : ℕ) (k : Holding) : Type 0 where
   pub held : isHeld (k .pin) ≡ true
-  pub allowed : pinAllowed (levelOf row) (pageIn (slotAt s slot .content)) (k .pin) ≡ true
+  pub allowed : pinAllowed (levelOf row) (classOf (s .borders) (pageIn (slotAt s slot .content))) (k .pin) ≡ true
   pub least : arrivalIn (slotAt s slot .content) ≤ k .arrival
   pub most : k .arrival ≤ s .clock + s .delay
   pub touch : k .touch ≡ s .clock
@@ -62,7 +62,7 @@ module _ (s : State) (row slot : ℕ) (mode : Mode) (arrival : ℕ) (h : Sound s
       go : (b : Bool) → holds s slot row ≡ b → New s row slot arrival (heldWith b (holdingAt s slot row) (pinOf mode) arrival (s .clock))
       go false e = record {
         held = mode-held mode;
-        allowed = mode-allowed (levelOf row) (pageIn (slotAt s slot .content)) mode (g .allowed);
+        allowed = mode-allowed (levelOf row) (classOf (s .borders) (pageIn (slotAt s slot .content))) mode (g .allowed);
         least = g .least;
         most = g .most;
         touch = refl;
@@ -75,7 +75,7 @@ module _ (s : State) (row slot : ℕ) (mode : Mode) (arrival : ℕ) (h : Sound s
           let p = holdingAt s slot row .pin in
           record {
             held = stronger-is (λ x. isHeld x ≡ true) p (pinOf mode) e (mode-held mode);
-            allowed = stronger-is (λ x. pinAllowed (levelOf row) (pageIn (slotAt s slot .content)) x ≡ true) p (pinOf mode) (o .allowed) (mode-allowed (levelOf row) (pageIn (slotAt s slot .content)) mode (g .allowed));
+            allowed = stronger-is (λ x. pinAllowed (levelOf row) (classOf (s .borders) (pageIn (slotAt s slot .content))) x ≡ true) p (pinOf mode) (o .allowed) (mode-allowed (levelOf row) (classOf (s .borders) (pageIn (slotAt s slot .content))) mode (g .allowed));
             least = o .after;
             most = o .arrival;
             touch = refl;

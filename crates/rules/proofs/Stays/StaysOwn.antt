@@ -12,7 +12,7 @@ use Rattle.model.specs.declared.Slot.{Slot}
 use Rattle.model.specs.declared.Holding.{Holding}
 use Rattle.model.specs.declared.State.{State}
 use Rattle.model.specs.Parties.{levelOf, mayAccess, isPast}
-use Rattle.model.specs.State.{rowAt, slotAt, holdingAt, putRow, putSlot, putHolding}
+use Rattle.model.specs.State.{rowAt, slotAt, holdingAt, withBegun, putRow, putSlot, putHolding}
 use Rattle.model.specs.Words.{isLive, holds}
 use Rattle.model.specs.Changes.{written}
 use Rattle.model.proofs.StateLaws.{Sized, sized-put-row, sized-put-slot, sized-put-holding}
@@ -23,6 +23,7 @@ use Rattle.rules.proofs.Leaves.UnpinLaws.{unpinnedHolding, unpinnedSlot
 use Rattle.rules.proofs.Stays.StaysBase.{Base, base, whole, SlotStays, slot-stays, slot-marked, marked-touch, HoldingStays, same, loose}
 use Rattle.rules.proofs.Stays.StaysChange.{old-slot, old-holding, base-change}
 use Rattle.rules.proofs.Stays.StaysRows.{settled-stays, condition-stays, row-stays}
+use Rattle.rules.proofs.Stays.StaysSetting.{set-sound}
 
 -- another row put in place of one: it is live, and its condition is sound
 pub put-row-sound : (s : State) (row : ℕ) (x : Row) → row < 32 → Base s → isLive (x .condition) ≡ true → RowSound s row (x .condition) (x .deadline)
@@ -34,6 +35,7 @@ put-row-sound s row x b h live own others =
       delay = refl;
       clock = omega arith;
       clock-most = h .clock-most;
+      borders = λ _ _ _. refl;
       slot = λ i g. old-slot (slot-stays (slotAt s i) (slotAt s i) refl) (h .slot i g .touch);
       holding = λ i r g f. old-holding (same refl);
       live = λ i r g f w. elim (ℕ-discrete r row) [
@@ -42,23 +44,24 @@ put-row-sound s row x b h live own others =
       ];
     }))
     (λ r g. elim (ℕ-discrete r row) [
-      | yes e ↦ rw (e, row-same s (h .sized) row x b) (condition-stays s (putRow s row x) row (λ i _. same refl) (λ i _ _. refl) refl (x .condition) (x .deadline) own)
-      | no e ↦ row-stays s (putRow s row x) r (λ i _. same refl) (λ i _ _. refl) refl (row-other s (h .sized) row x r e) (others r g e)
+      | yes e ↦ rw (e, row-same s (h .sized) row x b) (condition-stays s (putRow s row x) row (λ i _. same refl) (λ i _ _. refl) refl (x .condition) (x .deadline) (λ _. refl) own)
+      | no e ↦ row-stays s (putRow s row x) r (λ i _. same refl) (λ i _ _. refl) refl (λ _. refl) (row-other s (h .sized) row x r e) (others r g e)
     ])
 
 -- begin: a free row has no holdings
 pub begun-sound : (s : State) (row deadline : ℕ) → row < 32 → Sound s → rowAt s row .condition ≡ Free → isPast (s .clock) deadline ≡ false
-    → Sound (putRow s row (record { condition = Idle; deadline = deadline }))
+    → Sound (putRow (withBegun s) row (record { condition = Idle; deadline = deadline }))
 begun-sound s row deadline b h free e =
-    put-row-sound s row (record { condition = Idle; deadline = deadline }) b (base s h) refl
+    let m = set-sound s (s .borders) true h (λ _ _ _. refl) in
+    put-row-sound (withBegun s) row (record { condition = Idle; deadline = deadline }) b (base (withBegun s) m) refl
     (record {
       deadline = false-not (isPast (s .clock) deadline) e;
       arrived = λ i g w. true-false (sym (rw free at (h .held i row g b w .live)));
     })
-    (λ r g _. h .row r g)
+    (λ r g _. m .row r g)
 
 -- a wait
-pub waiting-sound : (s : State) (row page : ℕ) (mode : Mode) → row < 32 → Sound s → Settled s row (rowAt s row .deadline) → page ≤ 4095 → mayAccess (levelOf row) page mode ≡ true
+pub waiting-sound : (s : State) (row page : ℕ) (mode : Mode) → row < 32 → Sound s → Settled s row (rowAt s row .deadline) → page ≤ 4095 → mayAccess (s .borders) (levelOf row) page mode ≡ true
     → Sound (waiting s row page mode .state)
 unfolding waiting
 waiting-sound s row page mode b h own p m =
@@ -74,6 +77,7 @@ unpinned-sound s row slot b c h idle own =
       delay = refl;
       clock = omega arith;
       clock-most = h .clock-most;
+      borders = λ _ _ _. refl;
       slot = λ i g. old-slot (slots i g) (rw (touches i) (h .slot i g .touch));
       holding = λ i r g f. old-holding (holdings i r g f);
       live = λ i r g f w. elim (ℕ-discrete r row) [
@@ -83,7 +87,7 @@ unpinned-sound s row slot b c h idle own =
     }))
     (λ r g. elim (ℕ-discrete r row) [
       | yes e ↦ rw (e, idle) (settled-stays s t row (λ i f. holdings i row f b) (rowAt s row .deadline) (rowAt s row .deadline) (omega arith) (own-row .deadline) own-row)
-      | no e ↦ row-stays s t r (λ i f. holdings i r f g) (λ i f _. holding-other-row u uz slot row k i r b g e) refl refl (h .row r g)
+      | no e ↦ row-stays s t r (λ i f. holdings i r f g) (λ i f _. holding-other-row u uz slot row k i r b g e) refl (λ _. refl) refl (h .row r g)
     ])
   where
     y : Slot

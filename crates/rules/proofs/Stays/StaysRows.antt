@@ -10,7 +10,7 @@ use Rattle.model.specs.declared.Condition.the-variants.{Free, Idle, Fetching, W
 use Rattle.model.specs.declared.Holding.{Holding}
 use Rattle.model.specs.declared.State.{State}
 use Rattle.model.specs.State.{rowAt, holdingAt}
-use Rattle.model.specs.Words.{isPin, pins}
+use Rattle.model.specs.Words.{isLive, isPin, pins}
 use Rattle.rules.specs.Sound.{awaits, inTime}
 use Rattle.rules.proofs.Facts.SoundFacts.{Settled, Awaiting, RowSound}
 use Rattle.rules.proofs.Stays.StaysBase.{HoldingStays, same, gone, loose, still-held}
@@ -50,12 +50,12 @@ module _ (s t : State) (r : ℕ) (old : (i : ℕ) → i < 64 → HoldingStays (h
           omega (arith, k .arrival, h .others i a (k .held) (awaits-stays due i a ∙ v));
     }
 
-    pub condition-stays : t .clock ≡ s .clock → (x : Condition) (d : ℕ) → RowSound s r x d → RowSound t r x d
-    condition-stays c Free d h = h
-    condition-stays c (Killed cause) d h = h
-    condition-stays c Idle d h = settled-stays d d (omega arith) (rw c (h .deadline)) h
-    condition-stays c (Fetching due) d h = awaiting-stays due d (omega arith) (rw c (h .deadline)) (omega (arith, h .due)) h
-    condition-stays c (Waiting page mode) d h = (settled-stays d d (omega arith) (rw c (h .0 .deadline)) (h .0), h .1, h .2)
+    pub condition-stays : t .clock ≡ s .clock → (x : Condition) (d : ℕ) → (isLive x ≡ true → t .borders ≡ s .borders) → RowSound s r x d → RowSound t r x d
+    condition-stays c Free d b h = h
+    condition-stays c (Killed cause) d b h = h
+    condition-stays c Idle d b h = settled-stays d d (omega arith) (rw c (h .deadline)) h
+    condition-stays c (Fetching due) d b h = awaiting-stays due d (omega arith) (rw c (h .deadline)) (omega (arith, h .due)) h
+    condition-stays c (Waiting page mode) d b h = (settled-stays d d (omega arith) (rw c (h .0 .deadline)) (h .0), h .1, rw (b refl) (h .2))
 
-    pub row-stays : t .clock ≡ s .clock → rowAt t r ≡ rowAt s r → RowSound s r (rowAt s r .condition) (rowAt s r .deadline) → RowSound t r (rowAt t r .condition) (rowAt t r .deadline)
-    row-stays c e h = rw e (condition-stays c (rowAt s r .condition) (rowAt s r .deadline) h)
+    pub row-stays : t .clock ≡ s .clock → (isLive (rowAt s r .condition) ≡ true → t .borders ≡ s .borders) → rowAt t r ≡ rowAt s r → RowSound s r (rowAt s r .condition) (rowAt s r .deadline) → RowSound t r (rowAt t r .condition) (rowAt t r .deadline)
+    row-stays c b e h = rw e (condition-stays c (rowAt s r .condition) (rowAt s r .deadline) b h)

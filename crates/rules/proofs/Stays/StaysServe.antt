@@ -35,7 +35,7 @@ use Rattle.rules.proofs.Stays.StaysFill.{asking-filled, filled-sound}
 use Rattle.rules.proofs.Stays.StaysChoice.{chosen-free}
 use Rattle.rules.proofs.Stays.StaysTaken.{asking-killed, killed-granted}
 
-module _ (s : State) (row page : ℕ) (mode : Mode) (h : Sound s) (a : Asking s row) (p : page ≤ 4095) (m : mayAccess (levelOf row) page mode ≡ true) where
+module _ (s : State) (row page : ℕ) (mode : Mode) (h : Sound s) (a : Asking s row) (p : page ≤ 4095) (m : mayAccess (s .borders) (levelOf row) page mode ≡ true) where
   wait-sound : Sound (waiting s row page mode .state)
   wait-sound = waiting-sound s row page mode (a .row-is) h (a .settled) p m
 

@@ -11,18 +11,20 @@ use Rattle.model.specs.State.{holdingAt}
 use Rattle.model.proofs.PinLaws.{pin-held}
 use Rattle.rules.specs.Run.{outcome, after}
 use Rattle.rules.specs.Sound.{sound}
-use Rattle.rules.proofs.Facts.SoundFacts.{Sound, facts}
+use Rattle.rules.proofs.Facts.SoundFacts.{Sound, BordersSound, facts, borders-facts}
 use Rattle.rules.proofs.Facts.SoundBack.{back}
 use Rattle.rules.proofs.Leaves.PageLaws.{found-below}
-use Rattle.rules.proofs.Leaves.CallEffects.{Effect, unchanged, starts, begins, unpins, ends, ticks, serves, effect}
+use Rattle.rules.proofs.Leaves.CallEffects.{Effect, unchanged, starts, begins, unpins, ends, ticks, sets, serves, effect}
 use Rattle.rules.proofs.Stays.StaysFresh.{fresh-facts}
+use Rattle.rules.proofs.Stays.StaysSetting.{bordered-sound}
+use Rattle.rules.proofs.Stays.StaysBorders.{stays-borders}
 use Rattle.rules.proofs.Stays.StaysDrop.{ended-sound}
 use Rattle.rules.proofs.Stays.StaysOwn.{begun-sound, unpinned-sound}
 use Rattle.rules.proofs.Stays.StaysTick.{ticked-sound}
 use Rattle.rules.proofs.Stays.StaysServe.{served-sound}
 
-pub stays-facts : (s : State) (c : Call) → Sound s → Sound (outcome s c .state)
-stays-facts s c h = go (outcome s c) (effect s c)
+pub stays-facts : (s : State) (c : Call) → Sound s → BordersSound s → Sound (outcome s c .state)
+stays-facts s c h y = go (outcome s c) (effect s c)
   where
     go : (o : Outcome) → Effect s c o → Sound (o .state)
     go o (unchanged a q e) = rw e h
@@ -33,6 +35,7 @@ stays-facts s c h = go (outcome s c) (effect s c)
         rw e (unpinned-sound s row slot (t .names .row-is) (found-below s h page slot f) h (t .idle) (pin-held (holdingAt s slot row .pin) p))
     go o (ends level number q n e) = rw e (ended-sound s (rowOf level number) (n .row-is) h)
     go o (ticks q k e) = rw e (ticked-sound s h k)
+    go o (sets b q t e) = rw e (bordered-sound s b h y (t .unbegun))
     go o (serves row page mode b a (inl i) e) =
         rw e (served-sound s row page mode h (record { row-is = b; live = rw (i .0); settled = rw (i .0) at (h .row row b) }) (i .1) (i .2))
     go o (serves row page mode b a (inr i) e) =
@@ -40,7 +43,10 @@ stays-facts s c h = go (outcome s c) (effect s c)
         rw e (served-sound s row page mode h (record { row-is = b; live = rw i; settled = w .0 }) (w .1) (w .2))
 
 pub stays-sound : (s : State) (c : Call) → sound s ≡ true → sound (outcome s c .state) ≡ true
-stays-sound s c e = back (outcome s c .state) (stays-facts s c (facts s e))
+stays-sound s c e =
+    let h = facts s e in
+    let o = borders-facts s e in
+    back (outcome s c .state) (stays-facts s c h o) (stays-borders s c h o)
 
 pub run-sound : (s : State) (cs : List Call) → sound s ≡ true → sound (after s cs) ≡ true
 unfolding after

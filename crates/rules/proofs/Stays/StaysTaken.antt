@@ -13,7 +13,7 @@ use Rattle.model.specs.Parties.{levelOf, mayAccess}
 use Rattle.model.specs.State.{emptyHolding, rowAt, slotAt, holdingAt}
 use Rattle.model.specs.Words.{isFilled, pageIn, arrivalIn, pinOf, conflict, holds}
 use Rattle.model.specs.Changes.{killed, wroteSlot}
-use Rattle.model.proofs.ChangeLaws.{killed-row, killed-slot, killed-holding, killed-clock, killed-delay}
+use Rattle.model.proofs.ChangeLaws.{killed-row, killed-slot, killed-holding, killed-clock, killed-delay, killed-borders}
 use Rattle.model.proofs.PinLaws.{no-pin}
 use Rattle.rules.specs.Calls.{granted, conflicts}
 use Rattle.rules.proofs.Facts.SoundFacts.{Sound}
@@ -46,7 +46,7 @@ module _ (s : State) (row : ℕ) (mode : Mode) (h : Sound s) (a : Asking s row) 
       go false e = rw e (rw (ne-eqb q row (λ w. m (sym w))) at e)
 
   -- the conflicting rows killed, and the page granted
-  pub killed-granted : (slot arrival : ℕ) → slot < 64 → isFilled (slotAt s slot .content) ≡ true → mayAccess (levelOf row) (pageIn (slotAt s slot .content)) mode ≡ true
+  pub killed-granted : (slot arrival : ℕ) → slot < 64 → isFilled (slotAt s slot .content) ≡ true → mayAccess (s .borders) (levelOf row) (pageIn (slotAt s slot .content)) mode ≡ true
       → arrivalIn (slotAt s slot .content) ≤ arrival → arrival ≤ s .clock + s .delay → (holds s slot row ≡ true → arrival ≤ s .clock)
       → Sound (granted (killed (conflicts s row slot mode) Taken s) row slot mode arrival Nothing .state)
   killed-granted slot arrival b f m l n o =
@@ -58,7 +58,7 @@ module _ (s : State) (row : ℕ) (mode : Mode) (h : Sound s) (a : Asking s row) 
         asking = asking-killed some Taken s row h (own-spared s row slot mode) a;
         slot-is = b;
         filled = k .filled ∙ f;
-        allowed = rw (k .page) m;
+        allowed = rw (k .page, killed-borders some Taken s) m;
         least = rw (k .arrival) l;
         most = omega (arith, killed-clock some Taken s, killed-delay some Taken s);
         own = λ w. omega (arith, killed-clock some Taken s, o (rw own at w));

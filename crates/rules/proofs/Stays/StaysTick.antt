@@ -31,6 +31,7 @@ module _ (s : State) (h : Sound s) where
     delay = refl;
     clock = omega arith;
     clock-most = omega arith;
+    borders = λ _ _ _. refl;
     slot = λ i g. old-slot (slot-stays (slotAt s i) (slotAt s i) refl) (omega (arith, h .slot i g .touch));
     holding = λ i r _ _. old-holding (same refl);
     live = λ i r g f w. rw (later-row s (h .sized) r f, delivered-live (s .clock + 1) (rowAt s r .condition)) (h .held i r g f w .live);

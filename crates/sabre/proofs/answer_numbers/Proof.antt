@@ -189,6 +189,13 @@ returns-20 : tie.Need-returns-20
 unfolding answerNumbers word value slotTold backTold
 returns-20 c = simp (c .before .x11 .given .1)
 
+enum-told-10 : tie.Need-enum-told-10
+enum-told-10 c = search needs
+
+returns-21 : tie.Need-returns-21
+unfolding answerNumbers word value slotTold backTold
+returns-21 c = simp (c .enum-told10 .given .1)
+
 pub answer-numbers-spec : {M : Type 1} → statement M
 answer-numbers-spec =
     tie.close
@@ -226,6 +233,7 @@ answer-numbers-spec =
     enum-known-x-10
     cast-t31
     enum-known-x-11
+    enum-told-10
     returns
     returns-2
     returns-3
@@ -245,4 +253,5 @@ answer-numbers-spec =
     returns-17
     returns-18
     returns-19
-    returns-20)
+    returns-20
+    returns-21)

@@ -6,7 +6,7 @@ use Rattle.serve.proofs.see_dormant.Statement.{statement}
 use Rattle.serve.proofs.see_dormant.Tie as tie
 use Rattle.serve.proofs.see_dormant.Reads as reads
 use Rattle.serve.proofs.see_dormant.Lts as lts
-use Rattle.choice.proofs.is_filled.Reads as is-filled-reads
+use Rattle.model.proofs.is_filled.Reads as is-filled-reads
 use Rattle.serve.proofs.see.Reads as see-reads
 
 see-requires : tie.Need-see-requires

@@ -12,6 +12,7 @@ use Rattle.model.specs.declared.Slot.{Slot}
 use Rattle.model.specs.declared.Holding.{Holding}
 use Rattle.model.specs.declared.Back.{Back}
 use Rattle.model.specs.declared.Answer.the-variants.{Wait}
+use Rattle.model.specs.declared.Setting.the-variants.{Left}
 use Rattle.model.specs.declared.Change.{Change}
 use Rattle.model.specs.declared.Reply.{Reply}
 use Rattle.model.specs.Parties.{levelOf}
@@ -30,7 +31,7 @@ unfoldable pub waitReply : ℕ → List Row → List Slot → ℕ → ℕ → Mo
 waitReply clock rows slots row page mode = record {
   change =
       holdingsDropped clock (set rows row (record { condition = Waiting page mode; deadline = getD rows row freeRow .deadline })) slots
-      (replicate 32 false);
+      (replicate 32 false) Left;
   answer = Wait;
 }
 
@@ -52,6 +53,7 @@ rowsTaken c = record {
   gone = c .gone;
   slot = c .slot;
   held = each (λ row h. cond (marked (c .gone) row) emptyHolding h) (c .held);
+  setting = c .setting;
 }
 
 -- the holders of the slot lose it, and it is given to the page
@@ -63,6 +65,7 @@ slotFilled c page due level = record {
   gone = c .gone;
   slot = c .slot;
   held = replicate 32 emptyHolding;
+  setting = c .setting;
 }
 
 -- step 4
@@ -75,6 +78,7 @@ granting c row mode arrival back = record {
     gone = c .gone;
     slot = c .slot;
     held = set (c .held) row (heldNow (getD (c .held) row emptyHolding) mode arrival (c .clock));
+    setting = c .setting;
   };
   answer = grantedAnswer (c .slot) arrival (c .clock) back;
 }

@@ -7,10 +7,9 @@ use borrow.Author.Needs.{needs}
 use Rattle.seq.specs.Below.{allBelow, countBelow}
 use Rattle.seq.proofs.Tests.{either-both}
 use Rattle.seq.proofs.BelowLaws.{count-at-most, all-turn, count-turn}
-use Rattle.model.specs.Parties.{levelOf}
-use Rattle.model.specs.State.{rowAt, slotAt, holdingAt}
+use Rattle.model.specs.State.{holdingAt}
 use Rattle.rules.specs.Sound.{arrived, awaits, soundRow, soundHolding, soundPins}
-use Rattle.sound.specs.Inner.Tests.{holdingTest, weightBelow}
+use Rattle.sound.specs.Inner.Tests.{weightBelow}
 use Rattle.sound.proofs.ElementLaws.{arrived-test, awaits-test, row-again, holding-test}
 use Rattle.sound.proofs.PinLaws.{weight-turn, weight-at-most, pins-end}
 use Rattle.sound.proofs.are_rows_and_holdings_sound.Statement.{statement}
@@ -35,10 +34,10 @@ abbrev μ-loop : tie.MeasureT-loop
 μ-loop s rows slots holdings valid₀ r₀ valid r = 32 - r
 
 abbrev Inv-loop5 : tie.InvT-loop5
-Inv-loop5 s rows slots holdings valid ok clear i latest x fit₀ weight₀ r₀ fit weight r = (r ≤ 32) × (fit ≡ allBelow r (soundHolding s i)) × (weight ≡ weightBelow r (λ row. holdingAt s i row .pin))
+Inv-loop5 s rows slots holdings valid ok clear i latest x class fit₀ weight₀ r₀ fit weight r = (r ≤ 32) × (fit ≡ allBelow r (soundHolding s i)) × (weight ≡ weightBelow r (λ row. holdingAt s i row .pin))
 
 abbrev μ-loop5 : tie.MeasureT-loop5
-μ-loop5 s rows slots holdings valid ok clear i latest x fit₀ weight₀ r₀ fit weight r = 32 - r
+μ-loop5 s rows slots holdings valid ok clear i latest x class fit₀ weight₀ r₀ fit weight r = 32 - r
 
 abbrev Inv-loop4 : tie.InvT-loop4
 Inv-loop4 s rows slots holdings valid ok₀ clear₀ i₀ ok clear i = (i ≤ 64) × (ok ≡ allBelow i (λ slot. allBelow 32 (soundHolding s slot))) × (clear ≡ allBelow i (soundPins s))
@@ -103,24 +102,26 @@ unfolding allBelow weightBelow
 loop5-holds c = (omega arith, refl, refl)
 
 add-weight : tie.Need-add-weight Inv-loop2 μ-loop2 Inv-loop3 μ-loop3 Inv-loop μ-loop Inv-loop5 μ-loop5 Inv-loop4 μ-loop4
-add-weight c = omega (arith, c .pin-weight .ensures .1, c .before .before .before .before .before .before .loop5 .inv .2, weight-at-most (λ row. holdingAt (c .before .before .before .before .before .before .before .before .before .before .before .before .before .before .before .before .args .s) (c .before .before .before .before .before .before .before .before .before .before .loop4 .i) row .pin) (c .before .before .before .before .before .before .loop5 .r))
+add-weight c = omega (arith, c .pin-weight .ensures .1, c .before .before .before .before .before .before .loop5 .inv .2, weight-at-most (λ row. holdingAt (c .before .before .before .before .before .before .before .before .before .before .before .before .before .before .before .before .before .args .s) (c .before .before .before .before .before .before .before .before .before .before .before .loop4 .i) row .pin) (c .before .before .before .before .before .before .loop5 .r))
 
 loop5-again : tie.Need-loop5-again Inv-loop2 μ-loop2 Inv-loop3 μ-loop3 Inv-loop μ-loop Inv-loop5 μ-loop5 Inv-loop4 μ-loop4
-loop5-again c = let s = c .before .before .before .before .before .before .before .before .before .before .before .before .before .before .before .before .args .s in
-    let i = c .before .before .before .before .before .before .before .before .before .before .loop4 .i in
+loop5-again c = let s = c .before .before .before .before .before .before .before .before .before .before .before .before .before .before .before .before .before .args .s in
+    let i = c .before .before .before .before .before .before .before .before .before .before .before .loop4 .i in
     let r = c .before .before .before .before .before .before .loop5 .r in
-    let w = c .before .before .before .before .before .before .loop5 in (
+    let w = c .before .before .before .before .before .before .loop5 in
+    let k = c .before .before .before .before .before .before .before .class-in in
+    let a = c .before .before .before .before .before .before .before .before .before .latest-arrival in (
       omega arith,
       all-turn (soundHolding s i) r (w .fit) (c .before .before .is-holding-sound .result) (c .before .both5 .result) (w .inv .1)
-          (holding-test s i r (c .before .before .before .before .before .before .before .before .latest-arrival .result) (c .before .before .is-holding-sound .result) (c .before .before .before .before .before .before .before .before .latest-arrival .ensures) (c .before .before .is-holding-sound .ensures))
+          (holding-test s i r (k .result) (a .result) (c .before .before .is-holding-sound .result) (k .ensures) (a .ensures) (c .before .before .is-holding-sound .ensures))
           (c .before .both5 .ensures),
       weight-turn (λ row. holdingAt s i row .pin) r (w .weight) (c .pin-weight .result) (w .inv .2) (c .pin-weight .ensures .0),
     )
 
 loop4-again : tie.Need-loop4-again Inv-loop2 μ-loop2 Inv-loop3 μ-loop3 Inv-loop μ-loop Inv-loop5 μ-loop5 Inv-loop4 μ-loop4
-loop4-again c = let s = c .before .before .before .before .before .before .before .before .before .before .before .before .before .args .s in
-    let i = c .before .before .before .before .before .before .before .loop4 .i in
-    let o = c .before .before .before .before .before .before .before .loop4 in
+loop4-again c = let s = c .before .before .before .before .before .before .before .before .before .before .before .before .before .before .args .s in
+    let i = c .before .before .before .before .before .before .before .before .loop4 .i in
+    let o = c .before .before .before .before .before .before .before .before .loop4 in
     let w = c .before .before .before .loop5 in
     let e : c .before .before .before .loop5 .r ≡ 32 = omega arith in (
       omega arith,
@@ -144,7 +145,7 @@ are-rows-and-holdings-sound-spec =
     (λ c. omega arith) (λ c. omega arith) loop2-again (λ c κs. search needs) loop3-holds (λ c. omega arith) (λ c. omega arith) (λ c. omega arith)
     (λ c. omega arith) (λ c κs. search needs) (λ c κs. search needs) (λ c κs. search needs) (λ c κs. search needs) (λ c κs. search needs)
     counted-requires (λ c. omega arith) (λ c. omega arith) loop3-again (λ c κs. search needs) (λ c κs. search needs) (λ c. omega arith)
-    (λ c. omega arith) loop-again loop4-holds (λ c κs. search needs) (λ c. omega arith) (λ c. omega arith) loop5-holds (λ c. omega arith)
+    (λ c. omega arith) loop-again loop4-holds (λ c κs. search needs) (λ c. omega arith) (λ c. omega arith) (λ c κs. search needs) loop5-holds (λ c. omega arith)
     (λ c. omega arith) (λ c. omega arith) (λ c. omega arith) (λ c. omega arith) (λ c. omega arith) (λ c κs. search needs) (λ c κs. search needs)
     (λ c κs. search needs) add-weight (λ c. omega arith) (λ c. omega arith) loop5-again (λ c κs. search needs) (λ c κs. search needs)
     (λ c. omega arith) (λ c. omega arith) loop4-again (λ c κs. search needs) (λ c κs. search needs) returns)

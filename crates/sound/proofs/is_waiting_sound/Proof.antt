@@ -10,7 +10,7 @@ returns c = simp (c .if1 .taken)
 
 returns-2 : tie.Need-returns-2
 unfolding waitingTest
-returns-2 c = simp (tests, ← c .is-allowed .ensures, c .before .if3 .taken, c .before .before .if2 .taken, c .before .before .before .if1 .left)
+returns-2 c = simp (tests, ← c .before .class-of .ensures .0, ← c .is-allowed .ensures, c .before .before .if3 .taken, c .before .before .before .if2 .taken, c .before .before .before .before .if1 .left)
 
 returns-3 : tie.Need-returns-3
 unfolding waitingTest
@@ -21,4 +21,4 @@ unfolding waitingTest
 returns-4 c = simp (c .if2 .left, c .before .if1 .left)
 
 pub is-waiting-sound-spec : {M : Type 1} → statement M
-is-waiting-sound-spec = tie.close (tie.spec returns (λ c κs. search needs) returns-2 returns-3 returns-4)
+is-waiting-sound-spec = tie.close (tie.spec returns (λ c κs. search needs) (λ c κs. search needs) returns-2 returns-3 returns-4)

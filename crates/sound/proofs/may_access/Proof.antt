@@ -12,4 +12,4 @@ unfolding allowed
 returns-2 c = rw (c .enum-told2 .given .1)
 
 pub may-access-spec : {M : Type 1} → statement M
-may-access-spec = tie.close (tie.spec (λ c. search needs) (λ c. search needs) (λ c. search needs) returns returns-2)
+may-access-spec = tie.close (tie.spec (λ c. search needs) (λ c. search needs) returns returns-2)

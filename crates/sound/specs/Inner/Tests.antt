@@ -1,11 +1,11 @@
--- For the code; proved equal to soundSlot, soundRow, soundHolding, soundPins and soundPages, proofs/ElementLaws, PinLaws and PageLaws: the tests of what sound means, most of
+-- For the code; proved equal to soundSlot, soundRow, soundHolding, soundPins, soundPages and soundBorders, proofs/ElementLaws, PinLaws and PageLaws: the tests of what sound means, most of
 -- one element of the state and the numbers that it is compared with. `latest` is the tick clock + delay.
 use mathlib.Core.Bool.{Bool, false, cond, _&&_, _||_, not}
 use mathlib.Core.List.{List}
 use Prim.Native.Nat.{ℕ, zero, suc, _+_}
 use lib.Dec.{leb, ltb, eqb}
 use lib.ListN.{getD, replicate}
-use Rattle.seq.specs.Below.{anyBelow}
+use Rattle.seq.specs.Below.{anyBelow, allBelow}
 use Rattle.model.specs.declared.Condition.{Condition}
 use Rattle.model.specs.declared.Condition.the-variants.{Free, Idle, Fetching, Waiting, Killed}
 use Rattle.model.specs.declared.Content.{Content}
@@ -16,9 +16,10 @@ use Rattle.model.specs.declared.Pin.the-variants.{Absent, Unpinned, Read, Write
 use Rattle.model.specs.declared.Row.{Row}
 use Rattle.model.specs.declared.Slot.{Slot}
 use Rattle.model.specs.declared.Holding.{Holding}
-use Rattle.model.specs.Parties.{mayAccess, lastClock, isPast}
-use Rattle.model.specs.State.{emptySlot}
-use Rattle.model.specs.Words.{isLive, isFilled, pageIn, arrivalIn, lowestIn, isHeld, isPin}
+use Rattle.model.specs.declared.Borders.{Borders}
+use Rattle.model.specs.Parties.{areBorders, mayAccess, lastClock, isPast}
+use Rattle.model.specs.State.{freeRow, emptySlot}
+use Rattle.model.specs.Words.{isFree, isLive, isFilled, arrivalIn, lowestIn, isHeld, isPin}
 use Rattle.rules.specs.Sound.{pinAllowed}
 
 unfoldable pub inRange : ℕ → ℕ → ℕ → Bool
@@ -67,37 +68,43 @@ unfoldable pub fetchingTest : ℕ → Bool → ℕ → Bool → ℕ → Bool
 fetchingTest due past clock expected number = not past && ltb clock due && eqb number 1 && expected
 
 -- a waiting row, by whether its deadline is past, and whether all its holdings have arrived
-unfoldable pub waitingTest : ℕ → Mode → Bool → ℕ → Bool → Bool
-waitingTest page mode past level settled = not past && settled && leb page 4095 && mayAccess level page mode
+unfoldable pub waitingTest : Borders → ℕ → Mode → Bool → ℕ → Bool → Bool
+waitingTest b page mode past level settled = not past && settled && leb page 4095 && mayAccess b level page mode
 
 -- a row's condition, by whether all its holdings have arrived, whether all have arrived or are awaited, and how many are awaited
-abbrev pub conditionTest : Condition → ℕ → ℕ → ℕ → Bool → Bool → ℕ → Bool
-conditionTest Free deadline level clock settled expected number = eqb deadline 0
-conditionTest (Killed cause) deadline level clock settled expected number = eqb deadline 0
-conditionTest Idle deadline level clock settled expected number = not (isPast clock deadline) && settled
-conditionTest (Fetching due) deadline level clock settled expected number =
+abbrev pub conditionTest : Borders → Condition → ℕ → ℕ → ℕ → Bool → Bool → ℕ → Bool
+conditionTest b Free deadline level clock settled expected number = eqb deadline 0
+conditionTest b (Killed cause) deadline level clock settled expected number = eqb deadline 0
+conditionTest b Idle deadline level clock settled expected number = not (isPast clock deadline) && settled
+conditionTest b (Fetching due) deadline level clock settled expected number =
     fetchingTest due (isPast clock deadline) clock expected number
-conditionTest (Waiting page mode) deadline level clock settled expected number =
-    waitingTest page mode (isPast clock deadline) level settled
+conditionTest b (Waiting page mode) deadline level clock settled expected number =
+    waitingTest b page mode (isPast clock deadline) level settled
 
-unfoldable pub rowTest : Row → ℕ → ℕ → Bool → Bool → ℕ → Bool
-rowTest x level clock settled expected number = conditionTest (x .condition) (x .deadline) level clock settled expected number
+unfoldable pub rowTest : Borders → Row → ℕ → ℕ → Bool → Bool → ℕ → Bool
+rowTest b x level clock settled expected number = conditionTest b (x .condition) (x .deadline) level clock settled expected number
 
--- a holding on a filled slot, by the slot's page, arrival, lowest level and touch
+-- a holding on a filled slot, by its page's class, and by the slot's arrival, lowest level and touch
 unfoldable pub fitTest : ℕ → ℕ → ℕ → ℕ → ℕ → Holding → ℕ → Bool
-fitTest level page arrival lowest touch h latest =
-    pinAllowed level page (h .pin) && leb arrival (h .arrival) && leb (h .arrival) latest
+fitTest level class arrival lowest touch h latest =
+    pinAllowed level class (h .pin) && leb arrival (h .arrival) && leb (h .arrival) latest
     && leb (h .touch) touch && leb lowest level
 
--- a holding that is there
-unfoldable pub heldTest : ℕ → Bool → Slot → Holding → ℕ → Bool
-heldTest level live x h latest =
+-- a holding that is there, on a slot whose page has the class
+unfoldable pub heldTest : ℕ → Bool → ℕ → Slot → Holding → ℕ → Bool
+heldTest level live class x h latest =
     live && isFilled (x .content)
-    && fitTest level (pageIn (x .content)) (arrivalIn (x .content)) (lowestIn (x .content)) (x .touch) h latest
+    && fitTest level class (arrivalIn (x .content)) (lowestIn (x .content)) (x .touch) h latest
 
-unfoldable pub holdingTest : ℕ → Row → Slot → Holding → ℕ → Bool
-holdingTest level y x h latest =
-    cond (isHeld (h .pin)) (heldTest level (isLive (y .condition)) x h latest) (eqb (h .arrival) 0 && eqb (h .touch) 0)
+unfoldable pub holdingTest : ℕ → Row → ℕ → Slot → Holding → ℕ → Bool
+holdingTest level y class x h latest =
+    cond (isHeld (h .pin)) (heldTest level (isLive (y .condition)) class x h latest) (eqb (h .arrival) 0 && eqb (h .touch) 0)
+
+-- the borders, and the rows and slots before a row has begun
+unfoldable pub bordersTest : Borders → Bool → List Row → List Slot → Bool
+bordersTest b begun rows slots =
+    areBorders b
+    && (begun || (allBelow 32 (λ row. isFree (getD rows row freeRow .condition)) && allBelow 64 (λ slot. not (isFilled (getD slots slot emptySlot .content)))))
 
 -- the weight of a pin: the pins of 32 rows weigh at most 64 together just where no two of them conflict
 abbrev pub pinWeight : Pin → ℕ

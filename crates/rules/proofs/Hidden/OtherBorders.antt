@@ -1,0 +1,90 @@
+-- Before a row has begun, a kept call of clearance 3 gives the same answer and, but for the borders, the same state whatever the borders are: no call then gets as far as to ask them.
+use mathlib.Core.Path.{_≡_, refl, sym, _∙_}
+use mathlib.Core.Bool.{Bool, true, false}
+use Prim.Native.Nat.{ℕ, zero, suc, _≤_}
+use native.Mathlib.Omega.{arith}
+use borrow.Author.Tests.{ltb-false, leb-true}
+use lib.Dec.{ltb}
+use Rattle.seq.specs.declared.Found.{Found}
+use Rattle.seq.specs.declared.Found.the-variants.{At, Nowhere}
+use Rattle.seq.proofs.Tests.{true-false}
+use Rattle.model.specs.declared.Borders.{Borders}
+use Rattle.model.specs.declared.Call.{Call}
+use Rattle.model.specs.declared.Call.the-variants.{Start, Begin, Request, Retry, Unpin, End, Tick, Look, View, Count}
+use Rattle.model.specs.declared.Call.the-variants as Call
+use Rattle.model.specs.declared.Condition.the-variants.{Free, Idle}
+use Rattle.model.specs.declared.Outcome.{Outcome}
+use Rattle.model.specs.declared.State.{State}
+use Rattle.model.specs.Parties.{rowOf}
+use Rattle.model.specs.State.{withBorders}
+use Rattle.model.specs.Words.{seenHolder, seen, isOpen, dormant, seesDormant, strongestPin, leastArrival, slotOf}
+use Rattle.model.specs.Changes.{released, killed}
+use Rattle.rules.specs.Calls.{unless, begun, unpinned, ended, deliveredRows, isLate, lateKilled, advanced, ticked, requested, retried, lookedAt, viewedIn, viewed, counted}
+use Rattle.rules.specs.Refusals.{conditionAt, pinsPage, beginRefusal, requestRefusal, retryRefusal, unpinRefusal, endRefusal, tickRefusal, lookRefusal, viewRefusal, countRefusal}
+use Rattle.rules.specs.Run.{outcome}
+use Rattle.rules.specs.Secrecy.{isKept}
+use Rattle.rules.proofs.Facts.SoundFacts.{BordersSound}
+use Rattle.rules.proofs.Leaves.RefusalFacts.{request-taken, unpin-taken, retry-taken}
+
+-- an outcome whose state has the borders b
+abbrev pub underBorders : Outcome → Borders → Outcome
+underBorders o b = record { state = withBorders (o .state) b; answer = o .answer }
+
+-- an idle row is not free
+idle-free : Idle ≡ Free → ⊥
+idle-free e = true-false (cc)
+
+module _ (s : State) (b : Borders) where
+  unless-under : (n m : ℕ) (o p : Outcome) → m ≡ n → (n ≡ 0 → p ≡ underBorders o b) → unless m (withBorders s b) p ≡ underBorders (unless n s o) b
+  unless-under n m o p e f = rw e (go n f)
+    where
+      go : (k : ℕ) → (k ≡ 0 → p ≡ underBorders o b) → unless k (withBorders s b) p ≡ underBorders (unless k s o) b
+      go zero g = g refl
+      go (suc k) g = refl
+
+  module _ (h : BordersSound s) (u : s .begun ≡ false) (level number : ℕ) (most : level ≤ 3) where
+    free : number ≤ 7 → conditionAt s level number ≡ Free
+    free n = h .free u (rowOf level number) (omega arith)
+
+    same-request : (page mode : ℕ) → requestRefusal (withBorders s b) level number page mode ≡ requestRefusal s level number page mode
+    unfolding requestRefusal
+    same-request page mode = go (ltb 7 number) refl
+      where
+        go : (x : Bool) → ltb 7 number ≡ x → requestRefusal (withBorders s b) level number page mode ≡ requestRefusal s level number page mode
+        go true e = rw e
+        go false e = rw (free (ltb-false 7 number e))
+
+    under-request : (page mode : ℕ) → requested (withBorders s b) level number page mode ≡ underBorders (requested s level number page mode) b
+    unfolding requested
+    under-request page mode =
+        unless-under (requestRefusal s level number page mode) (requestRefusal (withBorders s b) level number page mode) _ _ (same-request page mode)
+        (λ e. let t = request-taken s level number page mode e in absurd (idle-free (sym (t .idle) ∙ free (t .names .number-is))))
+
+    under-retry : retried (withBorders s b) level number ≡ underBorders (retried s level number) b
+    unfolding retried retryRefusal
+    under-retry = unless-under (retryRefusal s level number) (retryRefusal (withBorders s b) level number) _ _ refl (λ e. rw (free (retry-taken s level number e .number-is)))
+
+    under-unpin : (page : ℕ) → unpinned (withBorders s b) level number page ≡ underBorders (unpinned s level number page) b
+    unfolding unpinned unpinRefusal pinsPage slotOf
+    under-unpin page =
+        unless-under (unpinRefusal s level number page) (unpinRefusal (withBorders s b) level number page) _ _ refl
+        (λ e. let t = unpin-taken s level number page e in absurd (idle-free (sym (t .idle) ∙ free (t .names .number-is))))
+
+  same-view : (level : ℕ) (f : Found) → viewedIn f (withBorders s b) level ≡ viewedIn f s level
+  unfolding seenHolder seen dormant seesDormant strongestPin leastArrival
+  same-view level Nowhere = refl
+  same-view level (At slot) = refl
+
+  pub before-begun : (c : Call) → BordersSound s → s .begun ≡ false → isKept 3 c ≡ true → outcome (withBorders s b) c ≡ underBorders (outcome s c) b
+  unfolding outcome isKept begun ended ticked lookedAt viewed counted beginRefusal endRefusal tickRefusal lateKilled killed released deliveredRows advanced isLate seenHolder seen isOpen slotOf
+  before-begun (Start slots delay) h u k = true-false (sym k)
+  before-begun (Begin level number deadline) h u k = unless-under (beginRefusal s level number deadline) (beginRefusal (withBorders s b) level number deadline) _ _ refl (λ _. refl)
+  before-begun (Request level number page mode) h u k = under-request h u level number (leb-true level 3 k) page mode
+  before-begun (Retry level number) h u k = under-retry h u level number (leb-true level 3 k)
+  before-begun (Unpin level number page) h u k = under-unpin h u level number (leb-true level 3 k) page
+  before-begun (End level number) h u k = unless-under (endRefusal s level number) (endRefusal (withBorders s b) level number) _ _ refl (λ _. refl)
+  before-begun Tick h u k = unless-under (tickRefusal s) (tickRefusal (withBorders s b)) _ _ refl (λ _. refl)
+  before-begun (Look level number) h u k = unless-under (lookRefusal level number) (lookRefusal level number) _ _ refl (λ _. refl)
+  before-begun (View level page) h u k = unless-under (viewRefusal level page) (viewRefusal level page) _ _ refl (λ _ i. record { state = withBorders s b; answer = same-view level (slotOf s page) i })
+  before-begun (Count level) h u k = unless-under (countRefusal level) (countRefusal level) _ _ refl (λ _. refl)
+  before-begun (Call.Borders first second third) h u k = true-false (sym k)
