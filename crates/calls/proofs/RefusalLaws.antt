@@ -1,6 +1,6 @@
 -- The refusals of a call: what it says that some apply and that none does.
-use mathlib.Core.Path.{_≡_, refl, _∙_}
-use mathlib.Core.Bool.{Bool, true, false, cond, _&&_, not}
+use mathlib.Core.Path.{_≡_, refl}
+use mathlib.Core.Bool.{Bool, true, false, cond, not}
 use mathlib.Core.List.{List, [], _∷_, _++_}
 use Prim.Native.Nat.{ℕ, zero, suc, _<_, _≤_}
 use native.Mathlib.Omega.{arith}
@@ -10,9 +10,9 @@ use Rattle.model.specs.declared.Outcome.{Outcome}
 use Rattle.model.specs.declared.Answer.the-variants.{Refused}
 use Rattle.model.specs.declared.State.{State}
 use Rattle.rules.specs.Calls.{unless}
-use Rattle.model.specs.Parties.{rowOf, modeOf, mayAccess}
+use Rattle.model.specs.Parties.{rowOf}
 use Rattle.model.specs.Words.{isFree}
-use Rattle.rules.specs.Refusals.{firstToApply, isKilled, isBusy, isRead, conditionAt, pinsPage, unpinRefusal, requestRefusal}
+use Rattle.rules.specs.Refusals.{firstToApply, isKilled, isBusy, conditionAt, pinsPage, unpinRefusal}
 
 -- n: the number that the code found; m: that of the definition
 pub refused : (n m : ℕ) (s : State) (o : Outcome) → n ≡ m → 0 < n → record { state = s; answer = Refused n } ≡ unless m s o
@@ -73,23 +73,3 @@ module _ (s : State) (level number page : ℕ) where
   pub unpin-last : (n : ℕ) → n ≡ firstToApply unpinFirst → n ≤ 0 → firstToApply unpinLast ≡ unpinRefusal s level number page
   unfolding unpinRefusal
   unpin-last n e l = first-rest unpinFirst unpinLast n (omega arith) e l
-
--- those of a request by its numbers and its row, and by the access rule
-module _ (s : State) (level number page mode : ℕ) where
-  abbrev pub requestFirst : List (ℕ × Bool)
-  requestFirst =
-      (4, ltb 3 level) ∷ (5, ltb 7 number) ∷ (6, ltb 4095 page) ∷ (7, ltb 1 mode)
-      ∷ (9, isFree (conditionAt s level number)) ∷ (10, isKilled (conditionAt s level number)) ∷ (11, isBusy (conditionAt s level number)) ∷ []
-
-  abbrev pub requestLast : List (ℕ × Bool)
-  requestLast =
-      (13, isRead (modeOf mode) && not (mayAccess (s .borders) level page (modeOf mode)))
-      ∷ (14, not (isRead (modeOf mode)) && not (mayAccess (s .borders) level page (modeOf mode))) ∷ []
-
-  pub request-first : (n : ℕ) → n ≡ firstToApply requestFirst → 0 < n → n ≡ requestRefusal s level number page mode
-  unfolding requestRefusal
-  request-first n e h = first-found requestFirst requestLast n e h
-
-  pub request-last : (n : ℕ) → n ≡ firstToApply requestFirst → n ≤ 0 → firstToApply requestLast ≡ requestRefusal s level number page mode
-  unfolding requestRefusal
-  request-last n e l = first-rest requestFirst requestLast n (omega arith) e l

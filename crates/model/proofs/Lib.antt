@@ -3,6 +3,7 @@ pub mod PutLaws
 pub mod ChangeLaws
 pub mod ContentLaws
 pub mod PinLaws
+pub mod AccessLaws
 pub mod PriorityLaws
 pub mod SeenLaws
 pub mod ArrivalLaws

@@ -12,7 +12,7 @@ ghost use mathlib.Core.Path.{_≡_};
 ghost use mathlib.Core.Bool.{cond, _&&_, not};
 ghost use Prim.Native.Nat.{_+_, _<_, _≤_};
 ghost use Rattle.seq.specs.Below.{allBelow};
-ghost use Rattle.model.specs.Parties.{classOf, allowed};
+ghost use Rattle.model.specs.Parties.{classOf};
 ghost use Rattle.model.specs.State.{freeRow, emptySlot};
 ghost use Rattle.model.specs.Words.{isFree, isFilled, pageIn};
 ghost use lib.ListN.{getD};
@@ -218,7 +218,6 @@ fn is_waiting_sound(
     level: usize,
     settled: bool,
 ) -> bool
-    requires { ⌜ level < 4 ⌝ }
     ensures { λ r. ⌜ r ≡ waitingTest b page mode past level settled ⌝ }
 {
     if past {
@@ -227,7 +226,7 @@ fn is_waiting_sound(
     if settled {
         if page <= 4095 {
             let class = model::class_of(b, page);
-            return model::is_allowed(level, class, mode);
+            return model::may_access(level, class, mode);
         }
         return false;
     }
@@ -244,7 +243,6 @@ fn is_row_sound(
     expected: bool,
     number: usize,
 ) -> bool
-    requires { ⌜ level < 4 ⌝ }
     ensures { λ r. ⌜ r ≡ rowTest b x level clock settled expected number ⌝ }
 {
     let c = x.condition;
@@ -281,18 +279,7 @@ fn again(passed: bool) -> usize
     64
 }
 
-// The access rule for any class. It is computed, so that the loop over the 2,048 holdings has no table look-up.
-fn may_access(level: usize, class: usize, mode: Mode) -> bool
-    ensures { λ r. ⌜ r ≡ allowed level class mode ⌝ }
-{
-    match mode {
-        Mode::Read => class <= level,
-        Mode::Write => level <= class,
-    }
-}
-
 fn is_pin_allowed(level: usize, class: usize, p: Pin) -> bool
-    requires { ⌜ level < 4 ⌝ }
     ensures { λ r. ⌜ r ≡ pinAllowed level class p ⌝ }
 {
     match p {
@@ -303,10 +290,10 @@ fn is_pin_allowed(level: usize, class: usize, p: Pin) -> bool
             return true;
         }
         Pin::Read => {
-            return may_access(level, class, Mode::Read);
+            return model::may_access(level, class, Mode::Read);
         }
         Pin::Write => {
-            return may_access(level, class, Mode::Write);
+            return model::may_access(level, class, Mode::Write);
         }
     }
 }
@@ -321,7 +308,6 @@ fn is_fit(
     h: Holding,
     latest: u64,
 ) -> bool
-    requires { ⌜ level < 4 ⌝ }
     ensures { λ r. ⌜ r ≡ fitTest level class arrival lowest touch h latest ⌝ }
 {
     let p = h.pin;
@@ -342,7 +328,6 @@ fn is_fit(
 
 // A holding that is there: only of a live row, and only in a filled slot, whose page has the class.
 fn is_held_sound(level: usize, live: bool, class: usize, x: Slot, h: Holding, latest: u64) -> bool
-    requires { ⌜ level < 4 ⌝ }
     ensures { λ r. ⌜ r ≡ heldTest level live class x h latest ⌝ }
 {
     if live {
@@ -365,7 +350,6 @@ fn is_held_sound(level: usize, live: bool, class: usize, x: Slot, h: Holding, la
 }
 
 fn is_holding_sound(level: usize, y: Row, class: usize, x: Slot, h: Holding, latest: u64) -> bool
-    requires { ⌜ level < 4 ⌝ }
     ensures { λ r. ⌜ r ≡ holdingTest level y class x h latest ⌝ }
 {
     let p = h.pin;

@@ -1,7 +1,7 @@
 use Rattle.model.specs.Parties.{allowed}
 use borrow.Author.Needs.{needs}
-use Rattle.sound.proofs.may_access.Statement.{statement}
-use Rattle.sound.proofs.may_access.Tie as tie
+use Rattle.model.proofs.may_access.Statement.{statement}
+use Rattle.model.proofs.may_access.Tie as tie
 
 returns : tie.Need-returns
 unfolding allowed
