@@ -1,5 +1,5 @@
 /*
- * The SABRE buffer manager of a record server: eleven calls on a state that the
+ * The SABRE buffer manager of a record server: ten calls on a state that the
  * server lends as bytes. Link with libsabre.a (x86-64).
  *
  * The state. `area` points to `len` bytes. The first 65,536 of them are the
@@ -17,28 +17,47 @@
  *                write          the least arrival tick among the holdings seen
  *                dormant        the arrival tick of the slot
  *                open           the number of open slots
- *   answer[2]  slot + 1, for ready and fetch of request and retry; else 0
+ *   answer[2]  slot + 1, for ready and fetch of a request; else 0
  *   answer[3]  page to write back + 1; 0 if there is none
  * sabre_slot, sabre_back and sabre_word_text, at the end of this file, read it.
  * Word and value may go to the clearance that made the call, and to no other.
  * answer[2] and answer[3] depend on what higher clearances do. They are for the
  * server alone: never pass them, or anything of the area, on to a clearance.
  *
+ * The list. A tick also has the server's `list` of `list_len` bytes, and writes
+ * the first 256 of them: 8 bytes for each waiting row that it made ready or
+ * fetching, in the order in which it did so, then zeros:
+ *   byte 0      the level
+ *   byte 1      the row, 0 to 7
+ *   byte 2      the slot
+ *   byte 3      the flag: 1, no page is to be written back; 2, a page is
+ *   byte 4, 5   the page, the higher byte first
+ *   byte 6, 7   the page to write back, the higher byte first; 0 if there is none
+ * The flag of an entry is never 0, so where it is 0 the entries are over; there
+ * are 32 at most. Bytes past 256 are never read or written. The list may stand at
+ * any address, with any alignment. sabre_read_fill, at the end of this file, reads
+ * an entry. The list tells of the rows of all clearances, and its slots and pages
+ * to write back depend on the higher ones. It is for the server alone: never pass
+ * an entry, or the number of entries, on to a clearance. A clearance learns of its
+ * own rows by a look.
+ *
  * The status. A call returns 0 where it is accepted, else the refusal's number,
- * of enum sabre_refusal. Of the refusals that apply the smallest is given. After
- * a refusal every byte of the area is as before, and the answer is
- * { SABRE_REFUSED, number, 0, 0 }. Any numbers and any bytes may be passed.
+ * of enum sabre_refusal. Of the refusals that apply the smallest is given, but
+ * that 21 comes before 17. After a refusal every byte of the area and of the list
+ * is as before, and the answer is { SABRE_REFUSED, number, 0, 0 }. Any numbers and
+ * any bytes may be passed.
  *
  * What the caller must see to: `area` is not null and its `len` bytes may be
- * read and, where it is not const, written; `answer` is not null, has room for
- * four numbers, is aligned for uint64_t and does not overlap the area. There
- * are no locks inside: make one call at a time on one area, and let nobody else
- * write there. How long a call runs on the machine is no part of an answer, and
- * may depend on the whole state.
+ * read and, where it is not const, written; so for `list` and its `list_len`
+ * bytes; `answer` is not null, has room for four numbers and is aligned for
+ * uint64_t; area, list and answer do not overlap. There are no locks inside:
+ * make one call at a time on one area, and let nobody else write there. How long
+ * a call runs on the machine is no part of an answer, and may depend on the whole
+ * state.
  *
- * The stack. A call needs up to 160 KiB of the caller's stack. Nothing is allocated
- * elsewhere, and no call recurses. `host stack` measures it (host/README.md) and
- * fails at 512 KiB.
+ * The stack. A tick needs up to 261 KiB of the caller's stack, any other call up to
+ * 160 KiB. Nothing is allocated elsewhere, and no call recurses. `host stack` measures
+ * it (host/README.md) and fails at 512 KiB.
  */
 #ifndef SABRE_H
 #define SABRE_H
@@ -53,6 +72,11 @@ extern "C" {
 /* The bytes of the state. */
 #define SABRE_AREA_SIZE 65536
 
+/* The bytes of a list that a tick writes, those of an entry, and the most entries. */
+#define SABRE_LIST_SIZE 256
+#define SABRE_ENTRY_SIZE 8
+#define SABRE_ENTRIES 32
+
 /* The version of the layout of docs/LAYOUT.md, which stands in an area from byte 8 on. */
 #define SABRE_LAYOUT_VERSION 2
 
@@ -61,9 +85,9 @@ enum sabre_word {
     SABRE_REFUSED = 0,
     SABRE_STARTED = 1,
     SABRE_BEGUN = 2,
-    SABRE_READY = 3,     /* request, retry */
-    SABRE_FETCH = 4,     /* request, retry, look */
-    SABRE_WAIT = 5,      /* request, retry, look */
+    SABRE_READY = 3,     /* request */
+    SABRE_FETCH = 4,     /* request, look */
+    SABRE_WAIT = 5,      /* request, look */
     SABRE_UNPINNED = 6,
     SABRE_ENDED = 7,
     SABRE_CLOCK = 8,     /* tick */
@@ -77,7 +101,8 @@ enum sabre_word {
     SABRE_WRITE = 16,    /* view: pinned to write; not a mode */
     SABRE_DORMANT = 17,  /* view, level 3 alone: in a slot, held by nobody */
     SABRE_OPEN = 18,     /* count */
-    SABRE_BORDERS = 19
+    SABRE_BORDERS = 19,
+    SABRE_FILL = 20      /* the player's word for an entry of a list, no call answers it */
 };
 
 /* What a call returns. */
@@ -98,11 +123,12 @@ enum sabre_refusal {
     SABRE_REFUSAL_READ_ABOVE = 13,  /* the page's class is above the level */
     SABRE_REFUSAL_WRITE_BELOW = 14, /* the page's class is below the level */
     SABRE_REFUSAL_NOT_PINNED = 15,  /* the row does not pin the page */
-    SABRE_REFUSAL_NOT_WAITING = 16, /* the row is idle or fetching */
+                                    /* 16 is not used */
     SABRE_REFUSAL_LAST_CLOCK = 17,  /* the clock is 4,000,000,000 */
     SABRE_REFUSAL_RECORD = 18,      /* bad record: the player's, no call returns it */
     SABRE_REFUSAL_BORDERS = 19,     /* the borders fall, or exceed 4,096 */
-    SABRE_REFUSAL_HAS_BEGUN = 20    /* a row has begun since the start */
+    SABRE_REFUSAL_HAS_BEGUN = 20,   /* a row has begun since the start */
+    SABRE_REFUSAL_LIST = 21         /* list under 256 bytes; it comes before 17 */
 };
 
 /* The mode of a request. */
@@ -137,7 +163,8 @@ uint32_t sabre_begin(uint8_t *area, size_t len, uint32_t level, uint32_t row, ui
  * Answers
  *   ready  the row pins the page and may use it now
  *   fetch  the row pins the page and may use it from the due tick on, when a look says idle
- *   wait   the request is not granted and is stored for retry; what the row held it still holds
+ *   wait   the request is not granted and is stored, and each tick tries it; what the row held
+ *          it still holds
  * Refusals 1, 4, 5, 6, 7, 9, 10, 11, 13, 14.
  *
  * For the server, on ready and fetch: the page is, or is to be, in slot answer[2] - 1.
@@ -146,13 +173,6 @@ uint32_t sabre_begin(uint8_t *area, size_t len, uint32_t level, uint32_t row, ui
  * there, do not read it again: the copy in the slot may be newer than the one on disk.
  */
 uint32_t sabre_request(uint8_t *area, size_t len, uint32_t level, uint32_t row, uint32_t page, uint32_t mode, uint64_t answer[4]);
-
-/*
- * The same for the stored request of a waiting row. Its page and mode are those of the
- * request that was answered wait.
- * Answers ready, fetch or wait, as sabre_request. Refusals 1, 4, 5, 9, 10, 16.
- */
-uint32_t sabre_retry(uint8_t *area, size_t len, uint32_t level, uint32_t row, uint64_t answer[4]);
 
 /*
  * An idle row's pin on the page becomes none; it still holds the page.
@@ -168,11 +188,21 @@ uint32_t sabre_end(uint8_t *area, size_t len, uint32_t level, uint32_t row, uint
 
 /*
  * The clock goes on by one; then fetching rows that are due become idle; then live rows
- * whose deadline is below the clock are killed as late. The server's own call. A page counts as
- * arrived at its arrival tick: tick on to there only once it has been read from disk.
- * Answers clock, the value is the new clock. Refusals 1, 17.
+ * whose deadline is below the clock are killed as late; then the stored request of each waiting
+ * row is tried a single time, the best priority first, unless an earlier try has killed the row.
+ * A row so made ready is idle, and a look says so; one made fetching is idle from its due tick on;
+ * one tried in vain waits as before. The server's own call. A page counts as arrived at its
+ * arrival tick: tick on to there only once it has been read from disk.
+ * list  at least 256 bytes; has an entry for each row made ready or fetching
+ * Answers clock, the value is the new clock; answer[2] and answer[3] are 0. Refusals 1, 21, 17,
+ * in this order.
+ *
+ * For the server, on each entry, in turn: the same as on ready and fetch of a request. The entry's
+ * page is, or is to be, in its slot. If the flag is 2, first write the page to write back from that
+ * slot to disk. Then, if another page or none was in that slot, read the page into it; a page that
+ * one entry writes back may be the page of a later one.
  */
-uint32_t sabre_tick(uint8_t *area, size_t len, uint64_t answer[4]);
+uint32_t sabre_tick(uint8_t *area, size_t len, uint8_t *list, size_t list_len, uint64_t answer[4]);
 
 /*
  * What a row is. Changes nothing.
@@ -218,13 +248,42 @@ static inline int sabre_back(const uint64_t answer[4])
     return answer[3] == 0 ? -1 : (int)(answer[3] - 1);
 }
 
+/* An entry of a list. */
+struct sabre_fill {
+    int level;
+    int row;
+    int slot;
+    int page;
+    int back; /* the page to write back; -1 if there is none */
+};
+
+/*
+ * Reads an entry, number 0 to 31, of the list of an accepted tick. Returns 1, or 0 if there is no
+ * such entry. For the server alone.
+ */
+static inline int sabre_read_fill(const uint8_t list[SABRE_LIST_SIZE], unsigned number, struct sabre_fill *fill)
+{
+    const uint8_t *entry;
+
+    if (number >= SABRE_ENTRIES || list[SABRE_ENTRY_SIZE * number + 3] == 0) {
+        return 0;
+    }
+    entry = list + SABRE_ENTRY_SIZE * number;
+    fill->level = entry[0];
+    fill->row = entry[1];
+    fill->slot = entry[2];
+    fill->page = 256 * entry[4] + entry[5];
+    fill->back = entry[3] == 2 ? 256 * entry[6] + entry[7] : -1;
+    return 1;
+}
+
 /* The text of a word, answer[0]; "unknown" for a number that is not of enum sabre_word. */
 static inline const char *sabre_word_text(uint64_t word)
 {
     static const char *const texts[] = {
         "refused", "started", "begun", "ready", "fetch", "wait", "unpinned", "ended", "clock", "none",
         "idle", "late", "taken", "unseen", "active", "read", "write", "dormant", "open",
-        "borders"
+        "borders", "fill"
     };
 
     return word < sizeof texts / sizeof texts[0] ? texts[word] : "unknown";

@@ -1,15 +1,16 @@
-//! Session S, M1 to M11, the borders and the examples of refusals 1 to 17, 19 and 20 of documents 01
-//! and 02 (T-01, T-02), call by call.
+//! Session S, M1 to M11, the borders, the fills of ticks and the examples of the refusals of documents
+//! 01 and 02 (T-01, T-02, T-04), call by call. 16 is not used, and 18 is the player's.
 
 use crate::calls::*;
 use crate::compare::check;
-use crate::lent::Lent;
+use crate::lent::{difference, Lent};
 use crate::model::{
     self, set_word, Cause, Condition, Holding, Mode, Pin, Row, Slot, State, Tally, BEGUN_AT,
     BORDERS_AT, HEADER_END,
 };
 
-/// A call and the player's line for it; without a bar, no slot and no page to write back.
+/// A call and the player's lines for it, with `; ` between them; without a bar, no slot and no page to
+/// write back.
 type Step = (Call, &'static str);
 
 struct Case {
@@ -43,10 +44,6 @@ fn end(level: u32, row: u32) -> Call {
     Call::End { level, row }
 }
 
-fn retry(level: u32, row: u32) -> Call {
-    Call::Retry { level, row }
-}
-
 fn look(level: u32, row: u32) -> Call {
     Call::Look { level, row }
 }
@@ -63,7 +60,22 @@ fn borders(first: u32, second: u32, third: u32) -> Call {
     Call::Borders { first, second, third }
 }
 
-const TICK: Call = Call::Tick;
+fn tick_with(list: usize) -> Call {
+    Call::Tick { list }
+}
+
+/// Whether the outcome is as a step says.
+fn as_said(outcome: &Outcome, said: &str) -> Result<(), String> {
+    let wanted: Vec<String> = said
+        .split("; ")
+        .map(|line| if line.contains('|') { line.to_string() } else { format!("{line} | - -") })
+        .collect();
+    if outcome.lines() == wanted {
+        Ok(())
+    } else {
+        Err(format!("{} instead of {}", outcome.lines().join("; "), wanted.join("; ")))
+    }
+}
 
 /// The pages on both sides of each border, by the access that their classes allow. Classes 1 and 2
 /// have two pages at least.
@@ -156,9 +168,11 @@ fn cases() -> Vec<Case> {
                 (read(0, 3, 8), "wait 0"),
                 (look(0, 2), "idle 0"),
                 (look(0, 3), "wait 0"),
-                (retry(0, 3), "wait 0"),
+                (TICK, "clock 2"),
+                (look(0, 3), "wait 0"),
                 (end(0, 2), "ended 0"),
-                (retry(0, 3), "fetch 2 | 0 -"),
+                (TICK, "clock 3; fill 3 | 0 -"),
+                (look(0, 3), "fetch 4"),
             ],
         ),
         case(
@@ -294,7 +308,6 @@ fn cases() -> Vec<Case> {
                 (end(0, 0), "refused 9"),
                 (read(0, 0, 7), "refused 9"),
                 (unpin(0, 0, 7), "refused 9"),
-                (retry(0, 0), "refused 9"),
             ],
         ),
         case(
@@ -306,7 +319,6 @@ fn cases() -> Vec<Case> {
                 (TICK, "clock 2"),
                 (read(0, 0, 7), "refused 10"),
                 (unpin(0, 0, 7), "refused 10"),
-                (retry(0, 0), "refused 10"),
                 (begin(0, 0, 9), "refused 8"),
                 (end(0, 0), "ended 0"),
             ],
@@ -354,16 +366,6 @@ fn cases() -> Vec<Case> {
                 (unpin(0, 0, 7), "refused 15"),
             ],
         ),
-        case(
-            "refusal 16",
-            vec![
-                (start(1, 1), "started 0"),
-                (begin(0, 0, 9), "begun 0"),
-                (retry(0, 0), "refused 16"),
-                (read(0, 0, 7), "fetch 1 | 0 -"),
-                (retry(0, 0), "refused 16"),
-            ],
-        ),
         Case {
             name: "refusal 17",
             clock: Some(LAST_CLOCK - 1),
@@ -376,6 +378,45 @@ fn cases() -> Vec<Case> {
                 (look(0, 0), "fetch 4000000001"),
                 (begin(0, 1, 3_999_999_999), "refused 12"),
                 (begin(0, 1, 4_000_000_000), "begun 0"),
+            ],
+        },
+        case(
+            "refusal 21",
+            vec![
+                (start(1, 1), "started 0"),
+                (tick_with(0), "refused 21"),
+                (tick_with(255), "refused 21"),
+                (tick_with(256), "clock 1"),
+                (tick_with(257), "clock 2"),
+            ],
+        ),
+        case(
+            "refusal 21 leaves fetching, waiting and late rows",
+            vec![
+                (start(1, 1), "started 0"),
+                (begin(0, 0, 1), "begun 0"),
+                (begin(0, 1, 9), "begun 0"),
+                (read(0, 0, 7), "fetch 1 | 0 -"),
+                (read(0, 1, 8), "wait 0"),
+                (tick_with(255), "refused 21"),
+                (look(0, 0), "fetch 1"),
+                (TICK, "clock 1"),
+                (tick_with(0), "refused 21"),
+                (look(0, 0), "idle 0"),
+                (look(0, 1), "wait 0"),
+                (TICK, "clock 2; fill 1 | 0 -"),
+                (look(0, 0), "late 0"),
+                (look(0, 1), "fetch 3"),
+            ],
+        ),
+        Case {
+            name: "refusal 21 comes before 17",
+            clock: Some(LAST_CLOCK),
+            steps: vec![
+                (tick_with(255), "refused 21"),
+                (tick_with(0), "refused 21"),
+                (tick_with(256), "refused 17"),
+                (tick_with(1000), "refused 17"),
             ],
         },
         case(
@@ -656,12 +697,28 @@ fn cases() -> Vec<Case> {
                 (read(0, 1, 8), "wait 0"),
                 (TICK, "clock 1"),
                 (look(0, 0), "fetch 2"),
-                (TICK, "clock 2"),
-                (look(0, 0), "late 0"),
                 (look(0, 1), "wait 0"),
-                (retry(0, 1), "fetch 4 | 0 -"),
+                (TICK, "clock 2; fill 1 | 0 -"),
+                (look(0, 0), "late 0"),
+                (look(0, 1), "fetch 4"),
                 (TICK, "clock 3"),
                 (look(0, 1), "late 0"),
+            ],
+        ),
+        case(
+            "a waiting row is late one tick after its deadline, and is not tried then",
+            vec![
+                (start(1, 1), "started 0"),
+                (begin(0, 0, 1), "begun 0"),
+                (begin(1, 0, 1), "begun 0"),
+                (read(0, 0, 7), "fetch 1 | 0 -"),
+                (read(1, 0, 8), "wait 0"),
+                (TICK, "clock 1"),
+                (look(1, 0), "wait 0"),
+                (TICK, "clock 2"),
+                (look(0, 0), "late 0"),
+                (look(1, 0), "late 0"),
+                (view(3, 7), "dormant 1"),
             ],
         ),
         case(
@@ -691,7 +748,249 @@ fn cases() -> Vec<Case> {
                 (read(0, 0, 8), "fetch 2 | 0 7"),
             ],
         ),
+        // What ticks fill.
+        case(
+            "two rows wait for one slot, and the better one has it",
+            vec![
+                (start(1, 1), "started 0"),
+                (begin(0, 0, 10), "begun 0"),
+                (begin(0, 1, 30), "begun 0"),
+                (begin(0, 2, 20), "begun 0"),
+                (read(0, 0, 7), "fetch 1 | 0 -"),
+                (read(0, 1, 8), "wait 0"),
+                (read(0, 2, 9), "wait 0"),
+                (end(0, 0), "ended 0"),
+                (TICK, "clock 1; fill 2 | 0 -"),
+                (look(0, 2), "fetch 2"),
+                (look(0, 1), "wait 0"),
+                (TICK, "clock 2"),
+                (look(0, 2), "idle 0"),
+                (look(0, 1), "wait 0"),
+                (unpin(0, 2, 9), "unpinned 0"),
+                (TICK, "clock 3"),
+                (look(0, 1), "wait 0"),
+                (end(0, 2), "ended 0"),
+                (TICK, "clock 4; fill 1 | 0 -"),
+            ],
+        ),
+        case(
+            "a better row's try kills a worse waiting row by its pin, and it is not tried",
+            vec![
+                (start(2, 1), "started 0"),
+                (begin(0, 0, 10), "begun 0"),
+                (begin(0, 1, 20), "begun 0"),
+                (begin(0, 2, 30), "begun 0"),
+                (read(0, 0, 8), "fetch 1 | 0 -"),
+                (TICK, "clock 1"),
+                (read(0, 2, 8), "ready 0 | 0 -"),
+                (write(0, 0, 7), "fetch 2 | 1 -"),
+                (TICK, "clock 2"),
+                (read(0, 2, 7), "wait 0"),
+                (write(0, 1, 8), "wait 0"),
+                (end(0, 0), "ended 0"),
+                (TICK, "clock 3; fill 1 | 0 -"),
+                (look(0, 1), "idle 0"),
+                (look(0, 2), "taken 0"),
+                (view(0, 8), "write 1"),
+                (view(3, 7), "dormant 2"),
+            ],
+        ),
+        case(
+            "a better row's try kills a worse waiting row by its slot",
+            vec![
+                (start(1, 1), "started 0"),
+                (begin(0, 0, 10), "begun 0"),
+                (begin(0, 1, 20), "begun 0"),
+                (begin(0, 2, 30), "begun 0"),
+                (read(0, 0, 7), "fetch 1 | 0 -"),
+                (TICK, "clock 1"),
+                (read(0, 1, 9), "wait 0"),
+                (read(0, 2, 7), "ready 0 | 0 -"),
+                (read(0, 2, 8), "wait 0"),
+                (end(0, 0), "ended 0"),
+                (TICK, "clock 2; fill 1 | 0 -"),
+                (look(0, 1), "fetch 3"),
+                (look(0, 2), "taken 0"),
+            ],
+        ),
+        case(
+            "best priority first: level, then deadline, then row number",
+            vec![
+                (start(8, 1), "started 0"),
+                (begin(0, 7, 5), "begun 0"),
+                (write(0, 7, 0), "fetch 1 | 0 -"),
+                (begin(3, 0, 10), "begun 0"),
+                (begin(1, 2, 40), "begun 0"),
+                (begin(1, 1, 40), "begun 0"),
+                (begin(1, 0, 50), "begun 0"),
+                (begin(0, 6, 60), "begun 0"),
+                (read(3, 0, 0), "wait 0"),
+                (read(1, 2, 0), "wait 0"),
+                (read(1, 1, 0), "wait 0"),
+                (read(1, 0, 0), "wait 0"),
+                (read(0, 6, 0), "wait 0"),
+                (TICK, "clock 1"),
+                (end(0, 7), "ended 0"),
+                // Level 0 does not see the page, which is then due at 3 for all.
+                (TICK, "clock 2; fill 6 | 0 -; fill 9 | 0 -; fill 10 | 0 -; fill 8 | 0 -; fill 24 | 0 -"),
+                (look(0, 6), "fetch 3"),
+                (look(1, 0), "fetch 3"),
+                (look(3, 0), "fetch 3"),
+            ],
+        ),
+        case(
+            "a wait is ready at once by a seen page, and at level 3 by a dormant one",
+            vec![
+                (start(2, 2), "started 0"),
+                (begin(0, 0, 20), "begun 0"),
+                (begin(0, 1, 30), "begun 0"),
+                (begin(3, 0, 10), "begun 0"),
+                (write(0, 0, 7), "fetch 2 | 0 -"),
+                (read(0, 1, 7), "wait 0"),
+                (TICK, "clock 1"),
+                (TICK, "clock 2"),
+                (look(0, 1), "wait 0"),
+                (unpin(0, 0, 7), "unpinned 0"),
+                (TICK, "clock 3; fill 1 | 0 -"),
+                (look(0, 1), "idle 0"),
+                (write(0, 0, 7), "ready 0 | 0 -"),
+                (look(0, 1), "taken 0"),
+                (read(3, 0, 7), "wait 0"),
+                (end(0, 0), "ended 0"),
+                (view(3, 7), "dormant 2"),
+                (TICK, "clock 4; fill 24 | 0 -"),
+                (look(3, 0), "idle 0"),
+            ],
+        ),
+        case(
+            "a row is filled with the page that an earlier fill wrote back",
+            vec![
+                (start(2, 1), "started 0"),
+                (begin(0, 0, 10), "begun 0"),
+                (begin(0, 1, 20), "begun 0"),
+                (begin(0, 2, 30), "begun 0"),
+                (begin(0, 3, 40), "begun 0"),
+                (write(0, 0, 7), "fetch 1 | 0 -"),
+                (TICK, "clock 1"),
+                (read(0, 0, 8), "fetch 2 | 1 -"),
+                (TICK, "clock 2"),
+                (read(0, 3, 8), "ready 0 | 1 -"),
+                (unpin(0, 3, 8), "unpinned 0"),
+                (read(0, 1, 9), "wait 0"),
+                (read(0, 2, 7), "wait 0"),
+                (end(0, 0), "ended 0"),
+                (TICK, "clock 3; fill 1 | 0 7; fill 2 | 1 -"),
+                (view(0, 7), "read 4"),
+                (look(0, 3), "idle 0"),
+                (view(0, 8), "unseen 0"),
+            ],
+        ),
+        case(
+            "a try in vain leaves the row, and a worse row can be filled after it",
+            vec![
+                (start(2, 1), "started 0"),
+                (begin(0, 0, 10), "begun 0"),
+                (begin(0, 1, 20), "begun 0"),
+                (begin(0, 2, 30), "begun 0"),
+                (write(0, 0, 7), "fetch 1 | 0 -"),
+                (TICK, "clock 1"),
+                (write(0, 0, 8), "fetch 2 | 1 -"),
+                (TICK, "clock 2"),
+                (read(0, 1, 7), "wait 0"),
+                (read(0, 2, 8), "wait 0"),
+                (unpin(0, 0, 8), "unpinned 0"),
+                (TICK, "clock 3; fill 2 | 1 -"),
+                (look(0, 1), "wait 0"),
+                (look(0, 2), "idle 0"),
+            ],
+        ),
     ]
+}
+
+/// Calls, and the entries that the last one, a tick, must put into its list, byte by byte.
+fn lists() -> Vec<(&'static str, Vec<Call>, Vec<[u8; ENTRY]>)> {
+    // A row of level 0 keeps slot 0. In slot 1 a row of level 2 has written page 2,500, the waits come,
+    // and it ends.
+    let after_write = |waits: &[Call], tick: Call| {
+        let mut calls =
+            vec![start(2, 1), begin(0, 0, 9), read(0, 0, 7), begin(2, 4, 40), write(2, 4, 2500), TICK];
+        calls.extend(waits);
+        calls.extend([end(2, 4), tick]);
+        calls
+    };
+    let one = [begin(2, 5, 50), read(2, 5, 3000)];
+    let three = [
+        begin(3, 6, 8),
+        read(3, 6, 3000),
+        begin(2, 5, 50),
+        read(2, 5, 3000),
+        begin(2, 3, 49),
+        read(2, 3, 3000),
+    ];
+    vec![
+        ("nothing waits", vec![start(1, 1), TICK], vec![]),
+        ("a page is written back", after_write(&one, TICK), vec![[2, 5, 1, 2, 0x0B, 0xB8, 0x09, 0xC4]]),
+        ("a longer list", after_write(&one, tick_with(300)), vec![[2, 5, 1, 2, 0x0B, 0xB8, 0x09, 0xC4]]),
+        (
+            "three entries, the first with a page written back",
+            after_write(&three, TICK),
+            vec![
+                [2, 3, 1, 2, 0x0B, 0xB8, 0x09, 0xC4],
+                [2, 5, 1, 1, 0x0B, 0xB8, 0, 0],
+                [3, 6, 1, 1, 0x0B, 0xB8, 0, 0],
+            ],
+        ),
+        (
+            "page 0 is written back",
+            vec![
+                start(1, 1),
+                begin(0, 0, 9),
+                write(0, 0, 0),
+                TICK,
+                begin(1, 7, 9),
+                write(1, 7, 4095),
+                end(0, 0),
+                TICK,
+            ],
+            vec![[1, 7, 0, 2, 0x0F, 0xFF, 0, 0]],
+        ),
+        (
+            "page 0 comes in, and none is written back",
+            vec![
+                start(1, 1),
+                begin(0, 0, 9),
+                read(0, 0, 4),
+                begin(3, 1, 9),
+                read(3, 1, 0),
+                end(0, 0),
+                TICK,
+            ],
+            vec![[3, 1, 0, 1, 0, 0, 0, 0]],
+        ),
+    ]
+}
+
+/// Makes the calls, and compares the list of the last with the entries, the rest of its 256 bytes with
+/// zero and bytes past them with those before.
+fn play_list(manager: &Manager, calls: &[Call], entries: &[[u8; ENTRY]]) -> Result<u64, String> {
+    let mut lent = Lent::new(1, SIZE, 0xEE);
+    let mut state = State::fresh(1, 1);
+    let mut before = Vec::new();
+    for call in calls {
+        lent.renew_list(call);
+        before = lent.list().to_vec();
+        let (got, expected) = (lent.call(manager, call), state.call(call, &mut Tally::default()));
+        if got.status != 0 || got != expected {
+            return Err(format!("{call:?}: {got:?} instead of {expected:?}"));
+        }
+    }
+    let mut wanted = entries.concat();
+    wanted.resize(LIST, 0);
+    wanted.extend(&before[LIST..]);
+    if lent.list() != wanted {
+        return Err(difference(lent.list(), &wanted));
+    }
+    Ok(calls.len() as u64)
 }
 
 /// Areas by their names, and whether they are sound.
@@ -805,7 +1104,7 @@ fn areas() -> Vec<(&'static str, Vec<u8>, bool)> {
 
 /// Plays every case through a manager and through the model.
 pub fn play_cases(manager: &Manager) -> Result<(), String> {
-    println!("cases: session S, M1 to M11, the borders, the refusals; {}", manager.name);
+    println!("cases: session S, M1 to M11, the borders, fills, the refusals; {}", manager.name);
     let mut made = 0;
     for case in cases() {
         let mut lent = Lent::new(3, SIZE + 5, 0xEE);
@@ -818,11 +1117,7 @@ pub fn play_cases(manager: &Manager) -> Result<(), String> {
             let mut bytes = lent.state_bytes().to_vec();
             let fault = |text: String| format!("cases: {}, step {}: {text}", case.name, number + 1);
             let expected = model::call(&mut bytes, call, &mut Tally::default());
-            let wanted =
-                if line.contains('|') { line.to_string() } else { format!("{line} | - -") };
-            if expected.line() != wanted {
-                return Err(fault(format!("model: {} instead of {wanted}", expected.line())));
-            }
+            as_said(&expected, line).map_err(|text| fault(format!("model: {text}")))?;
             check(manager, &mut lent, &bytes, call, &expected).map_err(fault)?;
             made += 1;
         }
@@ -830,30 +1125,35 @@ pub fn play_cases(manager: &Manager) -> Result<(), String> {
     // Refusal 1: an area of 100 bytes.
     let mut lent = Lent::new(0, 100, 0xEE);
     let before = lent.state_bytes().to_vec();
-    for call in [start(1, 1), start(65, 256), begin(4, 8, 0), TICK, count(9), borders(1, 0, 0)] {
+    let short = [start(1, 1), start(65, 256), begin(4, 8, 0), TICK, tick_with(255), count(9), borders(1, 0, 0)];
+    for call in short {
         check(manager, &mut lent, &before, &call, &Outcome::refused(1))
             .map_err(|text| format!("cases: refusal 1: {text}"))?;
         let got = model::call(&mut before.clone(), &call, &mut Tally::default());
         if got != Outcome::refused(1) {
-            return Err(format!("cases: refusal 1: model: {}", got.line()));
+            return Err(format!("cases: refusal 1: model: {got:?}"));
         }
         made += 1;
     }
     for (name, area, sound) in areas() {
-        for call in [look(0, 0), borders(1, 0, 0), borders(1, 2, 3)] {
+        for call in [look(0, 0), borders(1, 0, 0), borders(1, 2, 3), TICK, tick_with(255)] {
             let mut lent = Lent::new(0, SIZE, 0xEE);
             lent.area().copy_from_slice(&area);
             let mut bytes = area.clone();
             let fault = |text: String| format!("cases: {name}: {text}");
             let expected = model::call(&mut bytes, &call, &mut Tally::default());
             if (expected == Outcome::refused(1)) == sound {
-                return Err(fault(format!("model: {}", expected.line())));
+                return Err(fault(format!("model: {expected:?}")));
             }
             check(manager, &mut lent, &bytes, &call, &expected).map_err(fault)?;
             made += 1;
         }
     }
-    println!("  {made} calls as documents 01 and 02 (T-01, T-02) say");
+    for (name, calls, entries) in lists() {
+        made += play_list(manager, &calls, &entries)
+            .map_err(|text| format!("cases: list, {name}: {text}"))?;
+    }
+    println!("  {made} calls as documents 01 and 02 (T-01, T-02, T-04) say");
     Ok(())
 }
 
@@ -869,9 +1169,8 @@ mod tests {
         for (number, (call, line)) in case.steps.iter().enumerate() {
             let before = state.clone();
             let outcome = state.call(call, &mut Tally::default());
-            let wanted =
-                if line.contains('|') { line.to_string() } else { format!("{line} | - -") };
-            assert_eq!(outcome.line(), wanted, "{name}, step {}", number + 1);
+            let said = as_said(&outcome, line);
+            assert!(said.is_ok(), "{name}, step {}: {said:?}", number + 1);
             assert!(state.broken().is_empty(), "{name}, step {}", number + 1);
             assert_eq!(model::read(&state.bytes()), Ok(state.clone()));
             if outcome.status != 0 {
@@ -910,13 +1209,16 @@ mod tests {
         refusal_13: "refusal 13";
         refusal_14: "refusal 14";
         refusal_15: "refusal 15";
-        refusal_16: "refusal 16";
         refusal_17: "refusal 17";
         refusal_19: "refusal 19";
         refusal_20:
             "refusal 20",
             "refusal 20 where the row has ended",
             "refusal 20 where the row is late";
+        refusal_21:
+            "refusal 21",
+            "refusal 21 leaves fetching, waiting and late rows",
+            "refusal 21 comes before 17";
         both_sides_of_a_border:
             "borders until set",
             "borders with classes of two pages",
@@ -940,8 +1242,35 @@ mod tests {
             "due and late on one tick leaves the page dirty",
             "a fetch due at its row's deadline is delivered, and the row is late one tick on",
             "fetching and waiting rows are live at their deadlines",
+            "a waiting row is late one tick after its deadline, and is not tried then",
             "an end while fetching leaves a dormant page that arrives later, and a clean one",
             "a row's own unpinned slot can be taken";
+        fills:
+            "two rows wait for one slot, and the better one has it",
+            "a better row's try kills a worse waiting row by its pin, and it is not tried",
+            "a better row's try kills a worse waiting row by its slot",
+            "best priority first: level, then deadline, then row number",
+            "a wait is ready at once by a seen page, and at level 3 by a dormant one",
+            "a row is filled with the page that an earlier fill wrote back",
+            "a try in vain leaves the row, and a worse row can be filled after it";
+    }
+
+    #[test]
+    fn lists_byte_by_byte() {
+        for (name, calls, entries) in lists() {
+            let mut state = State::fresh(1, 1);
+            let (last, calls) = calls.split_last().unwrap();
+            for call in calls {
+                state.call(call, &mut Tally::default());
+            }
+            let outcome = state.call(last, &mut Tally::default());
+            let Call::Tick { list: length } = *last else { panic!("{name}") };
+            let list = model::list_after(last, &outcome, &vec![0xA5; length]);
+            let mut wanted = entries.concat();
+            wanted.resize(LIST, 0);
+            wanted.resize(length, 0xA5);
+            assert_eq!(list, wanted, "{name}");
+        }
     }
 
     #[test]
@@ -961,13 +1290,14 @@ mod tests {
         for length in [0, 1, 100, 65_535] {
             let mut area = State::fresh(1, 1).bytes();
             area.truncate(length);
-            for call in [start(1, 1), start(65, 256), TICK, count(4), begin(4, 8, 0), borders(1, 0, 0)] {
+            for call in [start(1, 1), start(65, 256), TICK, tick_with(0), count(4), begin(4, 8, 0), borders(1, 0, 0)] {
                 assert_eq!(model::call(&mut area, &call, &mut Tally::default()), Outcome::refused(1));
             }
         }
         // An unsound area is refused by every call but start.
         let mut area = vec![0; SIZE];
         assert_eq!(model::call(&mut area, &TICK, &mut Tally::default()), Outcome::refused(1));
+        assert_eq!(model::call(&mut area, &tick_with(255), &mut Tally::default()), Outcome::refused(1));
         assert_eq!(area, vec![0; SIZE]);
         assert_eq!(model::call(&mut area, &start(1, 1), &mut Tally::default()), Outcome::said(STARTED, 0));
         assert_eq!(area, State::fresh(1, 1).bytes());

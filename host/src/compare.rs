@@ -2,9 +2,9 @@
 
 use crate::calls::*;
 use crate::lent::{difference, Lent};
-use crate::model::{self, State, Tally, EVENTS};
+use crate::model::{self, list_after, State, Tally, EVENTS};
 use crate::random::Random;
-use crate::scenario::{wild, Scenario};
+use crate::scenario::{wild, Scenario, KIND_TICK};
 
 pub const CALLS: u64 = 1_000_000;
 
@@ -29,7 +29,7 @@ fn step(
     Ok(expected)
 }
 
-/// Makes the call and compares outcome, area and guards.
+/// Makes the call and compares outcome, area, list and guards.
 pub fn check(
     manager: &Manager,
     lent: &mut Lent,
@@ -37,13 +37,19 @@ pub fn check(
     call: &Call,
     expected: &Outcome,
 ) -> Result<(), String> {
-    let got = manager.call(lent.area(), call);
+    lent.renew_list(call);
+    let list = list_after(call, expected, lent.list());
+    let got = lent.call(manager, call);
     if got != *expected {
         return Err(format!("{call:?}: {got:?} instead of {expected:?}"));
     }
     if lent.state_bytes() != bytes {
         let text = difference(lent.state_bytes(), bytes);
-        return Err(format!("{call:?}, {}: {text}", expected.line()));
+        return Err(format!("{call:?}, {}: {text}", expected.lines().join("; ")));
+    }
+    if lent.list() != list {
+        let text = difference(lent.list(), &list);
+        return Err(format!("{call:?}, {}: in the list {text}", expected.lines().join("; ")));
     }
     lent.guards().map_err(|text| format!("{call:?}: {text}"))
 }
@@ -74,7 +80,7 @@ fn refused_area(
             }
         }
         if let Call::Start { .. } = call {
-            call = Call::Tick;
+            call = scenario.call_of_kind(random, KIND_TICK, state, LEVELS);
         }
     }
     let before = lent.state_bytes().to_vec();
@@ -156,7 +162,7 @@ pub fn compare(manager: &Manager, calls: u64, seed: u64) -> Result<(), String> {
             .map_err(|text| format!("compare: {text}"))?;
         runs += 1;
     }
-    println!("  {made} calls in {runs} runs agree in status, answer and area");
+    println!("  {made} calls in {runs} runs agree in status, answer, area and list");
     let mut missing = Vec::new();
     let mut list = |title: &str, names: &[(String, u64)]| {
         println!("  {title}");
@@ -172,9 +178,9 @@ pub fn compare(manager: &Manager, calls: u64, seed: u64) -> Result<(), String> {
     };
     list("calls", &named(&KINDS, &tally.kinds));
     list("words", &named(&WORDS, &tally.words));
-    // 18 is the player's.
-    let refusals: Vec<(String, u64)> = (1..=20)
-        .filter(|number| *number != 18)
+    // 16 is not used, and 18 is the player's.
+    let refusals: Vec<(String, u64)> = (1..=21)
+        .filter(|number| ![16, 18].contains(number))
         .map(|number| (format!("refusal {number}"), tally.refusals[number]))
         .collect();
     list("refusals", &refusals);

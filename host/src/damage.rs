@@ -1,5 +1,5 @@
-//! Damaged areas. Unsound ones must be refused with 1 and left as they are, sound ones must be
-//! answered as the model answers them.
+//! Damaged areas. Unsound ones must be refused with 1, whatever list a tick is lent, and left as they
+//! are, and so the list; sound ones must be answered as the model answers them.
 
 use crate::calls::*;
 use crate::compare::check;
@@ -9,7 +9,7 @@ use crate::model::{
     HEADER_END, HOLDINGS_AT, ROWS_AT, SLOTS_AT, TAIL_AT,
 };
 use crate::random::Random;
-use crate::scenario::{made_up, wild, Scenario};
+use crate::scenario::{made_up, wild, Scenario, KIND_BORDERS, KIND_TICK};
 use std::collections::BTreeMap;
 
 pub const AREAS: u64 = 120_000;
@@ -267,7 +267,7 @@ fn damage(random: &mut Random, bytes: &mut [u8], state: &State) {
 
 /// A call that shows as much as possible of a state: half of them on what is there.
 fn some_call(random: &mut Random, scenario: &Scenario, state: &State) -> Call {
-    let kind = random.pick(&[0, 1, 2, 2, 2, 3, 3, 4, 5, 6, 6, 7, 8, 9, 10]);
+    let kind = random.pick(&[0, 1, 2, 2, 2, 3, 4, KIND_TICK, KIND_TICK, KIND_TICK, 6, 7, 8, KIND_BORDERS]);
     scenario.call_of_kind(random, kind, state, LEVELS)
 }
 
@@ -276,6 +276,11 @@ struct Found {
     sound: u64,
     accepted: u64,
     unsound: u64,
+    /// Ticks on unsound areas, with a list that is too short and with one that is not.
+    ticks: [u64; 2],
+    /// Ticks on sound areas that are refused by 21, and ticks that filled something.
+    short: u64,
+    filled: u64,
     started: u64,
     alone: BTreeMap<&'static str, u64>,
 }
@@ -316,6 +321,8 @@ fn call_on(
             found.sound += 1;
             let mut next = sound.clone();
             let expected = next.call(&call, tally);
+            found.short += (expected.status == 21) as u64;
+            found.filled += !expected.fills.is_empty() as u64;
             if expected.status == 0 {
                 found.accepted += 1;
                 bytes = next.bytes();
@@ -334,6 +341,9 @@ fn call_on(
                 Call::Start { .. } => found.started += 1,
                 _ => {
                     found.unsound += 1;
+                    if let Call::Tick { list } = call {
+                        found.ticks[(list >= LIST) as usize] += 1;
+                    }
                     if expected != Outcome::refused(1) || bytes != before {
                         return Err(format!("{call:?}: the model takes an unsound area"));
                     }
@@ -406,6 +416,10 @@ pub fn damage_areas(manager: &Manager, areas: u64, seed: u64) -> Result<(), Stri
         "  {} unsound areas refused and left alone, {} started anew, {} sound areas ({} calls accepted) agree",
         found.unsound, found.started, found.sound, found.accepted
     );
+    println!(
+        "  ticks: {} refused by 1 with a short list and {} with a long one, {} refused by 21, {} filled something",
+        found.ticks[0], found.ticks[1], found.short, found.filled
+    );
     println!("  how often each clause of soundness was the only one named as broken");
     let mut missing = Vec::new();
     for clause in CLAUSES {
@@ -415,9 +429,14 @@ pub fn damage_areas(manager: &Manager, areas: u64, seed: u64) -> Result<(), Stri
             missing.push(*clause);
         }
     }
-    if missing.is_empty() {
-        Ok(())
-    } else {
-        Err(format!("damage: seed {seed}: these were never the only one named: {}", missing.join("; ")))
+    if !missing.is_empty() {
+        return Err(format!(
+            "damage: seed {seed}: these were never the only one named: {}",
+            missing.join("; ")
+        ));
     }
+    if found.ticks.contains(&0) || found.short == 0 || found.filled == 0 {
+        return Err(format!("damage: seed {seed}: a sort of tick never occurred"));
+    }
+    Ok(())
 }

@@ -1,12 +1,13 @@
-//! Short, long and unaligned areas, starts on any former content, and areas between pages of memory
-//! that may not be touched.
+//! Short, long and unaligned areas and lists, starts on any former content, and areas and lists between
+//! pages of memory that may not be touched.
 
 use crate::calls::*;
 use crate::compare::check;
 use crate::lent::Lent;
-use crate::model::{self, State, Tally};
+use crate::model::{self, list_after, State, Tally};
 use crate::random::Random;
 use crate::scenario::Scenario;
+use crate::states::more_states;
 
 const LEVELS: &[u64] = &[0, 1, 2, 3];
 
@@ -19,10 +20,9 @@ fn every_call() -> Vec<Call> {
             Call::Start { slots: n(4), delay: n(2) },
             Call::Begin { level: n(1), row: n(2), deadline: n(50) },
             Call::Request { level: n(1), row: n(0), page: n(1024), mode: n(0) },
-            Call::Retry { level: n(1), row: n(1) },
             Call::Unpin { level: n(1), row: n(0), page: n(1024) },
             Call::End { level: n(1), row: n(0) },
-            Call::Tick,
+            Call::Tick { list: if wild == 0 { LIST } else { LIST - 1 } },
             Call::Look { level: n(1), row: n(0) },
             Call::View { level: n(1), page: n(1024) },
             Call::Count { level: n(1) },
@@ -134,9 +134,14 @@ pub fn lengths(manager: &Manager, seed: u64) -> Result<(), String> {
     let (before, rest) = numbers.split_at_mut(4);
     let (answer, after) = rest.split_at_mut(4);
     let mut bytes = sound[1].bytes();
-    (manager.tick)(&mut bytes, answer.try_into().unwrap());
+    let mut list = [0; LIST];
+    (manager.tick)(&mut bytes, &mut list, answer.try_into().unwrap());
     (manager.count)(&bytes, 2, answer.try_into().unwrap());
-    (manager.tick)(&mut bytes[..100], answer.try_into().unwrap());
+    (manager.tick)(&mut bytes, &mut list[..255], answer.try_into().unwrap());
+    if answer != [0, 21, 0, 0] {
+        return Err(format!("lengths: answer {answer:?} for a short list"));
+    }
+    (manager.tick)(&mut bytes[..100], &mut list, answer.try_into().unwrap());
     if before.iter().chain(after.iter()).any(|number| *number != 0x5A5A_5A5A_5A5A_5A5A) {
         return Err("lengths: numbers beside the answer were written".to_string());
     }
@@ -144,8 +149,55 @@ pub fn lengths(manager: &Manager, seed: u64) -> Result<(), String> {
         return Err(format!("lengths: answer {answer:?} for a short area"));
     }
 
+    lists(manager, seed)?;
+
     #[cfg(target_os = "linux")]
-    fenced::fenced(manager, &sound)?;
+    {
+        fenced::fenced(manager, &sound)?;
+        fenced::fenced_lists(manager, &ticking(seed))?;
+    }
+    Ok(())
+}
+
+/// States for ticks: none waits, some wait and all wait, each also at the last clock.
+fn ticking(seed: u64) -> Vec<State> {
+    let mut list = vec![State::fresh(4, 2), reached(seed, 3), reached(seed, 64)];
+    list.extend(more_states().into_iter().map(|(_, state)| state));
+    let mut last = State::fresh(4, 2);
+    last.clock = LAST_CLOCK;
+    list.push(last);
+    list
+}
+
+/// Ticks with lists of every length up to 255, refused by 21 also at the last clock, and with longer
+/// ones at any address, whose bytes past 256 are left alone.
+fn lists(manager: &Manager, seed: u64) -> Result<(), String> {
+    let (mut short, mut long, mut filled) = (0, 0, 0);
+    for state in ticking(seed) {
+        let mut lent = Lent::new(5, SIZE, 0x77);
+        lent.area().copy_from_slice(&state.bytes());
+        for length in 0..LIST {
+            let before = lent.state_bytes().to_vec();
+            check(manager, &mut lent, &before, &Call::Tick { list: length }, &Outcome::refused(21))
+                .map_err(|text| format!("lengths: list of {length} bytes: {text}"))?;
+            short += 1;
+        }
+        // Each is lent at several addresses.
+        for length in (LIST..LIST + 20).chain([511, 512, 1000, 4096, SIZE, 1 << 20]) {
+            for _ in 0..if length > 2000 { 2 } else { 12 } {
+                lent.area().copy_from_slice(&state.bytes());
+                compare_on(manager, &mut lent, &Call::Tick { list: length })
+                    .map_err(|text| format!("lengths: list of {length} bytes: {text}"))?;
+                long += 1;
+                filled += (lent.list()[..LIST].iter().any(|byte| *byte != 0)
+                    && state.clock < LAST_CLOCK) as u64;
+            }
+        }
+    }
+    if filled < long / 10 {
+        return Err(format!("lengths: {filled} of {long} ticks filled something"));
+    }
+    println!("  {short} ticks with short lists refused, {long} with long and unaligned ones agree");
     Ok(())
 }
 
@@ -168,7 +220,7 @@ mod fenced {
     const PRIVATE_ANONYMOUS: i32 = 0x22;
     const FENCE: usize = 65_536;
 
-    /// `SIZE` bytes between two stretches without access.
+    /// `SIZE` bytes between two stretches without access. A list, too, is taken from them.
     struct Field(*mut u8);
 
     impl Field {
@@ -223,7 +275,7 @@ mod fenced {
                             model::call(&mut expected_bytes, &call, &mut Tally::default());
                         let area = if last { field.last(length) } else { field.first(length) };
                         area.copy_from_slice(&bytes[..length]);
-                        let got = manager.call(area, &call);
+                        let got = manager.call(area, &mut vec![0; call.list_length()], &call);
                         if got != expected || area != expected_bytes {
                             return Err(format!(
                                 "lengths: fenced area of {length} bytes: {call:?}: {got:?} instead of {expected:?}, or other bytes"
@@ -253,6 +305,34 @@ mod fenced {
             field.allow(READ_WRITE);
         }
         println!("  {made} calls on fenced areas agree");
+        Ok(())
+    }
+
+    /// Ticks with lists that begin or end at memory without access.
+    pub fn fenced_lists(manager: &Manager, states: &[State]) -> Result<(), String> {
+        let mut field = Field::new();
+        let mut made = 0;
+        for length in [0, 1, 7, 8, 100, 248, 255, LIST, LIST + 1, 300, 4_096, SIZE] {
+            let call = Call::Tick { list: length };
+            for state in states {
+                for last in [false, true] {
+                    let mut area = state.bytes();
+                    let mut expected_area = area.clone();
+                    let expected = model::call(&mut expected_area, &call, &mut Tally::default());
+                    let list = if last { field.last(length) } else { field.first(length) };
+                    list.fill(0xB6);
+                    let expected_list = list_after(&call, &expected, list);
+                    let got = manager.call(&mut area, list, &call);
+                    if got != expected || area != expected_area || list != expected_list {
+                        return Err(format!(
+                            "lengths: fenced list of {length} bytes: {got:?} instead of {expected:?}, or other bytes"
+                        ));
+                    }
+                    made += 1;
+                }
+            }
+        }
+        println!("  {made} ticks with fenced lists agree");
         Ok(())
     }
 }

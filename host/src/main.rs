@@ -30,11 +30,11 @@ const SEED: u64 = 1;
 
 const USAGE: &str = "\
 host [all]              every test below with its default size
-host cases              session S, M1 to M11, borders and the refusals
+host cases              session S, M1 to M11, borders, fills and the refusals
 host compare [N [SEED]] N random calls, model against manager
 host pairs [N [SEED]]   N pairs of runs that differ in higher calls and in borders
 host damage [N [SEED]]  N damaged areas
-host lengths [SEED]     short, long and unaligned areas
+host lengths [SEED]     short, long and unaligned areas and lists
 host stack              the stack that each call needs
 host bench              the time that each call needs
 host record N SEED FILE N random records for the player in FILE, its output in FILE.out

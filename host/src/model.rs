@@ -1,4 +1,4 @@
-//! A model of documents 01 and 02 (T-01, T-02), written from their text with maps and lists. It is
+//! A model of documents 01 and 02 (T-01, T-02, T-04), written from their text with maps and lists. It is
 //! meant to be read beside the documents, not to be fast.
 
 use crate::calls::*;
@@ -136,12 +136,17 @@ impl Row {
     }
 }
 
+/// Of the refusals that apply the smallest number is given, but 21 stands between 1 and 17.
+fn given(found: &BTreeSet<u32>) -> Option<u32> {
+    found.iter().copied().min_by_key(|number| if *number == 21 { (1, 21) } else { (*number, 0) })
+}
+
 /// How often each thing happened.
 #[derive(Clone, Default)]
 pub struct Tally {
-    pub kinds: [u64; 11],
+    pub kinds: [u64; 10],
     pub words: [u64; 20],
-    pub refusals: [u64; 21],
+    pub refusals: [u64; 22],
     pub events: BTreeMap<&'static str, u64>,
 }
 
@@ -229,9 +234,18 @@ pub const EVENTS: &[&str] = &[
     "tick: a row is live at its deadline",
     "tick: due at the deadline and delivered",
     "an unarrived write pin goes",
-    "retry: ready",
-    "retry: fetch",
-    "retry: wait",
+    "tick: refused 21 at the last clock",
+    "tick: a waiting row made ready",
+    "tick: a waiting row made fetching",
+    "tick: a waiting row tried in vain",
+    "tick: a waiting row killed on the way",
+    "tick: a waiting row filled at its deadline",
+    "tick: a fill with a page written back",
+    "tick: a fill by a page that an earlier fill brought in",
+    "tick: two or more fills",
+    "tick: fills of two levels or more",
+    "tick: a fill before one of a smaller row number of its level",
+    "tick: a fill after a try in vain",
 ];
 
 enum Choice {
@@ -323,7 +337,6 @@ impl State {
             if let Some(row) = self.rows.get(&(level, number)) {
                 let free = row.condition == Condition::Free;
                 let killed = matches!(row.condition, Condition::Killed(_));
-                let idle = row.condition == Condition::Idle;
                 let fetching = matches!(row.condition, Condition::Fetching { .. });
                 let waiting = matches!(row.condition, Condition::Waiting { .. });
                 match *call {
@@ -342,11 +355,6 @@ impl State {
                         });
                         refuse(15, !pinned);
                     }
-                    Call::Retry { .. } => {
-                        refuse(9, free);
-                        refuse(10, killed);
-                        refuse(16, idle || fetching);
-                    }
                     Call::End { .. } => refuse(9, free),
                     _ => {}
                 }
@@ -360,7 +368,8 @@ impl State {
             refuse(13, mode == 0 && !self.allowed(level, page, Mode::Read));
             refuse(14, mode == 1 && !self.allowed(level, page, Mode::Write));
         }
-        if *call == Call::Tick {
+        if let Call::Tick { list } = *call {
+            refuse(21, list < LIST);
             refuse(17, self.clock == LAST_CLOCK);
         }
         if let Call::Borders { first, second, third } = *call {
@@ -375,8 +384,12 @@ impl State {
 
     /// A call on this state, which must be sound.
     pub fn call(&mut self, call: &Call, tally: &mut Tally) -> Outcome {
-        let refusal = self.refusals(call).first().copied();
+        let found = self.refusals(call);
+        let refusal = given(&found);
         self.note_borders(call, refusal, tally);
+        if found.contains(&17) && found.contains(&21) {
+            tally.note("tick: refused 21 at the last clock");
+        }
         let outcome = match refusal {
             Some(number) => Outcome::refused(number),
             None => self.accepted(call, tally),
@@ -447,18 +460,6 @@ impl State {
                 let mode = if mode == 0 { Mode::Read } else { Mode::Write };
                 self.request(id(level, row), page.into(), mode, tally)
             }
-            Call::Retry { level, row } => {
-                let Condition::Waiting { page, mode } = self.rows[&id(level, row)].condition else {
-                    unreachable!("a retry by a row that does not wait is refused");
-                };
-                let outcome = self.request(id(level, row), page, mode, tally);
-                tally.note(match outcome.answer[0] {
-                    READY => "retry: ready",
-                    FETCH => "retry: fetch",
-                    _ => "retry: wait",
-                });
-                outcome
-            }
             Call::Unpin { level, row, page } => {
                 let slot = self.slot_of(page.into()).unwrap();
                 let row = id(level, row);
@@ -472,7 +473,7 @@ impl State {
                 self.rows.insert(id(level, row), Row::FREE);
                 Outcome::said(ENDED, 0)
             }
-            Call::Tick => self.tick(tally),
+            Call::Tick { .. } => self.tick(tally),
             Call::Look { level, row } => self.look(id(level, row)),
             Call::View { level, page } => self.view(level.into(), page.into()),
             Call::Count { level } => {
@@ -517,7 +518,71 @@ impl State {
                 }
             }
         }
-        Outcome::said(CLOCK, clock)
+        let mut outcome = Outcome::said(CLOCK, clock);
+        outcome.fills = self.try_waiting(tally);
+        outcome
+    }
+
+    /// After the three steps of a tick each waiting row is tried a single time, best priority first,
+    /// skipping rows killed on the way.
+    fn try_waiting(&mut self, tally: &mut Tally) -> Vec<Fill> {
+        let mut waiting: Vec<RowId> = self
+            .rows
+            .iter()
+            .filter(|(_, row)| matches!(row.condition, Condition::Waiting { .. }))
+            .map(|(id, _)| *id)
+            .collect();
+        waiting.sort_by_key(|id| self.priority(*id));
+        let mut fills: Vec<Fill> = Vec::new();
+        let mut in_vain = false;
+        for id in waiting {
+            let Condition::Waiting { page, mode } = self.rows[&id].condition else {
+                tally.note("tick: a waiting row killed on the way");
+                continue;
+            };
+            let tried = self.request(id, page, mode, tally);
+            tally.note(match tried.answer[0] {
+                READY => "tick: a waiting row made ready",
+                FETCH => "tick: a waiting row made fetching",
+                _ => "tick: a waiting row tried in vain",
+            });
+            if tried.answer[0] == WAIT {
+                in_vain = true;
+                continue;
+            }
+            let (slot, back) = (tried.answer[2] - 1, tried.answer[3].checked_sub(1));
+            let fill = Fill { level: id.0, row: id.1, slot, page, back };
+            self.note_fill(&fill, &fills, tally);
+            if in_vain {
+                tally.note("tick: a fill after a try in vain");
+            }
+            fills.push(fill);
+        }
+        if fills.len() > 1 {
+            tally.note("tick: two or more fills");
+        }
+        if fills.iter().any(|fill| fill.level != fills[0].level) {
+            tally.note("tick: fills of two levels or more");
+        }
+        fills
+    }
+
+    /// Notes a fill, before the earlier ones of its tick are joined by it.
+    fn note_fill(&self, fill: &Fill, earlier: &[Fill], tally: &mut Tally) {
+        if self.rows[&(fill.level, fill.row)].deadline == self.clock {
+            tally.note("tick: a waiting row filled at its deadline");
+        }
+        if fill.back.is_some() {
+            tally.note("tick: a fill with a page written back");
+        }
+        if self.filled[&fill.slot].arrival == self.clock + self.delay
+            && earlier.iter().any(|other| other.page == fill.page)
+        {
+            tally.note("tick: a fill by a page that an earlier fill brought in");
+        }
+        if earlier.iter().any(|other| other.level == fill.level && other.row > fill.row) {
+            tally.note("tick: a fill before one of a smaller row number of its level");
+        }
     }
 
     fn look(&self, id: RowId) -> Outcome {
@@ -594,7 +659,7 @@ impl State {
         self.rows.insert(id, Row { condition: Condition::Killed(cause), deadline: 0 });
     }
 
-    // Request and retry, steps 1 to 4.
+    // A request, or the try of a waiting row's stored one: steps 1 to 4.
 
     fn request(&mut self, me: RowId, page: u64, mode: Mode, tally: &mut Tally) -> Outcome {
         let Some(slot) = self.slot_of(page) else {
@@ -1273,7 +1338,31 @@ impl State {
     }
 }
 
-/// A call on lent bytes, sound or not.
+// The list of a tick.
+
+/// Level, row, slot, back flag, page, page written back or 0.
+fn entry(fill: &Fill) -> [u8; ENTRY] {
+    let byte = |number: u64| u8::try_from(number).unwrap();
+    let pair = |number: u64| u16::try_from(number).unwrap().to_be_bytes();
+    let flag = if fill.back.is_some() { 2 } else { 1 };
+    let (page, back) = (pair(fill.page), pair(fill.back.unwrap_or(0)));
+    let (level, row, slot) = (byte(fill.level), byte(fill.row), byte(fill.slot));
+    [level, row, slot, flag, page[0], page[1], back[0], back[1]]
+}
+
+/// What the call leaves of these bytes of a list.
+pub fn list_after(call: &Call, outcome: &Outcome, before: &[u8]) -> Vec<u8> {
+    let mut list = before.to_vec();
+    if outcome.status == 0 && matches!(call, Call::Tick { .. }) {
+        list[..LIST].fill(0);
+        for (place, fill) in list.chunks_mut(ENTRY).zip(&outcome.fills) {
+            place.copy_from_slice(&entry(fill));
+        }
+    }
+    list
+}
+
+/// A call on a lent area, sound or not. `list_after` has what becomes of a list.
 pub fn call(area: &mut [u8], call: &Call, tally: &mut Tally) -> Outcome {
     if area.len() < SIZE {
         let outcome = Outcome::refused(1);

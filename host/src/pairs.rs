@@ -1,6 +1,7 @@
-//! Demand 3 over pairs of runs: the calls of levels up to L and the ticks are the same in both, the
-//! calls of higher levels and the borders set are not. Where both runs end with the same borders,
-//! what levels up to L are told must be the same.
+//! Demand 3 over pairs of runs: the calls of levels up to L and the ticks, with the lengths of their
+//! lists, are the same in both, the calls of higher levels and the borders set are not. Where both runs
+//! end with the same borders, what levels up to L are told must be the same. What the ticks put into
+//! the lists is the server's, and is not compared.
 
 use crate::calls::*;
 use crate::lent::Lent;
@@ -13,7 +14,7 @@ pub const PAIRS: u64 = 1_000;
 /// A tick, or a call made by level L or below. Starts and borders are never kept.
 fn kept(call: &Call, most: u64) -> bool {
     match call {
-        Call::Tick => true,
+        Call::Tick { .. } => true,
         _ => call.level().is_some_and(|level| u64::from(level) <= most),
     }
 }
@@ -44,6 +45,12 @@ struct Side<'a> {
     clock: u64,
     /// What they were told since it was last compared.
     told: Vec<Told>,
+    /// What the last tick put into its list.
+    fills: Vec<Fill>,
+    /// Rows up to L that a tick turned from wait to fetch or to idle.
+    filled: [u64; 2],
+    /// Kept ticks that were refused by 21.
+    short: u64,
     /// Calls that are not kept, borders apart: all, and those accepted.
     higher: [u64; 2],
     borders: [u64; 2],
@@ -53,7 +60,7 @@ impl<'a> Side<'a> {
     fn new(manager: &'a Manager, random: &mut Random, scenario: &Scenario, most: u64) -> Side<'a> {
         let mut lent = Lent::random(random);
         let start = Call::Start { slots: scenario.slots, delay: scenario.delay };
-        manager.call(lent.area(), &start);
+        lent.call(manager, &start);
         Side {
             manager,
             lent,
@@ -62,13 +69,17 @@ impl<'a> Side<'a> {
             pending: Vec::new(),
             clock: 0,
             told: Vec::new(),
+            fills: Vec::new(),
+            filled: [0; 2],
+            short: 0,
             higher: [0; 2],
             borders: [0; 2],
         }
     }
 
     fn ask(&mut self, call: Call) -> Outcome {
-        self.manager.call(self.lent.area(), &call)
+        self.lent.renew_list(&call);
+        self.lent.call(self.manager, &call)
     }
 
     fn look(&mut self, row: (u64, u64)) -> Outcome {
@@ -87,26 +98,34 @@ impl<'a> Side<'a> {
             calls[1] += (outcome.status == 0) as u64;
             return;
         }
+        let tick = matches!(call, Call::Tick { .. });
         let mut fetching_or_waiting = Vec::new();
-        if *call == Call::Tick {
+        if tick {
             for row in self.pending.clone() {
-                if matches!(self.look(row).answer[0], FETCH | WAIT) {
-                    fetching_or_waiting.push(row);
+                let word = self.look(row).answer[0];
+                if matches!(word, FETCH | WAIT) {
+                    fetching_or_waiting.push((row, word));
                 }
             }
         }
         let outcome = self.ask(*call);
         self.told.push(Told::Answer(*call, outcome.told()));
-        if *call == Call::Tick && outcome.status == 0 {
+        self.short += (outcome.status == 21) as u64;
+        if tick && outcome.status == 0 {
             self.clock = outcome.answer[1];
-            for row in &fetching_or_waiting {
-                if self.look(*row).answer[0] == IDLE {
-                    self.told.push(Told::Delivery(*row, self.clock));
-                    self.pending.retain(|other| other != row);
+            for (row, before) in fetching_or_waiting {
+                let word = self.look(row).answer[0];
+                if word == IDLE {
+                    self.told.push(Told::Delivery(row, self.clock));
+                    self.pending.retain(|other| *other != row);
+                }
+                if before == WAIT && matches!(word, FETCH | IDLE) {
+                    self.filled[(word == IDLE) as usize] += 1;
                 }
             }
+            self.fills = outcome.fills.clone();
         }
-        if let Call::Request { level, row, .. } | Call::Retry { level, row } = *call {
+        if let Call::Request { level, row, .. } = *call {
             let row = (level.into(), row.into());
             if outcome.status == 0 {
                 self.pending.retain(|other| *other != row);
@@ -177,7 +196,8 @@ fn higher_call(random: &mut Random, scenario: &Scenario, state: &State, most: u6
 }
 
 /// In what the two runs differed after a kept call.
-const DIFFERENCES: [&str; 4] = ["areas", "slots of pages", "borders", "whether a row has begun"];
+const DIFFERENCES: [&str; 5] =
+    ["areas", "slots of pages", "borders", "whether a row has begun", "the last tick's fills"];
 
 #[derive(Default)]
 struct Found {
@@ -193,8 +213,10 @@ struct Found {
     killed: u64,
     after: u64,
     /// Kept calls after which the runs differed, as `DIFFERENCES` has them, and pairs with such.
-    differed: [u64; 4],
-    pairs_differed: [u64; 4],
+    differed: [u64; 5],
+    pairs_differed: [u64; 5],
+    filled: [u64; 2],
+    short: u64,
 }
 
 fn pair(manager: &Manager, seed: u64, number: u64, found: &mut Found) -> Result<(), String> {
@@ -218,7 +240,7 @@ fn pair(manager: &Manager, seed: u64, number: u64, found: &mut Found) -> Result<
     let opening = random.pick(&[0, 0, 10, 40]);
     let mut kept_calls = 0;
     let mut made = 0;
-    let mut differed = [0; 4];
+    let mut differed = [0; 5];
     let mut difference = None;
     let mut told = Vec::new();
     let length = random.between(40, 220);
@@ -287,6 +309,7 @@ fn pair(manager: &Manager, seed: u64, number: u64, found: &mut Found) -> Result<
                 places(&first.state) != places(&second.state),
                 first.state.borders != second.state.borders,
                 first.state.begun != second.state.begun,
+                first.fills != second.fills,
             ];
             for (times, now) in differed.iter_mut().zip(now) {
                 *times += now as u64;
@@ -306,7 +329,9 @@ fn pair(manager: &Manager, seed: u64, number: u64, found: &mut Found) -> Result<
         for at in 0..2 {
             found.higher[at] += side.higher[at];
             found.borders[at] += side.borders[at];
+            found.filled[at] += side.filled[at];
         }
+        found.short += side.short;
     }
     for at in 0..DIFFERENCES.len() {
         found.differed[at] += differed[at];
@@ -343,6 +368,10 @@ pub fn pairs(manager: &Manager, number: u64, seed: u64) -> Result<(), String> {
         "  {} deliveries, {} waits, {} looks, views and counts afterwards ({} of them taken)",
         found.deliveries, found.waits, found.after, found.killed
     );
+    println!(
+        "  {} waits turned to fetch by a tick and {} to idle; {} ticks refused by 21",
+        found.filled[0], found.filled[1], found.short
+    );
     for (at, name) in DIFFERENCES.iter().enumerate() {
         println!(
             "  after {} kept calls, in {} pairs, the two runs differed in {name}",
@@ -352,6 +381,8 @@ pub fn pairs(manager: &Manager, number: u64, seed: u64) -> Result<(), String> {
     let little = found.compared < number * 3 / 4
         || found.deliveries == 0
         || found.waits == 0
+        || found.filled.contains(&0)
+        || found.short == 0
         || found.pairs_differed.iter().any(|pairs| *pairs < number / 20);
     if number >= 100 && little {
         return Err(format!("pairs: seed {seed}: the runs say nothing"));

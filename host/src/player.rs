@@ -1,4 +1,4 @@
-//! The player of document 01, played by the model, and random records for it.
+//! The player of documents 01 and 02 (T-02, T-04), played by the model, and random records for it.
 
 use crate::calls::*;
 use crate::model::{self, State, Tally};
@@ -14,8 +14,8 @@ const BEGIN: u8 = 1;
 const REQUEST: u8 = 2;
 const UNPIN: u8 = 3;
 const END: u8 = 4;
-const RETRY: u8 = 5;
-const TICK: u8 = 6;
+// Kind 5 is a bad record.
+const KIND_TICK: u8 = 6;
 const LOOK: u8 = 7;
 const VIEW: u8 = 8;
 const COUNT: u8 = 9;
@@ -35,8 +35,8 @@ fn call_of(record: &[u8]) -> Option<Call> {
         REQUEST => Call::Request { level, row, page, mode },
         UNPIN => Call::Unpin { level, row, page },
         END => Call::End { level, row },
-        RETRY => Call::Retry { level, row },
-        TICK => Call::Tick,
+        // The player lends a list that is just long enough.
+        KIND_TICK => TICK,
         LOOK => Call::Look { level, row },
         VIEW => Call::View { level, page },
         COUNT => Call::Count { level },
@@ -45,13 +45,15 @@ fn call_of(record: &[u8]) -> Option<Call> {
     })
 }
 
-/// The header and a line for each record, answered by `call`. Refusal 18 ends them.
+/// The header and the lines of each record, answered by `call`. Refusal 18 ends them.
 fn lines(input: &[u8], mut started: bool, mut call: impl FnMut(&Call) -> Outcome) -> String {
     let mut output = format!("{HEADER}\n");
     for (number, record) in input.chunks(RECORD).enumerate() {
         let taken = call_of(record).filter(|call| started || matches!(call, Call::Start { .. }));
         let outcome = taken.as_ref().map_or(Outcome::refused(18), &mut call);
-        output += &format!("{} {}\n", number + 1, outcome.line());
+        for line in outcome.lines() {
+            output += &format!("{} {line}\n", number + 1);
+        }
         if taken.is_none() {
             break;
         }
@@ -72,7 +74,7 @@ pub fn play_on(area: &mut [u8], started: bool, input: &[u8]) -> String {
 }
 
 /// The record of a call. Fields that its kind does not use come from `unused`. Nothing if a number
-/// does not fit its field.
+/// does not fit its field, or if a tick's list is not the player's.
 pub fn record_of(call: &Call, unused: [u8; RECORD]) -> Option<[u8; RECORD]> {
     let mut record = unused;
     record[0] = 0xC3;
@@ -83,8 +85,8 @@ pub fn record_of(call: &Call, unused: [u8; RECORD]) -> Option<[u8; RECORD]> {
         Call::Request { .. } => REQUEST,
         Call::Unpin { .. } => UNPIN,
         Call::End { .. } => END,
-        Call::Retry { .. } => RETRY,
-        Call::Tick => TICK,
+        Call::Tick { list: LIST } => KIND_TICK,
+        Call::Tick { .. } => return None,
         Call::Look { .. } => LOOK,
         Call::View { .. } => VIEW,
         Call::Count { .. } => COUNT,
@@ -182,7 +184,7 @@ mod tests {
             Call::Start { slots: 1, delay: 1 },
             Call::Begin { level: 1, row: 0, deadline: 100 },
             Call::Request { level: 1, row: 0, page: 1024, mode: 1 },
-            Call::Tick,
+            TICK,
             Call::Begin { level: 0, row: 0, deadline: 90 },
             Call::Count { level: 0 },
             Call::Request { level: 0, row: 0, page: 7, mode: 0 },
@@ -237,9 +239,15 @@ mod tests {
         // wrong mark
         assert_eq!(after_header(&[&[0x5A, 0xC3][..], &start[2..], &start].concat()), last);
         // other kind
-        assert_eq!(after_header(&[&[0xC3, 0x5A, 11][..], &start[3..], &start].concat()), last);
+        for kind in [5, 11, 255] {
+            assert_eq!(after_header(&[&[0xC3, 0x5A, kind][..], &start[3..], &start].concat()), last);
+            assert_eq!(
+                after_header(&[&start[..], &[0xC3, 0x5A, kind], &start[3..], &start].concat()),
+                "1 started 0 | - -\n2 refused 18 | - -\n"
+            );
+        }
         // another kind before an accepted start, even after a refused one
-        let tick = record_of(&Call::Tick, [0; RECORD]).unwrap();
+        let tick = record_of(&TICK, [0; RECORD]).unwrap();
         assert_eq!(after_header(&[tick, start].concat()), last);
         let borders = record_of(&Call::Borders { first: 1, second: 2, third: 3 }, [0; RECORD]).unwrap();
         assert_eq!(after_header(&[borders, start].concat()), last);
@@ -288,14 +296,72 @@ mod tests {
     }
 
     #[test]
+    fn fill_lines() {
+        let request = |level, row, page, mode| Call::Request { level, row, page, mode };
+        let calls = [
+            Call::Start { slots: 2, delay: 3 },
+            Call::Begin { level: 0, row: 1, deadline: 50 },
+            request(0, 1, 7, 1),
+            request(0, 1, 8, 0),
+            TICK,
+            TICK,
+            TICK,
+            request(0, 1, 8, 0),
+            Call::Begin { level: 1, row: 2, deadline: 60 },
+            Call::Begin { level: 3, row: 7, deadline: 55 },
+            request(1, 2, 9, 0),
+            request(3, 7, 8, 0),
+            request(3, 7, 7, 0),
+            Call::End { level: 0, row: 1 },
+            TICK,
+            Call::Look { level: 1, row: 2 },
+            Call::Look { level: 3, row: 7 },
+        ];
+        // Row 1 of level 0 holds both slots. Level 1 waits for a slot; level 3 shares the fetch of
+        // page 8 and so cannot request 7. After the end page 7 is dormant and dirty.
+        let expected = "call word value | slot back
+1 started 0 | - -
+2 begun 0 | - -
+3 fetch 3 | 0 -
+4 refused 11 | - -
+5 clock 1 | - -
+6 clock 2 | - -
+7 clock 3 | - -
+8 fetch 6 | 1 -
+9 begun 0 | - -
+10 begun 0 | - -
+11 wait 0 | - -
+12 fetch 6 | 1 -
+13 refused 11 | - -
+14 ended 0 | - -
+15 clock 4 | - -
+15 fill 10 | 0 7
+16 fetch 7 | - -
+17 fetch 6 | - -
+";
+        assert_eq!(play(&records(&calls, 0)), expected);
+        assert_eq!(play(&records(&calls, 0xFF)), expected);
+        assert_eq!(record_of(&Call::Tick { list: 255 }, [0; RECORD]), None);
+        assert_eq!(record_of(&Call::Tick { list: 257 }, [0; RECORD]), None);
+    }
+
+    #[test]
     fn records_play_through() {
         let bytes = random_records(2000, 5);
         assert_eq!(bytes.len(), 2000 * RECORD);
         let output = play(&bytes);
-        assert_eq!(output.lines().count(), 2001);
+        let fills = output.lines().filter(|line| line.contains(" fill ")).count();
+        assert_eq!(output.lines().count(), 2001 + fills);
+        assert!(fills > 0);
         assert!(!output.contains("refused 18"));
         for answer in [" borders 0 ", " refused 19 ", " refused 20 "] {
             assert!(output.contains(answer), "{answer}");
         }
+        // The manager says the same, with the fills that it puts into the lists.
+        let (mut area, mut list) = (vec![0; SIZE], [0; LIST]);
+        let said = lines(&bytes, false, |call| {
+            crate::MANAGER.call(&mut area, &mut list[..call.list_length()], call)
+        });
+        assert_eq!(said, output);
     }
 }

@@ -7,10 +7,9 @@ mod c {
         pub fn sabre_start(area: *mut u8, len: usize, slots: u32, delay: u32, answer: *mut u64) -> u32;
         pub fn sabre_begin(area: *mut u8, len: usize, level: u32, row: u32, deadline: u32, answer: *mut u64) -> u32;
         pub fn sabre_request(area: *mut u8, len: usize, level: u32, row: u32, page: u32, mode: u32, answer: *mut u64) -> u32;
-        pub fn sabre_retry(area: *mut u8, len: usize, level: u32, row: u32, answer: *mut u64) -> u32;
         pub fn sabre_unpin(area: *mut u8, len: usize, level: u32, row: u32, page: u32, answer: *mut u64) -> u32;
         pub fn sabre_end(area: *mut u8, len: usize, level: u32, row: u32, answer: *mut u64) -> u32;
-        pub fn sabre_tick(area: *mut u8, len: usize, answer: *mut u64) -> u32;
+        pub fn sabre_tick(area: *mut u8, len: usize, list: *mut u8, list_len: usize, answer: *mut u64) -> u32;
         pub fn sabre_look(area: *const u8, len: usize, level: u32, row: u32, answer: *mut u64) -> u32;
         pub fn sabre_view(area: *const u8, len: usize, level: u32, page: u32, answer: *mut u64) -> u32;
         pub fn sabre_count(area: *const u8, len: usize, level: u32, answer: *mut u64) -> u32;
@@ -18,8 +17,8 @@ mod c {
     }
 }
 
-// Safety of all eleven: the library is lent the slice by its address and length and the answer by the
-// address of four numbers, for the time of the call.
+// Safety of all ten: the library is lent the area, and for a tick the list, by address and length and
+// the answer by the address of four numbers, for the time of the call. None overlaps another.
 
 pub fn start(area: &mut [u8], slots: u32, delay: u32, answer: &mut [u64; 4]) -> u32 {
     unsafe { c::sabre_start(area.as_mut_ptr(), area.len(), slots, delay, answer.as_mut_ptr()) }
@@ -33,10 +32,6 @@ pub fn request(area: &mut [u8], level: u32, row: u32, page: u32, mode: u32, answ
     unsafe { c::sabre_request(area.as_mut_ptr(), area.len(), level, row, page, mode, answer.as_mut_ptr()) }
 }
 
-pub fn retry(area: &mut [u8], level: u32, row: u32, answer: &mut [u64; 4]) -> u32 {
-    unsafe { c::sabre_retry(area.as_mut_ptr(), area.len(), level, row, answer.as_mut_ptr()) }
-}
-
 pub fn unpin(area: &mut [u8], level: u32, row: u32, page: u32, answer: &mut [u64; 4]) -> u32 {
     unsafe { c::sabre_unpin(area.as_mut_ptr(), area.len(), level, row, page, answer.as_mut_ptr()) }
 }
@@ -45,8 +40,10 @@ pub fn end(area: &mut [u8], level: u32, row: u32, answer: &mut [u64; 4]) -> u32 
     unsafe { c::sabre_end(area.as_mut_ptr(), area.len(), level, row, answer.as_mut_ptr()) }
 }
 
-pub fn tick(area: &mut [u8], answer: &mut [u64; 4]) -> u32 {
-    unsafe { c::sabre_tick(area.as_mut_ptr(), area.len(), answer.as_mut_ptr()) }
+pub fn tick(area: &mut [u8], list: &mut [u8], answer: &mut [u64; 4]) -> u32 {
+    unsafe {
+        c::sabre_tick(area.as_mut_ptr(), area.len(), list.as_mut_ptr(), list.len(), answer.as_mut_ptr())
+    }
 }
 
 pub fn look(area: &[u8], level: u32, row: u32, answer: &mut [u64; 4]) -> u32 {
@@ -70,7 +67,6 @@ pub const LIBRARY: Manager = Manager {
     start,
     begin,
     request,
-    retry,
     unpin,
     end,
     tick,

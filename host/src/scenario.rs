@@ -19,6 +19,22 @@ pub fn wild(random: &mut Random) -> u32 {
     }
 }
 
+/// Places in `KINDS`.
+pub const KIND_TICK: usize = 5;
+pub const KIND_BORDERS: usize = 9;
+
+/// The length of the list of a tick: most often just enough, now and then too short or longer.
+fn list_length(random: &mut Random) -> usize {
+    let length = match random.below(20) {
+        0 => random.below(LIST as u64),
+        1 => random.pick(&[0, 1, 7, 8, 248, 254, 255]),
+        2..=3 => random.between(LIST as u64 + 1, LIST as u64 + 16),
+        4 => random.between(LIST as u64, 2000),
+        _ => LIST as u64,
+    };
+    length as usize
+}
+
 /// Borders that do not fall and are at most 4,096.
 fn some_borders(random: &mut Random) -> [u64; 3] {
     match random.below(8) {
@@ -62,7 +78,7 @@ pub struct Scenario {
     /// Writes among 100 requests.
     writes: u64,
     /// Weights of the calls, in the order of `KINDS`.
-    weights: [u64; 11],
+    weights: [u64; 10],
     /// Calls that set borders, among 100 calls while every row is free, as before a begin.
     early: u64,
     /// One number in so many is wild; 0 for none.
@@ -111,7 +127,6 @@ impl Scenario {
             1,
             if full { 12 } else { 14 },
             if full { 70 } else { 45 },
-            random.pick(&[2, 4, 8]),
             random.pick(&[5, 25, 60]),
             random.pick(&[1, 2, 6]),
             random.pick(&[4, 10, 20]),
@@ -205,7 +220,7 @@ impl Scenario {
     /// A random call by one of these levels, or one of the server's.
     pub fn call(&self, random: &mut Random, state: &State, levels: &[u64]) -> Call {
         if state.every_row_free() && random.percent(self.early) {
-            return self.call_of_kind(random, 10, state, levels);
+            return self.call_of_kind(random, KIND_BORDERS, state, levels);
         }
         let mut at = random.below(self.weights.iter().sum());
         let mut kind = 0;
@@ -227,12 +242,10 @@ impl Scenario {
         let free = some(&|row| row.condition == Condition::Free);
         let idle = some(&|row| row.condition == Condition::Idle);
         let killed = some(&|row| matches!(row.condition, Condition::Killed(_)));
-        let waiting = some(&|row| matches!(row.condition, Condition::Waiting { .. }));
         let fits = match kind {
             1 => free,
             2 => idle,
-            3 => waiting,
-            4 => state.holdings.iter().any(|((_, id), holding)| {
+            3 => state.holdings.iter().any(|((_, id), holding)| {
                 levels.contains(&id.0)
                     && holding.pin != Pin::None
                     && state.rows[id].condition == Condition::Idle
@@ -242,18 +255,15 @@ impl Scenario {
         if fits {
             return kind;
         }
-        let mut others = vec![6];
+        let mut others = vec![KIND_TICK];
         if free {
             others.extend([1, 1]);
         }
         if idle {
             others.extend([2, 2, 2, 2]);
         }
-        if waiting {
-            others.push(3);
-        }
         if killed {
-            others.extend([5, 5]);
+            others.extend([4, 4]);
         }
         random.pick(&others)
     }
@@ -267,7 +277,6 @@ impl Scenario {
     ) -> Call {
         let free = |row: &Row| row.condition == Condition::Free;
         let idle = |row: &Row| row.condition == Condition::Idle;
-        let waiting = |row: &Row| matches!(row.condition, Condition::Waiting { .. });
         let killed = |row: &Row| matches!(row.condition, Condition::Killed(_));
         match kind {
             0 => {
@@ -307,10 +316,6 @@ impl Scenario {
                 }
             }
             3 => {
-                let (level, row) = self.row(random, state, levels, 85, waiting);
-                Call::Retry { level: self.tame(random, level), row: self.tame(random, row) }
-            }
-            4 => {
                 let pinned: Vec<(RowId, u64)> = if random.percent(85) {
                     state
                         .holdings
@@ -336,7 +341,7 @@ impl Scenario {
                     page: self.tame(random, page),
                 }
             }
-            5 => {
+            4 => {
                 let (level, row) = if random.percent(60) {
                     self.row(random, state, levels, 95, killed)
                 } else {
@@ -344,17 +349,17 @@ impl Scenario {
                 };
                 Call::End { level: self.tame(random, level), row: self.tame(random, row) }
             }
-            6 => Call::Tick,
-            7 => {
+            KIND_TICK => Call::Tick { list: list_length(random) },
+            6 => {
                 let (level, row) = self.row(random, state, levels, 70, |row: &Row| !free(row));
                 Call::Look { level: self.tame(random, level), row: self.tame(random, row) }
             }
-            8 => {
+            7 => {
                 let level = random.pick(levels);
                 let page = self.page(random, state);
                 Call::View { level: self.tame(random, level), page: self.tame(random, page) }
             }
-            9 => {
+            8 => {
                 let level = random.pick(levels);
                 Call::Count { level: self.tame(random, level) }
             }

@@ -14,13 +14,14 @@ const PATTERN: u64 = 0x9D3B_E6A1_5C72_F84D;
 struct Job<'a> {
     manager: &'a Manager,
     area: &'a mut [u8],
+    list: &'a mut [u8],
     call: &'a Call,
     outcome: Option<Outcome>,
 }
 
 extern "C" fn work(job: *mut c_void) {
     let job = unsafe { &mut *(job as *mut Job) };
-    job.outcome = Some(job.manager.call(job.area, job.call));
+    job.outcome = Some(job.manager.call(job.area, job.list, job.call));
 }
 
 extern "C" fn nothing(_: *mut c_void) {}
@@ -101,8 +102,9 @@ pub fn stack(manager: &Manager) -> Result<(), String> {
     all.extend(more_states());
     for (name, state) in &all {
         for (sort, call) in calls_on(state) {
-            let mut area = state.bytes();
-            let mut job = Job { manager, area: &mut area, call: &call, outcome: None };
+            let (mut area, mut list) = (state.bytes(), vec![0; call.list_length()]);
+            let mut job =
+                Job { manager, area: &mut area, list: &mut list, call: &call, outcome: None };
             let used = region.measure(work, &mut job as *mut Job as *mut c_void) - own;
             let outcome = job.outcome.take().unwrap();
             let expected = state.clone().call(&call, &mut Default::default());
@@ -118,8 +120,9 @@ pub fn stack(manager: &Manager) -> Result<(), String> {
         for length in [SIZE, 100] {
             let mut area = state.bytes();
             area[SIZE - 1] = 1;
-            for call in [Call::Tick, Call::Count { level: 3 }] {
-                let mut job = Job { manager, area: &mut area[..length], call: &call, outcome: None };
+            for call in [TICK, Call::Count { level: 3 }] {
+                let (area, list) = (&mut area[..length], &mut vec![0; call.list_length()]);
+                let mut job = Job { manager, area, list, call: &call, outcome: None };
                 let used = region.measure(work, &mut job as *mut Job as *mut c_void) - own;
                 let entry = most.entry(call.kind()).or_insert((0, String::new()));
                 if used > entry.0 {

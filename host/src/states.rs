@@ -95,7 +95,19 @@ fn sort(call: &Call, outcome: &Outcome, tally: &Tally) -> String {
         return format!("{kind}: refused {}", outcome.status);
     }
     match call {
-        Call::Request { .. } | Call::Retry { .. } => {
+        Call::Tick { .. } => {
+            let parts = [
+                (outcome.fills.len() as u64, "filled"),
+                (tally.of("tick: a waiting row tried in vain"), "in vain"),
+            ];
+            let parts: Vec<String> = parts
+                .iter()
+                .filter(|(number, _)| *number > 0)
+                .map(|(number, end)| format!("{number} {end}"))
+                .collect();
+            if parts.is_empty() { kind.to_string() } else { format!("{kind}: {}", parts.join(", ")) }
+        }
+        Call::Request { .. } => {
             let found = |events: &[&str]| events.iter().any(|event| tally.of(event) > 0);
             let path = if found(&["step 1: wait"]) {
                 "wait, conflict".to_string()
@@ -128,7 +140,8 @@ pub fn calls_on(state: &State) -> Vec<(String, Call)> {
     let mut tries = vec![
         Call::Start { slots: 64, delay: 3 },
         Call::Start { slots: 65, delay: 3 },
-        Call::Tick,
+        TICK,
+        Call::Tick { list: LIST - 1 },
         Call::Borders { first: 3900, second: 4000, third: 4090 },
     ];
     let mut pages: Vec<u32> = state.filled.values().map(|slot| slot.page as u32).collect();
@@ -137,7 +150,6 @@ pub fn calls_on(state: &State) -> Vec<(String, Call)> {
         tries.push(Call::Count { level });
         for row in 0..8 {
             tries.push(Call::Begin { level, row, deadline: 9000 });
-            tries.push(Call::Retry { level, row });
             tries.push(Call::End { level, row });
             tries.push(Call::Look { level, row });
             for page in &pages {
@@ -156,8 +168,8 @@ pub fn calls_on(state: &State) -> Vec<(String, Call)> {
         let mut tally = Tally::default();
         let outcome = state.clone().call(&call, &mut tally);
         let name = sort(&call, &outcome, &tally);
-        // Refusals that look at the row, at the page and at the begun mark are enough.
-        if outcome.status != 0 && !matches!((call.kind(), outcome.status), (0, 2) | (1, 8) | (2, 11) | (2, 13) | (4, 15) | (10, 20)) {
+        // Refusals that look at the row, at the page, at the begun mark and at the list are enough.
+        if outcome.status != 0 && !matches!((call.kind(), outcome.status), (0, 2) | (1, 8) | (2, 11) | (2, 13) | (3, 15) | (5, 21) | (9, 20)) {
             continue;
         }
         if !list.iter().any(|(other, _)| *other == name) {
@@ -168,7 +180,35 @@ pub fn calls_on(state: &State) -> Vec<(String, Call)> {
     list
 }
 
-/// States in which a sort occurs that these lack: a dormant slot, a last tick for all, no begin yet.
+/// A state in which all 32 rows wait, each for a page of its own that is in no slot. Every slot is
+/// held by every row and pinned by the best one, so that no row can be filled; or every slot is
+/// dormant and dirty, so that each can.
+fn all_wait(dormant: bool) -> State {
+    let mut state = State::fresh(64, 3);
+    state.begun = true;
+    state.clock = 1000;
+    for slot in 0..64 {
+        let touch = 990 - slot % 7;
+        state.filled.insert(slot, Slot { page: slot, arrival: 900, dirty: true, lowest: 0, touch });
+    }
+    for level in 0..4 {
+        for number in 0..8 {
+            let condition = Condition::Waiting { page: 900 + 8 * level + number, mode: Mode::Read };
+            let id = (level, number);
+            state.rows.insert(id, Row { condition, deadline: 5000 + 10 * ((number * 3) % 8) });
+            for slot in 0..64 {
+                let pin = if id == (0, 0) { Pin::Read } else { Pin::None };
+                if !dormant {
+                    state.holdings.insert((slot, id), Holding { pin, arrival: 950, touch: 980 });
+                }
+            }
+        }
+    }
+    state
+}
+
+/// States in which a sort occurs that these lack: a dormant slot, a last tick for all, no begin yet,
+/// all rows wait.
 pub fn more_states() -> Vec<(&'static str, State)> {
     let (_, full) = states().pop().unwrap();
     let mut dormant = full.clone();
@@ -185,8 +225,13 @@ pub fn more_states() -> Vec<(&'static str, State)> {
         row.deadline = last.clock;
     }
     let fresh = State::fresh(64, 3);
-    let list =
-        vec![("full, three dormant", dormant), ("full, all late next", last), ("fresh", fresh)];
+    let list = vec![
+        ("full, three dormant", dormant),
+        ("full, all late next", last),
+        ("fresh", fresh),
+        ("all wait in vain", all_wait(false)),
+        ("all wait, dormant slots", all_wait(true)),
+    ];
     for (name, state) in &list {
         let broken = state.broken();
         assert!(broken.is_empty(), "the state {name} is unsound: {broken:?}");

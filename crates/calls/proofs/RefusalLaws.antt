@@ -4,13 +4,13 @@ use mathlib.Core.Bool.{Bool, true, false, cond, not}
 use mathlib.Core.List.{List, [], _∷_, _++_}
 use Prim.Native.Nat.{ℕ, zero, suc, _<_, _≤_}
 use native.Mathlib.Omega.{arith}
-use borrow.Author.Tests.{ltb-false}
-use lib.Dec.{ltb}
+use borrow.Author.Tests.{leb-false, ltb-false}
+use lib.Dec.{leb, ltb}
 use Rattle.model.specs.declared.Outcome.{Outcome}
 use Rattle.model.specs.declared.Answer.the-variants.{Refused}
 use Rattle.model.specs.declared.State.{State}
 use Rattle.rules.specs.Calls.{unless}
-use Rattle.model.specs.Parties.{rowOf}
+use Rattle.model.specs.Parties.{rowOf, lastClock}
 use Rattle.model.specs.Words.{isFree}
 use Rattle.rules.specs.Refusals.{firstToApply, isKilled, isBusy, conditionAt, pinsPage, unpinRefusal}
 
@@ -36,6 +36,12 @@ named level number rest n m e f l =
     let p = passed (ltb 3 level) 4 m n e (omega arith) l in
     let q = passed (ltb 7 number) 5 rest m f (omega arith) (p .1) in
     (ltb-false 3 level (p .0), ltb-false 7 number (q .0), q .1)
+
+-- the clock of a tick
+pub early : (room clock n m : ℕ) → n ≡ cond (ltb room 256) 21 m → m ≡ cond (leb lastClock clock) 17 0 → n ≤ 0 → clock < lastClock
+early room clock n m e f l =
+    let p = passed (ltb room 256) 21 m n e (omega arith) l in
+    leb-false lastClock clock (passed (leb lastClock clock) 17 0 m f (omega arith) (p .1) .0)
 
 -- the refusals of a call in two parts; n: the first of the first part
 pub first-found : (rs qs : List (ℕ × Bool)) (n : ℕ) → n ≡ firstToApply rs → 0 < n → n ≡ firstToApply (rs ++ qs)

@@ -9,9 +9,6 @@ use Rattle.seq.proofs.EachLaws.{replicate-at}
 use Rattle.model.specs.declared.Answer.{Answer}
 use Rattle.model.specs.declared.Answer.the-variants.{Refused}
 use Rattle.model.specs.declared.Cause.{Cause}
-use Rattle.model.specs.declared.Condition.{Condition}
-use Rattle.model.specs.declared.Condition.the-variants.{Waiting}
-use Rattle.model.specs.declared.Mode.{Mode}
 use Rattle.model.specs.declared.Row.{Row}
 use Rattle.model.specs.declared.Slot.{Slot}
 use Rattle.model.specs.declared.Setting.{Setting}
@@ -20,12 +17,12 @@ use Rattle.model.specs.declared.Change.{Change}
 use Rattle.model.specs.declared.Reply.{Reply}
 use Rattle.model.specs.declared.Outcome.{Outcome}
 use Rattle.model.specs.declared.State.{State}
-use Rattle.model.specs.State.{emptyHolding, rowAt, withClock, withRows}
+use Rattle.model.specs.State.{emptyHolding, withClock, withRows}
 use Rattle.model.specs.Changes.{released, killed, killedRow}
 use Rattle.model.specs.Inner.Changed.{marked, withSetting, changed, outcomeOf, holdingsDropped}
 use Rattle.model.proofs.StateLaws.{Sized}
 use Rattle.model.proofs.ChangedLaws.{changed-dropped, changed-none}
-use Rattle.rules.specs.Calls.{unless, served, servedAgain}
+use Rattle.rules.specs.Calls.{unless}
 use Rattle.calls.specs.Inner.Parts.{settingMade}
 use Rattle.calls.proofs.RefusalLaws.{refused}
 
@@ -75,7 +72,3 @@ module _ (s : State) (z : Sized s) where
       → withRows (released (marked gone) (withClock s clock)) live ≡ killed (marked gone) cause (withRows (withClock s clock) rows)
   unfolding killed released
   rows-killed clock rows live gone cause e = ap (withRows (released (marked gone) (withClock s clock))) e
-
--- retry: a waiting row's stored request; r, c: its row and its condition, as the code found them
-pub again : (s : State) (r row page : ℕ) (mode : Mode) (c : Condition) → r ≡ row → c ≡ rowAt s r .condition → c ≡ Waiting page mode → served s r page mode ≡ servedAgain (rowAt s row .condition) s row
-again s r row page mode c e f g = let h : rowAt s row .condition ≡ Waiting page mode = cc in rw (h, e)

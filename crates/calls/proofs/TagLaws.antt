@@ -1,23 +1,20 @@
 -- What the variant of a call or a condition says of it, where the code has one arm for several.
 use mathlib.Core.Path.{_≡_, refl, sym}
-use mathlib.Core.Bool.{true, false, not}
+use mathlib.Core.Bool.{true, false}
 use mathlib.Core.List.{List, [], _∷_}
-use Prim.Native.Nat.{ℕ, _≤_}
-use native.Mathlib.Omega.{arith}
+use Prim.Native.Nat.{ℕ}
 use denote.Enum.Declared.{tagOf}
 use types.Run.{OneOf, miss}
 use Rattle.seq.proofs.Tests.{true-false}
 use Rattle.model.specs.declared.Call.{Call}
-use Rattle.model.specs.declared.Call.the-variants.{Start, Begin, Request, Retry, Unpin, End, Tick, Look, View, Count, Borders}
+use Rattle.model.specs.declared.Call.the-variants.{Start, Begin, Request, Unpin, End, Tick, Look, View, Count, Borders}
 use Rattle.model.proofs.Call.{the-type}
 use Rattle.model.specs.declared.Condition.{Condition}
 use Rattle.model.specs.declared.Condition.the-variants.{Free, Idle, Fetching, Waiting, Killed}
 use Rattle.model.specs.declared.Row.{Row}
 use Rattle.model.specs.declared.State.{State}
 use Rattle.model.proofs.Condition.{the-type as condition-type}
-use Rattle.rules.specs.Content.{isStart, isReading}
-use Rattle.model.specs.Words.{isFree}
-use Rattle.rules.specs.Refusals.{firstToApply, isKilled, isWaiting}
+use Rattle.rules.specs.Content.{isStart, isTick, isReading}
 use Rattle.rules.specs.Calls.{delivered, deliveredRow}
 use Rattle.rules.specs.Run.{outcome}
 use Rattle.rules.proofs.Leaves.CallEffects.{reading-still}
@@ -27,46 +24,36 @@ abbrev pub Of : List ℕ → Call → Type 0
 Of ks c = OneOf ks (tagOf the-type c)
 
 abbrev asking : List ℕ
-asking = 0 ∷ 7 ∷ 8 ∷ 9 ∷ []
+asking = 0 ∷ 5 ∷ 6 ∷ 7 ∷ 8 ∷ []
 
 abbrev other : List ℕ
-other = 0 ∷ 1 ∷ 2 ∷ 3 ∷ 4 ∷ 5 ∷ 6 ∷ 10 ∷ []
+other = 0 ∷ 1 ∷ 2 ∷ 3 ∷ 4 ∷ 5 ∷ 9 ∷ []
 
 -- look, view and count change nothing
-pub it-reads : (s : State) (c : Call) → Of asking c → isStart c ≡ false → (isReading c ≡ true) × (outcome s c .state ≡ s)
+pub it-reads : (s : State) (c : Call) → Of asking c → isStart c ≡ false → isTick c ≡ false → (isReading c ≡ true) × (outcome s c .state ≡ s)
 unfolding outcome
-it-reads s (Start slots delay) k e = true-false e
-it-reads s (Begin level number deadline) k e = absurd (miss asking 1 tt k)
-it-reads s (Request level number page mode) k e = absurd (miss asking 2 tt k)
-it-reads s (Retry level number) k e = absurd (miss asking 3 tt k)
-it-reads s (Unpin level number page) k e = absurd (miss asking 4 tt k)
-it-reads s (End level number) k e = absurd (miss asking 5 tt k)
-it-reads s Tick k e = absurd (miss asking 6 tt k)
-it-reads s (Look level number) k e = (refl, reading-still s (Look level number) refl)
-it-reads s (View level page) k e = (refl, reading-still s (View level page) refl)
-it-reads s (Count level) k e = (refl, reading-still s (Count level) refl)
-it-reads s (Borders first second third) k e = absurd (miss asking 10 tt k)
+it-reads s (Start slots delay) k e t = true-false e
+it-reads s (Begin level number deadline) k e t = absurd (miss asking 1 tt k)
+it-reads s (Request level number page mode) k e t = absurd (miss asking 2 tt k)
+it-reads s (Unpin level number page) k e t = absurd (miss asking 3 tt k)
+it-reads s (End level number) k e t = absurd (miss asking 4 tt k)
+it-reads s (Tick room) k e t = true-false t
+it-reads s (Look level number) k e t = (refl, reading-still s (Look level number) refl)
+it-reads s (View level page) k e t = (refl, reading-still s (View level page) refl)
+it-reads s (Count level) k e t = (refl, reading-still s (Count level) refl)
+it-reads s (Borders first second third) k e t = absurd (miss asking 9 tt k)
 
 pub reads-not : (c : Call) → Of other c → isReading c ≡ true → ⊥
 reads-not (Start slots delay) k e = true-false (sym e)
 reads-not (Begin level number deadline) k e = true-false (sym e)
 reads-not (Request level number page mode) k e = true-false (sym e)
-reads-not (Retry level number) k e = true-false (sym e)
 reads-not (Unpin level number page) k e = true-false (sym e)
 reads-not (End level number) k e = true-false (sym e)
-reads-not Tick k e = true-false (sym e)
-reads-not (Look level number) k e = miss other 7 tt k
-reads-not (View level page) k e = miss other 8 tt k
-reads-not (Count level) k e = miss other 9 tt k
+reads-not (Tick room) k e = true-false (sym e)
+reads-not (Look level number) k e = miss other 6 tt k
+reads-not (View level page) k e = miss other 7 tt k
+reads-not (Count level) k e = miss other 8 tt k
 reads-not (Borders first second third) k e = true-false (sym e)
-
--- a row that a retry is not refused for is waiting
-pub it-waits : (c : Condition) (n : ℕ) → OneOf (0 ∷ 1 ∷ 2 ∷ 4 ∷ []) (tagOf condition-type c) → n ≡ firstToApply ((9, isFree c) ∷ (10, isKilled c) ∷ (16, not (isWaiting c)) ∷ []) → n ≤ 0 → ⊥
-it-waits Free n k e l = omega arith
-it-waits Idle n k e l = omega arith
-it-waits (Fetching due) n k e l = omega arith
-it-waits (Waiting page mode) n k e l = miss (0 ∷ 1 ∷ 2 ∷ 4 ∷ []) 3 tt k
-it-waits (Killed cause) n k e l = omega arith
 
 -- a row that is not fetching stays as it is in a tick
 pub it-stays : (clock : ℕ) (x : Row) → OneOf (0 ∷ 1 ∷ 3 ∷ 4 ∷ []) (tagOf condition-type (x .condition)) → x ≡ deliveredRow clock x

@@ -17,7 +17,7 @@ use Rattle.rules.specs.Answers.{word}
 use Rattle.rules.specs.Refusals.{lookRefusal}
 use Rattle.rules.specs.Calls.{unless, looked, lookedAt}
 use Rattle.model.specs.declared.Call.{Call}
-use Rattle.model.specs.declared.Call.the-variants.{Start, Begin, Request, Retry, Unpin, End, Tick, Look, View, Count, Borders}
+use Rattle.model.specs.declared.Call.the-variants.{Start, Begin, Request, Unpin, End, Tick, Look, View, Count, Borders}
 use Rattle.rules.specs.Content.{isStart}
 use Rattle.rules.specs.Run.{outcome}
 use Rattle.rules.proofs.Leaves.RefusalFacts.{Named, look-taken}
@@ -31,10 +31,9 @@ unfolding unfit
 unfit-is a (Start slots delay) = refl
 unfit-is a (Begin level number deadline) = refl
 unfit-is a (Request level number page mode) = refl
-unfit-is a (Retry level number) = refl
 unfit-is a (Unpin level number page) = refl
 unfit-is a (End level number) = refl
-unfit-is a Tick = refl
+unfit-is a (Tick room) = refl
 unfit-is a (Look level number) = refl
 unfit-is a (View level page) = refl
 unfit-is a (Count level) = refl

@@ -14,15 +14,17 @@ use Rattle.model.specs.declared.Back.{Back}
 use Rattle.model.specs.declared.Condition.{Condition}
 use Rattle.model.specs.declared.Condition.the-variants.{Free, Idle, Fetching, Waiting, Killed}
 use Rattle.model.specs.declared.Mode.{Mode}
+use Rattle.model.specs.declared.State.{State}
 use Rattle.model.specs.Parties.{rowOf}
 use Rattle.model.specs.State.{rowAt, holdingAt}
 use Rattle.model.specs.Words.{holds}
 use Rattle.rules.specs.Answers.{word, isReady, isIdle, mayUse, told}
-use Rattle.rules.specs.Calls.{looked}
+use Rattle.rules.specs.Calls.{served, looked}
 use Rattle.model.specs.declared.Call.{Call}
 use Rattle.model.specs.declared.Call.the-variants.{Tick, Look}
 use Rattle.rules.specs.Content.{fields, namesRow, Fits}
-use Rattle.rules.specs.Requests.{Asks, Names}
+use Rattle.rules.specs.Requests.{Asks, Names, Serves}
+use Rattle.rules.specs.Sound.{sound}
 use Rattle.rules.specs.Arrivals.{AllArrived, PinnedAndArrived}
 use Rattle.rules.specs.Waits.{Outranked, NoSlot}
 use Rattle.rules.proofs.Promises.WaitFetch as Waits
@@ -42,7 +44,7 @@ use-accepted : (x : Answer) → mayUse x ≡ true → isRefused x ≡ false
 unfolding mayUse
 use-accepted x e = not-true-false (isRefused x) (λ k. true-false (sym (rw (eqb-true (word x) 0 k) at e)))
 
--- On any area: an answer that says that a page may be used, ready or a look's idle, goes to a request, retry or look of a row,
+-- On any area: an answer that says that a page may be used, ready or a look's idle, goes to a request or look of a row,
 -- and in the area that the call leaves every page that the row holds has arrived.
 pub may-use-arrived : (a : List ℕ) (c : Call) → Fits c → mayUse (answerOn a c) ≡ true → (row : ℕ) × Names c row × AllArrived (decoded (areaAfter a c)) row
 unfolding mayUse word
@@ -51,10 +53,10 @@ may-use-arrived a c f e =
     let x = step-on a c z f in
     rw (x .1) (Uses.may-use-arrived (decoded a) (sound-area a z .sound-state) c (rw (← x .0) e))
 
--- ready comes only to a request or retry; then, in the area that it leaves, the row holds the slot of the page asked for
+-- ready comes only to a request; then, in the area that it leaves, the row holds the slot of the page asked for
 -- with the pin asked for or a stronger one, holding and page have arrived, and so has every other page that the row holds
 pub ready-arrived : (a : List ℕ) (c : Call) → Fits c → (slot : ℕ) (back : Back) → answerOn a c ≡ Ready slot back
-    → (row : ℕ) × (page : ℕ) × (mode : Mode) × Asks (decoded a) c row page mode × PinnedAndArrived (decoded (areaAfter a c)) row page mode slot × AllArrived (decoded (areaAfter a c)) row
+    → (row : ℕ) × (page : ℕ) × (mode : Mode) × Asks c row page mode × PinnedAndArrived (decoded (areaAfter a c)) row page mode slot × AllArrived (decoded (areaAfter a c)) row
 unfolding word
 ready-arrived a c f slot back e =
     let z = other-sound a c (Ready slot back) e refl (λ k. true-false (cc)) in
@@ -100,24 +102,29 @@ delivery-arrived a c f level number e =
 
 -- ---- wait and fetch
 
--- On any area: wait comes only to a request or retry, and only by steps 1 and g.
+-- On any area: wait comes only to a request, and only by steps 1 and g.
 pub wait-only : (a : List ℕ) (c : Call) → answerOn a c ≡ Wait
-    → (row : ℕ) × (page : ℕ) × (mode : Mode) × Asks (decoded a) c row page mode × (Outranked (decoded a) row page mode ⊎ NoSlot (decoded a) row page)
+    → (row : ℕ) × (page : ℕ) × (mode : Mode) × Asks c row page mode × (Outranked (decoded a) row page mode ⊎ NoSlot (decoded a) row page)
 unfolding word
 wait-only a c e =
     let z = other-sound a c Wait e refl (λ k. true-false (cc)) in
     Waits.wait-only (decoded a) (sound-area a z .sound-state) c (sym (sound-answer a c z) ∙ e)
 
+-- In the course of a call on a sound area, by a request and by the tries of a tick: each request that is served is served on a sound state, and waits there only by steps 1 and g.
+pub course-waits : (a : List ℕ) → soundArea a ≡ true → (c : Call) (u : State) (row page : ℕ) (mode : Mode) → Serves (decoded a) c u row page mode
+    → (sound u ≡ true) × (served u row page mode .answer ≡ Wait → Outranked u row page mode ⊎ NoSlot u row page)
+course-waits a z = Waits.course-waits (decoded a) (sound-area a z .sound-state)
+
 -- On any area: a fetch is due after the clock, and the row is fetching until then.
 pub fetch-due : (a : List ℕ) (c : Call) → Fits c → (due slot : ℕ) (back : Back) → answerOn a c ≡ Fetch due slot back
-    → (row : ℕ) × (page : ℕ) × (mode : Mode) × Asks (decoded a) c row page mode × (decoded a .clock < due) × (rowAt (decoded (areaAfter a c)) row .condition ≡ Fetching due)
+    → (row : ℕ) × (page : ℕ) × (mode : Mode) × Asks c row page mode × (decoded a .clock < due) × (rowAt (decoded (areaAfter a c)) row .condition ≡ Fetching due)
 unfolding word
 fetch-due a c f due slot back e =
     let z = other-sound a c (Fetch due slot back) e refl (λ k. true-false (cc)) in
     let x = step-on a c z f in
     rw (x .1) (Waits.fetch-due (decoded a) (sound-area a z .sound-state) c due slot back (sym (x .0) ∙ e))
 
--- on a sound area: where a page that the row then holds has not arrived, a request, retry or look of the row is refused, or told fetch with that arrival
+-- on a sound area: where a page that the row then holds has not arrived, a request or look of the row is refused, or told fetch with that arrival
 pub fetching-told : (a : List ℕ) → soundArea a ≡ true → (c : Call) → Fits c → (row slot : ℕ) → Names c row → row < 32 → slot < 64
     → holds (decoded (areaAfter a c)) slot row ≡ true → decoded (areaAfter a c) .clock < holdingAt (decoded (areaAfter a c)) slot row .arrival
     → (word (answerOn a c) ≡ 0) ⊎ (told (answerOn a c) ≡ record { word = 4; value = holdingAt (decoded (areaAfter a c)) slot row .arrival })
@@ -126,18 +133,18 @@ fetching-told a z c f row slot n r b =
     rw (x .0, x .1) (Uses.fetching-told (decoded a) (sound-area a z .sound-state) c row slot n r b)
 
 -- a row that a look found fetching and finds idle after a tick has reached its due tick
-pub tick-due : (a : List ℕ) (level number due : ℕ) → answerOn a (Look level number) ≡ RowFetching due
-    → answerOn (areaAfter a Tick) (Look level number) ≡ RowIdle → due ≤ decoded (areaAfter a Tick) .clock
+pub tick-due : (a : List ℕ) (room level number due : ℕ) → answerOn a (Look level number) ≡ RowFetching due
+    → answerOn (areaAfter a (Tick room)) (Look level number) ≡ RowIdle → due ≤ decoded (areaAfter a (Tick room)) .clock
 unfolding word
-tick-due a level number due e k =
+tick-due a room level number due e k =
     let z = accepted-sound a (Look level number) refl (rw e) in
     let m = look-named a level number (rw e) in
     let l = m .level-is in
     let n = m .number-is in
-    let x = step-on a Tick z (omega arith) in
+    let x = step-on a (Tick room) z (omega arith) in
     let p = looked-fetching (rowAt (decoded a) (rowOf level number) .condition) due (sym (look-answer a level number z l n) ∙ e) in
-    let q = idle (rowAt (decoded (areaAfter a Tick)) (rowOf level number) .condition) (sym (look-answer (areaAfter a Tick) level number (x .2) l n) ∙ k) in
-    rw (x .1) (States.tick-arrived (decoded a) (sound-area a z .sound-state) (rowOf level number) due (m .row-is) p (rw (x .1) at q) .0)
+    let q = idle (rowAt (decoded (areaAfter a (Tick room))) (rowOf level number) .condition) (sym (look-answer (areaAfter a (Tick room)) level number (x .2) l n) ∙ k) in
+    rw (x .1) (States.tick-arrived (decoded a) (sound-area a z .sound-state) room (rowOf level number) due (m .row-is) p (rw (x .1) at q) .0)
   where
     idle : (c : Condition) → looked c ≡ RowIdle → c ≡ Idle
     idle Free h = cc

@@ -2,21 +2,27 @@
 -- Document 02, T-01: a tick makes a live row late exactly when the clock is above its deadline.
 use mathlib.Core.Path.{_≡_, refl, sym, _∙_, ap}
 use mathlib.Core.Bool.{true}
-use mathlib.Core.List.{List, _++_, append-assoc}
+use mathlib.Core.List.{List, [], _++_, append-assoc}
+use mathlib.Core.Logic.{_⊎_, inl, inr}
 use Prim.Native.Nat.{ℕ, _+_, _^_, _<_, _≤_}
 use native.Mathlib.Omega.{arith}
 use lib.Dec.{ltb, lit<}
 use lib.ListN.{length, drop, length-append}
 use Rattle.words.specs.Bytes.{wordBytes, zeroWords}
 use Rattle.words.proofs.JoinLaws.{piece-word}
-use Rattle.model.specs.declared.Answer.the-variants.{RowIdle, RowFetching, Clock}
+use Rattle.model.specs.declared.Answer.the-variants.{RowIdle, RowFetching, RowKilled, Clock}
 use Rattle.model.specs.declared.Call.the-variants.{Tick, Look}
+use Rattle.model.specs.declared.Cause.the-variants.{Taken}
+use Rattle.model.specs.declared.Condition.{Condition}
+use Rattle.model.specs.declared.Condition.the-variants.{Idle, Killed}
 use Rattle.model.specs.declared.State.{State}
 use Rattle.model.specs.Parties.{rowOf}
 use Rattle.model.specs.State.{rowAt}
 use Rattle.model.specs.Words.{isLive}
 use Rattle.model.proofs.Ranges.{StateOk}
 use Rattle.rules.specs.Answers.{word, isToldLate}
+use Rattle.rules.specs.Calls.{looked}
+use Rattle.rules.specs.Run.{outcome, fillsOf}
 use Rattle.rules.proofs.Promises.Widths.{sound-ok}
 use Rattle.rules.proofs.Promises.Deadlines as States
 use Rattle.area.specs.Layout.{headerWords, rowWords, encoded, decoded}
@@ -57,29 +63,48 @@ pub deadline-ahead : (a : List ℕ) → soundArea a ≡ true → (row : ℕ) →
 deadline-ahead a z row b l = rw (deadline-named a z row b) (States.deadline-ahead (decoded a) (sound-area a z .sound-state) row b l)
 
 -- after an accepted tick a row that was live is told to be late exactly where the clock that the tick tells is above its deadline
-pub late-exactly : (a : List ℕ) (clock : ℕ) → answerOn a Tick ≡ Clock clock → (level number : ℕ) → level ≤ 3 → number ≤ 7
+pub late-exactly : (a : List ℕ) (room clock : ℕ) → answerOn a (Tick room) ≡ Clock clock → (level number : ℕ) → level ≤ 3 → number ≤ 7
     → isLive (rowAt (decoded a) (rowOf level number) .condition) ≡ true
-    → isToldLate (answerOn (areaAfter a Tick) (Look level number)) ≡ ltb (deadlineWord a (rowOf level number)) clock
+    → isToldLate (answerOn (areaAfter a (Tick room)) (Look level number)) ≡ ltb (deadlineWord a (rowOf level number)) clock
 unfolding word
-late-exactly a clock e level number l n live =
-    let z = accepted-sound a Tick refl (rw e) in
-    let x = step-on a Tick z (omega arith) in
+late-exactly a room clock e level number l n live =
+    let z = accepted-sound a (Tick room) refl (rw e) in
+    let x = step-on a (Tick room) z (omega arith) in
     let b : rowOf level number < 32 = omega arith in
-    rw (look-answer (areaAfter a Tick) level number (x .2) l n, x .1, deadline-named a z (rowOf level number) b)
-    (States.late-exactly (decoded a) (sound-area a z .sound-state) clock (sym (x .0) ∙ e) (rowOf level number) b live)
+    rw (look-answer (areaAfter a (Tick room)) level number (x .2) l n, x .1, deadline-named a z (rowOf level number) b)
+    (States.late-exactly (decoded a) (sound-area a z .sound-state) room clock (sym (x .0) ∙ e) (rowOf level number) b live)
 
--- a fetch that is due by the clock that a tick tells is delivered where that clock is not above the row's deadline
-pub due-delivered : (a : List ℕ) (clock : ℕ) → answerOn a Tick ≡ Clock clock → (level number due : ℕ) → answerOn a (Look level number) ≡ RowFetching due
-    → due ≤ clock → clock ≤ deadlineWord a (rowOf level number) → answerOn (areaAfter a Tick) (Look level number) ≡ RowIdle
+-- a fetch that is due by the clock that a tick tells is delivered where that clock is not above the row's deadline, unless a try of the same tick kills the row
+pub due-delivered : (a : List ℕ) (room clock : ℕ) → answerOn a (Tick room) ≡ Clock clock → (level number due : ℕ) → answerOn a (Look level number) ≡ RowFetching due
+    → due ≤ clock → clock ≤ deadlineWord a (rowOf level number)
+    → (answerOn (areaAfter a (Tick room)) (Look level number) ≡ RowIdle) ⊎ (answerOn (areaAfter a (Tick room)) (Look level number) ≡ RowKilled Taken)
 unfolding word
-due-delivered a clock e level number due f d l =
-    let z = accepted-sound a Tick refl (rw e) in
-    let x = step-on a Tick z (omega arith) in
+due-delivered a room clock e level number due f d l =
+    let z = accepted-sound a (Tick room) refl (rw e) in
+    let x = step-on a (Tick room) z (omega arith) in
+    let m = look-named a level number (rw f) in
+    let b = m .row-is in
+    let p = looked-fetching (rowAt (decoded a) (rowOf level number) .condition) due (sym (look-answer a level number z (m .level-is) (m .number-is)) ∙ f) in
+    rw (look-answer (areaAfter a (Tick room)) level number (x .2) (m .level-is) (m .number-is), x .1)
+    (go (rowAt (outcome (decoded a) (Tick room) .state) (rowOf level number) .condition)
+    (States.due-delivered (decoded a) (sound-area a z .sound-state) room clock (sym (x .0) ∙ e) (rowOf level number) due b p d (rw (deadline-named a z (rowOf level number) b) at l)))
+  where
+    go : (x : Condition) → (x ≡ Idle) ⊎ (x ≡ Killed Taken) → (looked x ≡ RowIdle) ⊎ (looked x ≡ RowKilled Taken)
+    go x (inl k) = inl (rw k)
+    go x (inr k) = inr (rw k)
+
+-- where the tick fills nothing the row is idle
+pub delivered-alone : (a : List ℕ) (room clock : ℕ) → answerOn a (Tick room) ≡ Clock clock → (level number due : ℕ) → answerOn a (Look level number) ≡ RowFetching due
+    → due ≤ clock → clock ≤ deadlineWord a (rowOf level number) → fillsOf (decoded a) (Tick room) ≡ [] → answerOn (areaAfter a (Tick room)) (Look level number) ≡ RowIdle
+unfolding word
+delivered-alone a room clock e level number due f d l n =
+    let z = accepted-sound a (Tick room) refl (rw e) in
+    let x = step-on a (Tick room) z (omega arith) in
     let m = look-named a level number (rw f) in
     let b = m .row-is in
     let p = looked-fetching (rowAt (decoded a) (rowOf level number) .condition) due (sym (look-answer a level number z (m .level-is) (m .number-is)) ∙ f) in
     rw (
-      look-answer (areaAfter a Tick) level number (x .2) (m .level-is) (m .number-is),
+      look-answer (areaAfter a (Tick room)) level number (x .2) (m .level-is) (m .number-is),
       x .1,
-      States.due-delivered (decoded a) (sound-area a z .sound-state) clock (sym (x .0) ∙ e) (rowOf level number) due b p d (rw (deadline-named a z (rowOf level number) b) at l),
+      States.delivered-alone (decoded a) (sound-area a z .sound-state) room clock (sym (x .0) ∙ e) (rowOf level number) due b p d (rw (deadline-named a z (rowOf level number) b) at l) n,
     )

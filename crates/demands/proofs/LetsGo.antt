@@ -3,7 +3,7 @@ use mathlib.Core.Path.{_≡_, refl, sym, _∙_}
 use mathlib.Core.Bool.{true, false}
 use mathlib.Core.List.{List}
 use mathlib.Core.Logic.{_⊎_}
-use Prim.Native.Nat.{ℕ, _+_, _<_, _≤_}
+use Prim.Native.Nat.{ℕ, _<_, _≤_}
 use Rattle.seq.proofs.Tests.{true-false, not-true-false}
 use Rattle.model.specs.declared.Answer.{Answer}
 use Rattle.model.specs.declared.Answer.the-variants.{RowFree, RowKilled}
@@ -16,12 +16,12 @@ use Rattle.model.specs.Parties.{rowOf}
 use Rattle.model.specs.State.{emptyHolding, rowAt, slotAt, holdingAt}
 use Rattle.model.specs.Words.{isLive, pageIn, dirtyIn, isWrite, holds}
 use Rattle.rules.specs.Sound.{sound}
-use Rattle.rules.specs.Answers.{word, isStarted, backTold}
+use Rattle.rules.specs.Answers.{word, isStarted}
 use Rattle.rules.specs.Calls.{looked}
 use Rattle.model.specs.declared.Call.{Call}
 use Rattle.model.specs.declared.Call.the-variants.{Look}
 use Rattle.rules.specs.Content.{Fits}
-use Rattle.rules.specs.Slots.{Refilled, Dirty}
+use Rattle.rules.specs.Slots.{holdsPage, Refilled, Dirty, Reported}
 use Rattle.rules.proofs.Facts.SoundFacts.{facts}
 use Rattle.rules.proofs.Promises.LetsGo as States
 use Rattle.area.specs.Layout.{decoded}
@@ -86,25 +86,25 @@ module _ (a : List ℕ) (z : soundArea a ≡ true) (c : Call) (fits : Fits c) wh
   lets-go row slot r b =
       rw (step-on a c z fits .1) (States.lets-go (decoded a) (sound-area a z .sound-state) c row slot r b)
 
-  -- a holding goes only with its row, or where its row has no pin and a request or retry chose the slot for a new page
-  pub drops-only : (slot row : ℕ) → slot < 64 → row < 32 → holds (decoded a) slot row ≡ true → holds (decoded (areaAfter a c)) slot row ≡ false
+  -- a row no longer holds a page only where it is no longer live, or where it had no pin and a request that is served in the course of the call chose the slot for another page
+  pub drops-only : (slot row page : ℕ) → slot < 64 → row < 32 → holdsPage (decoded a) slot row page ≡ true → holdsPage (decoded (areaAfter a c)) slot row page ≡ false
       → (isLive (rowAt (decoded (areaAfter a c)) row .condition) ≡ false) ⊎ Refilled (decoded a) c (decoded (areaAfter a c)) slot row
-  drops-only slot row b r =
-      rw (step-on a c z fits .1) (States.drops-only (decoded a) (sound-area a z .sound-state) c slot row b r)
+  drops-only slot row page b r =
+      rw (step-on a c z fits .1) (States.drops-only (decoded a) (sound-area a z .sound-state) c slot row page b r)
 
   -- by every call but an accepted start
   module _ (again : isStarted (answerOn a c) ≡ false) (slot : ℕ) (b : slot < 64) where
-    -- a dirty page stays dirty in its slot, or is reported for write-back
+    -- a dirty page stays dirty in its slot, or is reported for write-back from it
     pub dirty-not-lost : dirtyIn (slotAt (decoded a) slot .content) ≡ true
-        → Dirty (decoded (areaAfter a c)) slot (pageIn (slotAt (decoded a) slot .content)) ⊎ (backTold (answerOn a c) ≡ pageIn (slotAt (decoded a) slot .content) + 1)
+        → Dirty (decoded (areaAfter a c)) slot (pageIn (slotAt (decoded a) slot .content)) ⊎ Reported (decoded a) c slot (pageIn (slotAt (decoded a) slot .content))
     dirty-not-lost =
         let x = step-on a c z fits in
-        rw (x .0, x .1) (States.dirty-not-lost (decoded a) (sound-area a z .sound-state) c (rw (sound-answer a c z) at again) slot b)
+        rw (x .1) (States.dirty-not-lost (decoded a) (sound-area a z .sound-state) c (rw (sound-answer a c z) at again) slot b)
 
-    -- when a write pin goes and its arrival ≤ clock, the slot becomes dirty, or the page is reported for write-back
+    -- when a write pin goes and its arrival ≤ clock, the slot becomes dirty, or the page is reported for write-back from it
     pub write-not-lost : (row : ℕ) → row < 32 → isWrite (holdingAt (decoded a) slot row .pin) ≡ true → holdingAt (decoded a) slot row .arrival ≤ decoded (areaAfter a c) .clock
         → isWrite (holdingAt (decoded (areaAfter a c)) slot row .pin) ≡ false
-        → Dirty (decoded (areaAfter a c)) slot (pageIn (slotAt (decoded a) slot .content)) ⊎ (backTold (answerOn a c) ≡ pageIn (slotAt (decoded a) slot .content) + 1)
+        → Dirty (decoded (areaAfter a c)) slot (pageIn (slotAt (decoded a) slot .content)) ⊎ Reported (decoded a) c slot (pageIn (slotAt (decoded a) slot .content))
     write-not-lost row r =
         let x = step-on a c z fits in
-        rw (x .0, x .1) (States.write-not-lost (decoded a) (sound-area a z .sound-state) c (rw (sound-answer a c z) at again) slot b row r)
+        rw (x .1) (States.write-not-lost (decoded a) (sound-area a z .sound-state) c (rw (sound-answer a c z) at again) slot b row r)

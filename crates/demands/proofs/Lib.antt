@@ -11,6 +11,7 @@ pub mod SessionHolds
 pub mod OneSlot
 pub mod Arrived
 pub mod LetsGo
+pub mod TickList
 -- demand 3
 pub mod TwoRuns
 pub mod Blind

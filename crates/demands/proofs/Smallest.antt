@@ -1,7 +1,8 @@
--- Demand 1 over lent areas: of the refusals that apply to a call the smallest number is given.
+-- Demand 1 over lent areas: of the refusals that apply to a call the first in the documents' order is given, which for every call but tick is the smallest number.
 use mathlib.Core.Path.{_≡_, refl, sym, _∙_, ap}
 use mathlib.Core.Bool.{Bool, true, false, cond, not, _&&_, _||_}
-use mathlib.Core.List.{List, [], _∷_}
+use mathlib.Core.List.{List, [], _∷_, map}
+use mathlib.Core.Logic.{_⊎_, inl, inr}
 use Prim.Native.Nat.{ℕ, zero, suc, _<_, _≤_}
 use native.Mathlib.Omega.{arith}
 use native.Mathlib.Decide.{decLt}
@@ -11,7 +12,7 @@ use lib.ListN.{length}
 use Rattle.seq.specs.Below.{anyBelow, atFound}
 use Rattle.seq.specs.declared.Found.{Found}
 use Rattle.seq.specs.declared.Found.the-variants.{At, Nowhere}
-use Rattle.seq.proofs.Tests.{true-false, and-left, and-right, both-true, or-true-right, not-true-false, same-truth}
+use Rattle.seq.proofs.Tests.{true-false, and-left, and-right, and-false-right, both-true, or-true-right, not-true-false, same-truth}
 use Rattle.seq.proofs.BelowLaws.{none-any, hit-any, any-hit}
 use Rattle.model.specs.declared.Answer.{Answer}
 use Rattle.model.specs.declared.Answer.the-variants.{Refused}
@@ -32,19 +33,20 @@ use Rattle.model.specs.Words.{isFree, hasPage, isPin, pins, slotOf}
 use Rattle.model.proofs.BordersLaws.{in-order}
 use Rattle.model.proofs.ContentLaws.{page-has}
 use Rattle.rules.specs.Answers.{word, value}
-use Rattle.rules.specs.Refusals.{firstToApply, isKilled, isBusy, isWaiting, isRead, conditionAt, pinsPage, startRefusal, beginRefusal, requestRefusal, retryRefusal, unpinRefusal, endRefusal, tickRefusal, lookRefusal, viewRefusal, countRefusal, bordersRefusal}
-use Rattle.rules.specs.Calls.{unless, started, begun, requested, servedAgain, retried, unpinned, ended, ticked, looked, lookedAt, viewedIn, viewed, counted, bordered}
+use Rattle.rules.specs.Refusals.{firstToApply, isKilled, isBusy, isRead, conditionAt, pinsPage, startRefusal, beginRefusal, requestRefusal, unpinRefusal, endRefusal, tickRefusal, lookRefusal, viewRefusal, countRefusal, bordersRefusal}
+use Rattle.rules.specs.Calls.{unless, started, begun, requested, unpinned, ended, looked, lookedAt, viewedIn, viewed, counted, bordered}
 use Rattle.model.specs.declared.Call.{Call}
-use Rattle.model.specs.declared.Call.the-variants.{Start, Begin, Request, Retry, Unpin, End, Tick, Look, View, Count}
+use Rattle.model.specs.declared.Call.the-variants.{Start, Begin, Request, Unpin, End, Tick, Look, View, Count}
 use Rattle.model.specs.declared.Call.the-variants as Call
-use Rattle.rules.specs.Content.{isStart}
+use Rattle.rules.specs.Content.{isStart, isTick}
 use Rattle.rules.specs.Run.{outcome}
+use Rattle.rules.specs.Tries.{ticked}
 use Rattle.rules.proofs.Promises.CallCases.{viewed-is}
 use Rattle.rules.proofs.Facts.SoundFacts.{Sound, facts, borders-facts}
 use Rattle.rules.proofs.Leaves.PageLaws.{found-has, found-below, not-found, one-place}
 use Rattle.area.specs.Layout.{decoded}
 use Rattle.sabre.specs.Lent.{unfit, answerOn, isRefused, status, soundArea}
-use Rattle.demands.specs.RefusalTable.{free, killed, fetchingOrWaiting, idleOrFetching, has, readOrWrite, pinned, class, refusals, applies}
+use Rattle.demands.specs.RefusalTable.{free, killed, fetchingOrWaiting, has, readOrWrite, pinned, class, order, place, refusals, applies}
 use Rattle.demands.proofs.Areas.{unfit-table, unfit-other}
 use Rattle.demands.proofs.Steps.{served-accepted}
 use Rattle.sabre.proofs.SoundAreas.{sound-area}
@@ -165,26 +167,6 @@ request-rows : (p q r t : Bool) (x : Condition) (d e d′ e′ : Bool) → d ≡
 request-rows p q r true x d e d′ e′ h j = refl
 request-rows p q r false x d e d′ e′ h j = λ i. requestRows p q r false (condition-same x .0 i) (condition-same x .1 i) (condition-same x .2 i) (h i) (j refl i)
 
--- retry: refusal 16, where the row is not free and not killed
-abbrev retryRows : Bool → Bool → Bool → Bool → Bool → ℕ
-retryRows p q f k w = firstToApply ((4, p) ∷ (5, q) ∷ (9, f) ∷ (10, k) ∷ (16, w) ∷ [])
-
-retry-rows : (p q : Bool) (x : Condition) → retryRows p q (isFree x) (isKilled x) (not (isWaiting x)) ≡ retryRows p q (free x) (killed x) (idleOrFetching x)
-retry-rows p q Free = refl
-retry-rows p q Idle = refl
-retry-rows p q (Fetching due) = refl
-retry-rows p q (Waiting page mode) = refl
-retry-rows p q (Killed cause) = refl
-
-again-accepted : (s : State) (row : ℕ) (p q : Bool) (x : Condition) → retryRows p q (isFree x) (isKilled x) (not (isWaiting x)) ≡ 0 → isRefused (servedAgain x s row .answer) ≡ false
-again-accepted s row true q x e = absurd (omega arith)
-again-accepted s row false true x e = absurd (omega arith)
-again-accepted s row false false Free e = absurd (omega arith)
-again-accepted s row false false Idle e = absurd (omega arith)
-again-accepted s row false false (Fetching due) e = absurd (omega arith)
-again-accepted s row false false (Waiting page mode) e = served-accepted s row page mode
-again-accepted s row false false (Killed cause) e = absurd (omega arith)
-
 -- unpin: refusal 15, on a sound state
 has-same : (page : ℕ) (x : Content) → hasPage page x ≡ has page x
 has-same page Empty = refl
@@ -225,8 +207,8 @@ unpin-rows p q r x d d′ e =
 
 -- the number given is that of the first row of the table that applies
 gives : (a : List ℕ) (c : Call) → Gives (answerOn a c) (firstToApply (refusals a c))
-unfolding answerOn outcome started begun requested retried unpinned ended ticked lookedAt viewed counted bordered word
-    refusals startRefusal beginRefusal requestRefusal retryRefusal unpinRefusal endRefusal tickRefusal lookRefusal viewRefusal countRefusal bordersRefusal
+unfolding answerOn outcome started begun requested unpinned ended ticked lookedAt viewed counted bordered word
+    refusals startRefusal beginRefusal requestRefusal unpinRefusal endRefusal tickRefusal lookRefusal viewRefusal countRefusal bordersRefusal
 gives a (Start slots delay) =
     first-row a (Start slots delay) _ _ (λ _. refl) (numbered (unfit a (Start slots delay)) (startRefusal slots delay) (decoded a) _ (λ _. refl))
 gives a (Begin level number deadline) =
@@ -245,11 +227,6 @@ gives a (Request level number page mode) =
     (read-above level k mode ∙ ap (λ (n : ℕ). eqb mode 0 && ltb level n) same)
     (λ e. write-below level k mode (ltb-false 1 mode e) ∙ ap (λ (n : ℕ). eqb mode 1 && ltb n level) same))
     (numbered (unfit a c) (requestRefusal (decoded a) level number page mode) (decoded a) _ (λ _. served-accepted (decoded a) (rowOf level number) page (modeOf mode)))
-gives a (Retry level number) =
-    let c = Retry level number in
-    let x = conditionAt (decoded a) level number in
-    first-row a c _ _ (λ _. retry-rows (ltb 3 level) (ltb 7 number) x)
-    (numbered (unfit a c) (retryRefusal (decoded a) level number) (decoded a) _ (again-accepted (decoded a) (rowOf level number) (ltb 3 level) (ltb 7 number) x))
 gives a (Unpin level number page) =
     let c = Unpin level number page in
     let s = decoded a in
@@ -264,7 +241,9 @@ gives a (End level number) =
     let x = conditionAt (decoded a) level number in
     first-row a c _ _ (λ _ i. firstToApply ((4, ltb 3 level) ∷ (5, ltb 7 number) ∷ (9, condition-same x .0 i) ∷ []))
     (numbered (unfit a c) (endRefusal (decoded a) level number) (decoded a) _ (λ _. refl))
-gives a Tick = first-row a Tick _ _ (λ _. refl) (numbered (unfit a Tick) (tickRefusal (decoded a)) (decoded a) _ (λ _. refl))
+gives a (Tick room) =
+    let c = Tick room in
+    first-row a c _ _ (λ _. refl) (numbered (unfit a c) (tickRefusal (decoded a) room) (decoded a) _ (λ _. refl))
 gives a (Look level number) =
     let c = Look level number in
     first-row a c _ _ (λ _. refl) (numbered (unfit a c) (lookRefusal level number) (decoded a) _ (λ _. looked-accepted (rowAt (decoded a) (rowOf level number) .condition)))
@@ -280,55 +259,92 @@ gives a (Call.Borders first second third) =
     first-row a c _ _ (λ _ i. firstToApply ((19, fall-same b i) ∷ (20, decoded a .begun) ∷ []))
     (numbered (unfit a c) (bordersRefusal (decoded a) b) (decoded a) _ (λ _. refl))
 
--- ---- the smallest that applies
+-- ---- the first that applies
 
-abbrev Rising : ℕ → List (ℕ × Bool) → Type 0
-Rising k [] = Unit {0}
-Rising k (r ∷ rs) = (k ≤ r .0) × Rising (suc (r .0)) rs
+-- by f the rows do not fall, and none is below k
+abbrev Rising : (ℕ → ℕ) → ℕ → List (ℕ × Bool) → Type 0
+Rising f k [] = Unit {0}
+Rising f k (r ∷ rs) = (k ≤ f (r .0)) × Rising f (f (r .0)) rs
 
--- what applies is at least the first to apply
-first-least : (k : ℕ) (rs : List (ℕ × Bool)) → Rising k rs → (m : ℕ) → applies m rs ≡ true → (k ≤ m) × (k ≤ firstToApply rs) × (firstToApply rs ≤ m)
-first-least k [] o m e = true-false (sym e)
-first-least k (r ∷ rs) o m e = go (r .1) (eqb m (r .0)) refl e (first-least (suc (r .0)) rs (o .1) m)
+-- by f what applies is at least the first to apply
+first-least : (f : ℕ → ℕ) (k : ℕ) (rs : List (ℕ × Bool)) → Rising f k rs → (m : ℕ) → applies m rs ≡ true → (k ≤ f m) × (f (firstToApply rs) ≤ f m)
+first-least f k [] o m e = true-false (sym e)
+first-least f k (r ∷ rs) o m e = go (r .1) (eqb m (r .0)) refl e (first-least f (f (r .0)) rs (o .1) m)
   where
-    go : (b q : Bool) → eqb m (r .0) ≡ q → (q && b) || applies m rs ≡ true
-        → (applies m rs ≡ true → (suc (r .0) ≤ m) × (suc (r .0) ≤ firstToApply rs) × (firstToApply rs ≤ m))
-        → (k ≤ m) × (k ≤ cond b (r .0) (firstToApply rs)) × (cond b (r .0) (firstToApply rs) ≤ m)
-    go true true h x f = let p = eqb-true m (r .0) h in let n = o .0 in omega arith
-    go true false h x f = let y = f x in let n = o .0 in omega arith
-    go false true h x f = let y = f x in let n = o .0 in omega arith
-    go false false h x f = let y = f x in let n = o .0 in omega arith
+    go : (b q : Bool) → eqb m (r .0) ≡ q → (q && b) || applies m rs ≡ true → (applies m rs ≡ true → (f (r .0) ≤ f m) × (f (firstToApply rs) ≤ f m))
+        → (k ≤ f m) × (f (cond b (r .0) (firstToApply rs)) ≤ f m)
+    go true true h x y = let p = ap f (eqb-true m (r .0) h) in let n = o .0 in omega arith
+    go true false h x y = let z = y x in let n = o .0 in omega arith
+    go false true h x y = let z = y x in let n = o .0 in omega arith
+    go false false h x y = let z = y x in let n = o .0 in omega arith
 
--- the first to apply does apply
-first-applies : (rs : List (ℕ × Bool)) → (firstToApply rs ≡ 0 → ⊥) → applies (firstToApply rs) rs ≡ true
-first-applies [] n = absurd (n refl)
-first-applies (r ∷ rs) n = go (r .1) (n) (first-applies rs)
+-- n passes p, or it is 0 and none passes
+abbrev PassesOrNone : (ℕ → Bool) → ℕ → Type 0
+PassesOrNone p n = (p n ≡ true) ⊎ ((n ≡ 0) × ((m : ℕ) → p m ≡ false))
+
+-- the first to apply does apply, or none does
+first-applies : (rs : List (ℕ × Bool)) → PassesOrNone (λ n. applies n rs) (firstToApply rs)
+first-applies [] = inr (refl, λ n. refl)
+first-applies (r ∷ rs) = go (r .1) (first-applies rs)
   where
-    go : (b : Bool) → (cond b (r .0) (firstToApply rs) ≡ 0 → ⊥) → ((firstToApply rs ≡ 0 → ⊥) → applies (firstToApply rs) rs ≡ true)
-        → (eqb (cond b (r .0) (firstToApply rs)) (r .0) && b) || applies (cond b (r .0) (firstToApply rs)) rs ≡ true
-    go true x f = rw (eq-eqb (r .0) (r .0) refl)
-    go false x f = or-true-right (eqb (firstToApply rs) (r .0) && false) (applies (firstToApply rs) rs) (f x)
+    go : (b : Bool) → PassesOrNone (λ n. applies n rs) (firstToApply rs) → PassesOrNone (λ n. (eqb n (r .0) && b) || applies n rs) (cond b (r .0) (firstToApply rs))
+    go true x = inl (rw (eq-eqb (r .0) (r .0) refl))
+    go false (inl x) = inl (or-true-right (eqb (firstToApply rs) (r .0) && false) (applies (firstToApply rs) rs) x)
+    go false (inr x) = inr (x .0, λ n. rw (and-false-right (eqb n (r .0)) false refl) (x .1 n))
 
-rising : (a : List ℕ) (c : Call) → Rising 1 (refusals a c)
-unfolding refusals
-rising a c = omega arith
-
--- Any call, any numbers and any area. A refused call returns the smallest number of those that apply.
-pub smallest : (a : List ℕ) (c : Call) → isRefused (answerOn a c) ≡ true
-    → (applies (status (answerOn a c)) (refusals a c) ≡ true) × ((n : ℕ) → applies n (refusals a c) ≡ true → status (answerOn a c) ≤ n)
-smallest a c e =
+-- a refused call returns a number that applies, by f the least of those that apply
+least : (f : ℕ → ℕ) (a : List ℕ) (c : Call) → Rising f 0 (refusals a c) → isRefused (answerOn a c) ≡ true
+    → (applies (status (answerOn a c)) (refusals a c) ≡ true) × ((n : ℕ) → applies n (refusals a c) ≡ true → f (status (answerOn a c)) ≤ f n)
+least f a c o e =
     let g = gives a c in
     let z = eqb-false (firstToApply (refusals a c)) 0 (not-true (eqb (firstToApply (refusals a c)) 0) (sym (g .1) ∙ e)) in
-    (rw (g .0) (first-applies (refusals a c) z), λ n h. rw (g .0) (first-least 1 (refusals a c) (rising a c) n h .2))
+    (rw (g .0) (elim (first-applies (refusals a c)) [ inl x ↦ x | inr x ↦ absurd (z (x .0)) ]), λ n h. rw (g .0) (first-least f 0 (refusals a c) o n h .1))
+
+-- the table has a row for each number of the order, in this order, and no other
+pub rows-in-order : (a : List ℕ) (c : Call) → map (λ r. r .0) (refusals a c) ≡ order
+unfolding refusals order
+rows-in-order a c = refl
+
+by-place : (a : List ℕ) (c : Call) → Rising (place order) 0 (refusals a c)
+unfolding refusals order
+by-place a c = omega arith
+
+-- 21, which is for a tick alone, with 1
+abbrev rank : ℕ → ℕ
+rank n = cond (eqb n 21) 1 n
+
+by-number : (a : List ℕ) (c : Call) → Rising rank 0 (refusals a c)
+unfolding refusals
+by-number a c = omega arith
+
+other-rank : (a : List ℕ) (c : Call) → isTick c ≡ false → (n : ℕ) → applies n (refusals a c) ≡ true → rank n ≡ n
+unfolding refusals
+other-rank a c t n h = rw (not-true-false (eqb n 21) (λ q. true-false (sym h ∙ ap (λ (m : ℕ). applies m (refusals a c)) (eqb-true n 21 q) ∙ rw t)))
+
+-- Any call, any numbers and any area. A refused call returns the first in the order of those that apply.
+pub first-in-order : (a : List ℕ) (c : Call) → isRefused (answerOn a c) ≡ true
+    → (applies (status (answerOn a c)) (refusals a c) ≡ true) × ((n : ℕ) → applies n (refusals a c) ≡ true → place order (status (answerOn a c)) ≤ place order n)
+first-in-order a c = least (place order) a c (by-place a c)
+
+-- a refused call but a tick returns the smallest number of those that apply
+pub smallest : (a : List ℕ) (c : Call) → isTick c ≡ false → isRefused (answerOn a c) ≡ true
+    → (applies (status (answerOn a c)) (refusals a c) ≡ true) × ((n : ℕ) → applies n (refusals a c) ≡ true → status (answerOn a c) ≤ n)
+smallest a c t e =
+    let p = least rank a c (by-number a c) e in
+    (p .0, λ n h. let x = p .1 n h in let y = other-rank a c t _ (p .0) in let z = other-rank a c t n h in omega arith)
 
 -- a call is accepted where none applies, and nowhere else
 pub accepted-none : (a : List ℕ) (c : Call) → isRefused (answerOn a c) ≡ false → (n : ℕ) → applies n (refusals a c) ≡ false
+unfolding refusals
 accepted-none a c e n =
     let z = eqb-true (firstToApply (refusals a c)) 0 (not-false (eqb (firstToApply (refusals a c)) 0) (sym (gives a c .1) ∙ e)) in
-    not-true-false (applies n (refusals a c)) (λ h. let y = first-least 1 (refusals a c) (rising a c) n h in omega arith)
+    elim (first-applies (refusals a c)) [
+      | inl x ↦ true-false (sym x ∙ ap (λ (m : ℕ). applies m (refusals a c)) z)
+      | inr x ↦ x .1 n
+    ]
 
 pub none-accepted : (a : List ℕ) (c : Call) → ((n : ℕ) → applies n (refusals a c) ≡ false) → isRefused (answerOn a c) ≡ false
-none-accepted a c h = not-true-false (isRefused (answerOn a c)) (λ e. true-false (sym (smallest a c e .0) ∙ h (status (answerOn a c))))
+none-accepted a c h = not-true-false (isRefused (answerOn a c)) (λ e. true-false (sym (first-in-order a c e .0) ∙ h (status (answerOn a c))))
 
 -- a call returns 0 where it is accepted, and nowhere else
 pub returned : (a : List ℕ) (c : Call) → isRefused (answerOn a c) ≡ not (eqb (status (answerOn a c)) 0)

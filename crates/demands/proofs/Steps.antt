@@ -41,7 +41,7 @@ use Rattle.sabre.proofs.SoundAreas.{encode-sound, sound-area}
 
 -- ---- a refused call leaves the state
 
--- a served request or retry is not refused
+-- a served request is not refused
 granted-accepted : (u : State) (row slot : ℕ) (mode : Mode) (arrival : ℕ) (back : Back) → isRefused (granted u row slot mode arrival back .answer) ≡ false
 unfolding word
 granted-accepted u row slot mode arrival back =
@@ -69,7 +69,7 @@ refused-still s c = go (outcome s c) (effect s c)
     go o (begins level number deadline q t e) r = true-false (sym (rw e at r))
     go o (unpins level number page slot q t f p e) r = true-false (sym (rw e at r))
     go o (ends level number q n e) r = true-false (sym (rw e at r))
-    go o (ticks q h e) r = true-false (sym (rw e at r))
+    go o (ticks room q w h e) r = true-false (sym (rw e at r))
     go o (sets b q t e) r = true-false (sym (rw e at r))
     go o (serves row page mode b a m e) r = true-false (sym (rw e at r) ∙ served-accepted s row page mode)
 

@@ -13,9 +13,9 @@ use Rattle.model.specs.declared.Borders.{Borders}
 use Rattle.model.specs.declared.Call.{Call}
 use Rattle.model.specs.declared.Call.the-variants.{Look}
 use Rattle.rules.specs.Answers.{word, isStarted, Told, told}
-use Rattle.rules.specs.Content.{fields, isAsking, namesRow, Fits}
+use Rattle.rules.specs.Content.{fields, isRequest, namesRow, Fits}
 use Rattle.rules.specs.Secrecy.{isKept, keptCalls}
-use Rattle.rules.proofs.Leaves.ContentLaws.{unkept, asking-own}
+use Rattle.rules.proofs.Leaves.ContentLaws.{unkept, request-own}
 use Rattle.rules.proofs.Leaves.SettingLaws.{frozen}
 use Rattle.rules.proofs.Similar.{Similar, similar-clock, similar-told, similar-kept, similar-other}
 use Rattle.area.specs.Layout.{decoded}
@@ -78,8 +78,8 @@ module _ (L : ℕ) (most : L ≤ 3) (last : Borders) where
   unkept-delivery a c k level number l =
       let u = unkept L c k in
       rw (
-        not-true-false (isAsking c && namesRow level number c) (λ e.
-            let own = asking-own c (search parts depth 20) .0 in
+        not-true-false (isRequest c && namesRow level number c) (λ e.
+            let own = request-own c (search parts depth 20) .0 in
             let same = eqb-true (fields c .level) level (search parts depth 20) in
             omega (arith, u .1 own)),
         u .0,

@@ -1,4 +1,4 @@
--- Document 01, "Refusals": its table row by row, row 12 as T-01 of document 02 has it, rows 13 and 14 as T-02 has them and its rows 19 and 20, over lent areas. Refusal 18 is the player's.
+-- Document 01, "Refusals": its table row by row, row 12 as T-01 of document 02 has it, rows 13 and 14 as T-02 has them and its rows 19 and 20, and the row 21 of T-04, over lent areas. Refusal 18 is the player's.
 -- What it says of a row's condition, a deadline, a pin and a class is said here anew, and not by the words of the definitions that it judges.
 use mathlib.Core.Bool.{Bool, true, false, cond, _&&_, _||_, not}
 use mathlib.Core.List.{List, [], _∷_}
@@ -16,7 +16,7 @@ use Rattle.model.specs.declared.Pin.the-variants as Pin
 use Rattle.model.specs.declared.Borders.{Borders}
 use Rattle.model.specs.declared.State.{State}
 use Rattle.model.specs.State.{rowAt, slotAt, holdingAt}
-use Rattle.rules.specs.Content.{fields, isStart, isBegin, isRequest, isUnpin, isEnd, isRetry, isTick, isBorders, rowNamed}
+use Rattle.rules.specs.Content.{fields, isStart, isBegin, isRequest, isUnpin, isEnd, isTick, isBorders, rowNamed}
 use Rattle.area.specs.Layout.{decoded}
 use Rattle.sabre.specs.Lent.{soundArea}
 
@@ -42,13 +42,6 @@ fetchingOrWaiting (Fetching due) = true
 fetchingOrWaiting (Waiting page mode) = true
 fetchingOrWaiting (Killed cause) = false
 
-abbrev pub idleOrFetching : Condition → Bool
-idleOrFetching Free = false
-idleOrFetching Idle = true
-idleOrFetching (Fetching due) = true
-idleOrFetching (Waiting page mode) = false
-idleOrFetching (Killed cause) = false
-
 -- the page is pinned by the row: some slot has the page, and the row's pin there is read or write
 abbrev pub has : ℕ → Content → Bool
 has page Empty = false
@@ -70,7 +63,12 @@ reached page border = cond (leb border page) 1 0
 abbrev pub class : Borders → ℕ → ℕ
 class b page = reached page (b .first) + reached page (b .second) + reached page (b .third)
 
--- the refusals by rising number, each with whether it applies to the call on the area
+-- The numbers of the refusals in the documents' order: of those that apply to a call the first is given.
+-- Document 01: the smallest number first; document 02, T-02: 19 after 1, 20 after 19; T-04: 21 between 1 and 17, and no 16 any more.
+unfoldable pub order : List ℕ
+order = 1 ∷ 21 ∷ 2 ∷ 3 ∷ 4 ∷ 5 ∷ 6 ∷ 7 ∷ 8 ∷ 9 ∷ 10 ∷ 11 ∷ 12 ∷ 13 ∷ 14 ∷ 15 ∷ 17 ∷ 19 ∷ 20 ∷ []
+
+-- the refusals in this order, each with whether it applies to the call on the area
 unfoldable pub refusals : List ℕ → Call → List (ℕ × Bool)
 refusals a c =
     let x = fields c in
@@ -78,6 +76,7 @@ refusals a c =
     let pageClass = class (s .borders) (x .page) in
     let condition = rowAt s (rowNamed c) .condition in
     (1, ltb (length a) 65536 || (not (isStart c) && not (soundArea a)))
+    ∷ (21, isTick c && ltb (x .room) 256)
     ∷ (2, isStart c && not (leb 1 (x .slots) && leb (x .slots) 64))
     ∷ (3, isStart c && not (leb 1 (x .delay) && leb (x .delay) 255))
     ∷ (4, ltb 3 (x .level))
@@ -85,14 +84,13 @@ refusals a c =
     ∷ (6, ltb 4095 (x .page))
     ∷ (7, ltb 1 (x .mode))
     ∷ (8, isBegin c && not (free condition))
-    ∷ (9, (isRequest c || isUnpin c || isEnd c || isRetry c) && free condition)
-    ∷ (10, (isRequest c || isUnpin c || isRetry c) && killed condition)
+    ∷ (9, (isRequest c || isUnpin c || isEnd c) && free condition)
+    ∷ (10, (isRequest c || isUnpin c) && killed condition)
     ∷ (11, (isRequest c || isUnpin c) && fetchingOrWaiting condition)
     ∷ (12, isBegin c && ltb (x .deadline) (s .clock))
     ∷ (13, isRequest c && eqb (x .mode) 0 && ltb (x .level) pageClass)
     ∷ (14, isRequest c && eqb (x .mode) 1 && ltb pageClass (x .level))
     ∷ (15, isUnpin c && not (pinned s (rowNamed c) (x .page)))
-    ∷ (16, isRetry c && idleOrFetching condition)
     ∷ (17, isTick c && leb 4000000000 (s .clock))
     ∷ (19, isBorders c && (ltb (x .second) (x .first) || ltb (x .third) (x .second) || ltb 4096 (x .first) || ltb 4096 (x .second) || ltb 4096 (x .third)))
     ∷ (20, isBorders c && s .begun)
@@ -102,3 +100,8 @@ refusals a c =
 abbrev pub applies : ℕ → List (ℕ × Bool) → Bool
 applies n [] = false
 applies n (r ∷ rs) = (eqb n (r .0) && r .1) || applies n rs
+
+-- the place of n in a list: how many numbers stand before it
+abbrev pub place : List ℕ → ℕ → ℕ
+place [] n = 0
+place (m ∷ ms) n = cond (eqb m n) 0 (1 + place ms n)

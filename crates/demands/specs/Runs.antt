@@ -1,4 +1,4 @@
--- Demand 3 and document 01, "Two runs side by side", as T-02 of document 02 has it, over lent areas: each call gets the area as the one before left it.
+-- Demand 3 and document 01, "Two runs side by side", as T-02 and T-04 of document 02 have it, over lent areas: each call gets the area as the one before left it.
 use mathlib.Core.Path.{_≡_}
 use mathlib.Core.Bool.{Bool, true, _&&_, _||_, not}
 use mathlib.Core.List.{List, [], _∷_}
@@ -9,7 +9,7 @@ use Rattle.model.specs.declared.Borders.{Borders}
 use Rattle.model.specs.declared.Call.{Call}
 use Rattle.model.specs.declared.Call.the-variants.{Start, Look}
 use Rattle.rules.specs.Answers.{isStarted, isReady, isPending, isIdle, Told, told}
-use Rattle.rules.specs.Content.{isTick, isAsking, namesRow, Fits}
+use Rattle.rules.specs.Content.{isTick, isRequest, namesRow, Fits}
 use Rattle.rules.specs.Secrecy.{isKept, keptCalls, isQuestion}
 use Rattle.area.specs.Layout.{decoded}
 use Rattle.sabre.specs.Lent.{answerOn, areaAfter}
@@ -31,10 +31,10 @@ notStartedAgain a cs = throughout areaAfter (λ b c. not (isStarted (answerOn b 
 unfoldable pub keptAnswersOn : ℕ → List ℕ → List Call → List Told
 keptAnswersOn L a cs = noted areaAfter (λ b c. isKept L c) (λ b c. told (answerOn b c)) a cs
 
--- a row's delivery is a ready answer to its request or retry,
+-- a row's delivery is a ready answer to its request,
 -- or a tick over which a look at the row turns from fetch or wait to idle
 abbrev pub readyOn : List ℕ → Call → ℕ → ℕ → Bool
-readyOn a c level number = isAsking c && namesRow level number c && isReady (answerOn a c)
+readyOn a c level number = isRequest c && namesRow level number c && isReady (answerOn a c)
 
 abbrev pub turnsIdleOn : List ℕ → Call → ℕ → ℕ → Bool
 turnsIdleOn a c level number = isTick c && isPending (answerOn a (Look level number)) && isIdle (answerOn (areaAfter a c) (Look level number))

@@ -2,4 +2,4 @@ pub mod RecordLaws
 pub mod TextLaws
 pub mod DecimalLaws
 pub mod PlayLaws
-pub mod PartLaws
+pub mod RunLaws

@@ -1,86 +1,67 @@
--- Records played on an area: what each comes to, the numbers of their lines, and the length of their text.
+-- A record played on an area: what it comes to, the length of its text, and the next record's number.
 use mathlib.Core.Path.{_≡_, refl, _∙_, sym}
 use mathlib.Core.Bool.{Bool, true, false, cond}
-use mathlib.Core.List.{List, []}
-use Prim.Native.Nat.{ℕ, zero, suc, _+_, _*_, _-_, _<_, _≤_}
+use mathlib.Core.List.{List}
+use Prim.Native.Nat.{ℕ, _+_, _≤_}
 use native.Mathlib.Omega.{arith}
-use native.Mathlib.Numerals.{add-one}
-use lib.ListN.{length, getD, take, drop, length-append, length-drop}
-use lib.Seq.{take-all}
-use Rattle.words.specs.Bytes.{part}
+use lib.ListN.{length, getD, length-append, length-replicate}
 use Rattle.sabre.specs.Lent.{answerNumbers}
 use Rattle.record.specs.declared.Input.{Input}
+use Rattle.record.specs.declared.Input.the-variants.{Bad}
 use Rattle.record.specs.declared.Progress.{Progress}
-use Rattle.record.specs.Record.{recordOf}
-use Rattle.record.specs.Text.{lineOf}
-use Rattle.record.specs.Play.{Played, admitted, answerTo, areaWith, nextProgress, playedRecord, playedOne, andOne, played, records}
-use Rattle.record.specs.Inner.Written.{Wrote}
-use Rattle.record.proofs.TextLaws.{wrote-none, wrote-more, line-most}
+use Rattle.record.specs.Record.{recordWidth, listLength, recordOf}
+use Rattle.record.specs.Text.{lineOf, fillLines, mostText}
+use Rattle.record.specs.Play.{Played, isBad, admitted, answerTo, areaWith, zeroList, listWith, nextProgress, playedRecord, unplayed, playedOne}
+use Rattle.words.specs.Inner.Written.{Wrote}
+use Rattle.words.proofs.WroteLaws.{wrote-none, wrote-more}
+use Rattle.record.proofs.RecordLaws.{cut}
+use Rattle.record.proofs.TextLaws.{line-most, fills-most}
 
 -- a run came to what p says: its progress, the area, and the text written over out from a place on
 abbrev pub Came : Played → Progress → (b out : List ℕ) (at : ℕ) (out' : List ℕ) (end : ℕ) → Type 0
 Came p n b out at out' end = (n ≡ p .progress) × ((b ≡ p .area) × Wrote out at (p .text) out' end)
+
+pub zero-long : (list : List ℕ) → list ≡ zeroList → listLength ≡ length list
+unfolding zeroList
+zero-long list e = rw e (sym (length-replicate {A = ℕ} listLength 0))
 
 module _ (t : Progress) (a bytes out : List ℕ) (at : ℕ) where
   pub one-over : t .over ≡ true → Came (playedOne t a bytes) t a out at out at
   unfolding playedOne
   one-over e = rw e (refl, (refl, wrote-none out at))
 
-  pub one-played : (y : Input) (ns b out' : List ℕ) (end : ℕ) (n : Progress) → t .over ≡ false → y ≡ admitted (t .started) (recordOf bytes)
-      → ns ≡ answerNumbers (answerTo a y) → b ≡ areaWith a y → Wrote out at (lineOf (t .number) ns) out' end → n ≡ nextProgress t y (getD ns 0 0)
+  pub one-played : (y : Input) (ns b zeros list mid out' : List ℕ) (middle end : ℕ) (n : Progress) → t .over ≡ false → y ≡ admitted (t .started) (recordOf bytes)
+      → ns ≡ answerNumbers (answerTo a y) → b ≡ areaWith a y → zeros ≡ zeroList → list ≡ listWith a zeros y
+      → Wrote out at (lineOf (t .number) ns) mid middle → Wrote mid middle (fillLines (t .number) list) out' end → middle ≤ length out → n ≡ nextProgress t y (getD ns 0 0)
       → Came (playedOne t a bytes) n b out at out' end
   unfolding playedOne playedRecord answerNumbers
-  one-played y ns b out' end n e k told left w m =
+  one-played y ns b zeros list mid out' middle end n e k told left z listed v w h m =
       let o : playedOne t a bytes ≡ playedRecord t a y = rw (e, k) in
-      rw o (m ∙ rw told, (left, rw told at w))
+      let both = wrote-more out mid out' at middle end (lineOf (t .number) ns) (fillLines (t .number) list) v w h in
+      rw o (m ∙ rw told, (left, rw (told, listed, z) at both))
 
--- a record's line is short, and the numbers rise by one
-one-small : (t : Progress) (a bytes : List ℕ) → (length (playedOne t a bytes .text) ≤ 95) × (playedOne t a bytes .progress .number ≤ t .number + 1)
+-- a record's text is short, and the numbers rise by one
+pub one-small : (t : Progress) (a bytes : List ℕ) → (length (playedOne t a bytes .text) ≤ mostText) × (playedOne t a bytes .progress .number ≤ t .number + 1)
 unfolding playedOne playedRecord nextProgress
 one-small t a bytes = go (t .over)
   where
     r : Input
     r = admitted (t .started) (recordOf bytes)
 
-    go : (b : Bool) → let p = cond b (record { progress = t; area = a; text = [] }) (playedRecord t a r) in (length (p .text) ≤ 95) × (p .progress .number ≤ t .number + 1)
+    go : (b : Bool) → let p = cond b (unplayed t a) (playedRecord t a r) in (length (p .text) ≤ mostText) × (p .progress .number ≤ t .number + 1)
     go true = (omega arith, omega arith)
-    go false = (line-most (t .number) (answerNumbers (answerTo a r)), omega arith)
+    go false =
+        (rw length-append (omega (arith, line-most (t .number) (answerNumbers (answerTo a r)), fills-most (t .number) (listWith a zeroList r))), omega arith)
 
-module _ (t : Progress) (a bytes : List ℕ) where
-  pub played-small : (n : ℕ) → (length (played n t a bytes .text) ≤ n * 95) × (played n t a bytes .progress .number ≤ t .number + n)
-  unfolding played andOne
-  played-small zero = (omega arith, omega arith)
-  played-small (suc n) =
-      let p = played n t a bytes in
-      let h = played-small n in
-      let o = one-small (p .progress) (p .area) (part bytes (n * 12) 12) in
-      (rw length-append (omega arith), omega arith)
+-- after a cut record the run is over
+pub cut-over : (t : Progress) (a r : List ℕ) → (length r ≡ recordWidth → ⊥) → playedOne t a r .progress .over ≡ true
+unfolding playedOne playedRecord nextProgress admitted
+cut-over t a r f = go (t .over) refl
+  where
+    bad : (s : Bool) → isBad (admitted s Bad) ≡ true
+    bad true = refl
+    bad false = refl
 
-  pub came-small : (i : ℕ) (n : Progress) (b out₀ out : List ℕ) (at : ℕ) → Came (played i t a bytes) n b out₀ 0 out at → (at ≤ i * 95) × (n .number ≤ t .number + i)
-  came-small i n b out₀ out at u = (omega (arith, u .1 .1 .ends, played-small i), rw (u .0) (played-small i .1))
-
-  pub came-none : (out : List ℕ) → Came (played 0 t a bytes) t a out 0 out 0
-  unfolding played
-  came-none out = (refl, (refl, wrote-none out 0))
-
-  pub came-more : (i : ℕ) (n : Progress) (b out₀ out : List ℕ) (at : ℕ) → Came (played i t a bytes) n b out₀ 0 out at → i * 95 ≤ length out₀
-      → (r : List ℕ) → r ≡ part bytes (i * 12) 12 → (n' : Progress) (b' out' : List ℕ) (at' : ℕ) → Came (playedOne n b r) n' b' out at out' at' → Came (played (i + 1) t a bytes) n' b' out₀ 0 out' at'
-  unfolding played andOne
-  came-more i n b out₀ out at u h r e n' b' out' at' v =
-      let o = rw (u .0, u .1 .0, e) at v in
-      rw (add-one i) (o .0, (o .1 .0, wrote-more out₀ out out' 0 at at' (played i t a bytes .text) _ (u .1 .1) (o .1 .1) (omega (arith, came-small i n b out₀ out at u))))
-
--- the part that a record's bytes are: all that is left where that is less
-pub part-short : (bytes : List ℕ) (i : ℕ) → length bytes - i * 12 < 12 → take (length bytes - i * 12) (drop (i * 12) bytes) ≡ part bytes (i * 12) 12
-part-short bytes i h =
-    take-all (length bytes - i * 12) (drop (i * 12) bytes) (rw length-drop (omega arith))
-    ∙ sym (take-all 12 (drop (i * 12) bytes) (rw length-drop (omega arith)))
-
-pub part-full : (bytes : List ℕ) (i : ℕ) → take (i * 12 + 12 - i * 12) (drop (i * 12) bytes) ≡ part bytes (i * 12) 12
-part-full bytes i =
-    let e : i * 12 + 12 - i * 12 ≡ 12 = omega arith in
-    rw e
-
-pub records-most : (bytes : List ℕ) (k : ℕ) → length bytes ≤ k * 12 → records bytes ≤ k
-unfolding records
-records-most bytes k h = omega arith
+    go : (b : Bool) → t .over ≡ b → cond b (unplayed t a) (playedRecord t a (admitted (t .started) (recordOf r))) .progress .over ≡ true
+    go true e = e
+    go false e = rw (← cut r f) (bad (t .started))

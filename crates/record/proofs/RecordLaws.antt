@@ -1,28 +1,31 @@
--- What the bytes of a record and its fields come to, and which calls are no start.
+-- What the bytes of a record and its fields come to, how much of the list its call is lent, and which calls are no start and no tick.
 use Prim.{Unit}
 use mathlib.Core.Path.{_≡_, refl, _∙_, sym}
-use mathlib.Core.Bool.{false, not}
+use mathlib.Core.Bool.{Bool, true, false, cond, not, _&&_}
 use mathlib.Core.List.{List, [], _∷_, _++_}
 use Prim.Native.Nat.{ℕ, zero, suc, _+_, _*_, _^_, _<_, _≤_}
 use native.Mathlib.Nat.{pow-suc, pow-le-pow-right}
 use native.Mathlib.Numerals.{add-one}
+use native.Mathlib.Decide.{ℕ-discrete}
 use native.Mathlib.Omega.{arith}
-use borrow.Author.Tests.{eq-eqb, ne-eqb}
+use borrow.Author.Tests.{eq-eqb, ne-eqb, leb-true}
 use mir.Val.{hasKey}
 use denote.Enum.Declared.{tagOf}
 use types.Run.{OneOf, miss}
-use lib.Dec.{T}
-use lib.ListN.{length, getD, drop, length-drop}
+use lib.Dec.{T, leb}
+use lib.ListN.{length, getD, drop, length-drop, List·getD-eq-default}
 use lib.Seq.{take-suc, getD-drop}
 use Rattle.words.specs.Bytes.{part}
-use Rattle.seq.proofs.Tests.{and-false-right}
+use Rattle.seq.proofs.Tests.{and-left, and-right, and-false-right}
 use Rattle.model.proofs.Call.{the-type}
 use Rattle.model.specs.declared.Call.{Call}
-use Rattle.model.specs.declared.Call.the-variants.{Start, Begin, Request, Retry, Unpin, End, Tick, Look, View, Count, Borders}
-use Rattle.rules.specs.Content.{isStart}
+use Rattle.model.specs.declared.Call.the-variants.{Start, Begin, Request, Unpin, End, Tick, Look, View, Count, Borders}
+use Rattle.rules.specs.Content.{isStart, isTick}
 use Rattle.record.specs.declared.Input.{Input}
-use Rattle.record.specs.declared.Input.the-variants.{Bad}
-use Rattle.record.specs.Record.{bigEndian, field, isWhole, ofKind, recordOf}
+use Rattle.record.specs.declared.Input.the-variants.{Bad, Good}
+use Rattle.record.specs.Record.{recordWidth, listLength, bigEndian, field, kinds, isWhole, ofKind, recordOf}
+use Rattle.record.specs.Play.{admitted}
+use Rattle.record.specs.Inner.Room.{roomOf}
 
 big-last : (x : ℕ) (bs : List ℕ) (b : ℕ) → bigEndian x (bs ++ (b ∷ [])) ≡ bigEndian x bs * 256 + b
 unfolding bigEndian
@@ -45,39 +48,91 @@ abbrev NoneBelow : ℕ → ℕ → Type 0
 NoneBelow zero k = Unit {0}
 NoneBelow (suc n) k = NoneBelow n k × (k ≡ n → ⊥)
 
-pub none-below : (n k : ℕ) → NoneBelow n k → n ≤ k
+none-below : (n k : ℕ) → NoneBelow n k → n ≤ k
 none-below zero k h = omega arith
 none-below (suc n) k h =
     let p : n ≤ k = none-below n k (h .0) in
     let q = h .1 in
     omega arith
 
+module _ (k level number mode page value : ℕ) where
+  -- a kind that has no arm: 5, or one past the list
+  pub other-kind : ((((NoneBelow 5 k × (k ≡ 6 → ⊥)) × (k ≡ 7 → ⊥)) × (k ≡ 8 → ⊥)) × (k ≡ 9 → ⊥)) × (k ≡ 10 → ⊥) → Bad ≡ ofKind k level number mode page value
+  unfolding ofKind kinds
+  other-kind h = elim (ℕ-discrete k 5) [
+    | yes e ↦ rw e
+    | no e ↦ sym (List·getD-eq-default (kinds level number mode page value) Bad (none-below 11 k ((((((h .0 .0 .0 .0 .0, e), h .0 .0 .0 .0 .1), h .0 .0 .0 .1), h .0 .0 .1), h .0 .1), h .1)))
+  ]
+
+-- each kind's call is lent at most the whole list
+allRoom : List Input → Bool
+allRoom [] = true
+allRoom (r ∷ rs) = leb (roomOf r) listLength && allRoom rs
+
+each-room : (rs : List Input) → allRoom rs ≡ true → (k : ℕ) → roomOf (getD rs k Bad) ≤ listLength
+unfolding allRoom
+each-room [] h k = omega arith
+each-room (r ∷ rs) h zero = leb-true (roomOf r) listLength (and-left _ (allRoom rs) h)
+each-room (r ∷ rs) h (suc k) = each-room rs (and-right (leb (roomOf r) listLength) _ h) k
+
+record-room : (r : List ℕ) → roomOf (recordOf r) ≤ listLength
+unfolding recordOf ofKind kinds allRoom
+record-room r = go (isWhole r)
+  where
+    go : (b : Bool) → roomOf (cond b (ofKind (field r 2 1) (field r 3 1) (field r 4 1) (field r 5 1) (field r 6 2) (field r 8 4)) Bad) ≤ listLength
+    go true = each-room (kinds (field r 3 1) (field r 4 1) (field r 5 1) (field r 6 2) (field r 8 4)) refl (field r 2 1)
+    go false = omega arith
+
+pub admitted-room : (started : Bool) (r : List ℕ) → roomOf (admitted started (recordOf r)) ≤ listLength
+unfolding admitted
+admitted-room started r = go started (recordOf r) (record-room r)
+  where
+    go : (s : Bool) (x : Input) → roomOf x ≤ listLength → roomOf (admitted s x) ≤ listLength
+    go true x h = h
+    go false Bad h = h
+    go false (Good c) h = pick (isStart c)
+      where
+        pick : (b : Bool) → roomOf (cond b (Good c) Bad) ≤ listLength
+        pick true = h
+        pick false = omega arith
+
 module _ (r : List ℕ) where
-  pub cut : (length r ≡ 12 → ⊥) → Bad ≡ recordOf r
+  pub cut : (length r ≡ recordWidth → ⊥) → Bad ≡ recordOf r
   unfolding recordOf isWhole
-  cut h = rw (ne-eqb (length r) 12 h)
+  cut h = rw (ne-eqb (length r) recordWidth h)
 
   pub other-mark : (m : ℕ) → m ≡ field r 0 2 → (m ≡ 50010 → ⊥) → Bad ≡ recordOf r
   unfolding recordOf isWhole
   other-mark m e h = rw (and-false-right _ _ (ne-eqb (field r 0 2) 50010 (λ q. h (e ∙ q))))
 
-  pub whole : (m kind level number mode page value : ℕ) (x : Input) → length r ≡ 12 → m ≡ field r 0 2 → m ≡ 50010
+  pub whole : (m kind level number mode page value : ℕ) (x : Input) → length r ≡ recordWidth → m ≡ field r 0 2 → m ≡ 50010
       → kind ≡ field r 2 1 → level ≡ field r 3 1 → number ≡ field r 4 1 → mode ≡ field r 5 1 → page ≡ field r 6 2 → value ≡ field r 8 4
       → x ≡ ofKind kind level number mode page value → x ≡ recordOf r
   unfolding recordOf isWhole
   whole m kind level number mode page value x l e f e2 e3 e4 e5 e6 e8 q =
-      rw (eq-eqb (length r) 12 l, eq-eqb (field r 0 2) 50010 (sym e ∙ f), ← e2, ← e3, ← e4, ← e5, ← e6, ← e8) q
+      rw (eq-eqb (length r) recordWidth l, eq-eqb (field r 0 2) 50010 (sym e ∙ f), ← e2, ← e3, ← e4, ← e5, ← e6, ← e8) q
 
--- start is the enum's variant 0
+-- start is the enum's variant 0, and tick its variant 5
 pub no-start : (c : Call) (tags : List ℕ) → T (not (hasKey tags 0)) → OneOf tags (tagOf the-type c) → isStart c ≡ false
 no-start (Start slots delay) tags f h = absurd (miss tags 0 f h)
 no-start (Begin level number deadline) tags f h = refl
 no-start (Request level number page mode) tags f h = refl
-no-start (Retry level number) tags f h = refl
 no-start (Unpin level number page) tags f h = refl
 no-start (End level number) tags f h = refl
-no-start Tick tags f h = refl
+no-start (Tick room) tags f h = refl
 no-start (Look level number) tags f h = refl
 no-start (View level page) tags f h = refl
 no-start (Count level) tags f h = refl
 no-start (Borders first second third) tags f h = refl
+
+pub no-tick : (c : Call) (tags : List ℕ) → T (not (hasKey tags 5)) → OneOf tags (tagOf the-type c) → isTick c ≡ false
+no-tick (Start slots delay) tags f h = refl
+no-tick (Begin level number deadline) tags f h = refl
+no-tick (Request level number page mode) tags f h = refl
+no-tick (Unpin level number page) tags f h = refl
+no-tick (End level number) tags f h = refl
+no-tick (Tick room) tags f h = absurd (miss tags 5 f h)
+no-tick (Look level number) tags f h = refl
+no-tick (View level page) tags f h = refl
+no-tick (Count level) tags f h = refl
+no-tick (Borders first second third) tags f h = refl

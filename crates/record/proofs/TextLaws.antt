@@ -1,38 +1,24 @@
--- Lists written one after another, and how long the parts of a line are.
+-- Texts written one after another, and how long the parts of a line are.
 use mathlib.Core.Path.{_≡_, refl, _∙_, sym}
 use mathlib.Core.Bool.{Bool, true, false, cond, _&&_}
 use mathlib.Core.List.{List, [], _∷_, _++_, map, append-assoc, append-nil}
-use Prim.Native.Nat.{ℕ, zero, suc, _+_, _-_, _/_, _%_, _<_, _≤_}
-use native.Mathlib.Nat.{add-zero}
+use Prim.Native.Nat.{ℕ, zero, suc, _+_, _*_, _-_, _/_, _%_, _<_, _≤_}
 use native.Mathlib.Numerals.{add-one, sub-one}
 use native.Mathlib.Decide.{decLt}
 use native.Mathlib.Omega.{arith}
-use borrow.Author.Tests.{lt-ltb, le-ltb, leb-true, ne-eqb}
-use lib.Dec.{ltb, leb}
+use borrow.Author.Tests.{lt-ltb, le-ltb, leb-true, eq-eqb, ne-eqb}
+use lib.Dec.{eqb, ltb, leb}
 use lib.ListN.{length, getD, take, drop, set, replicate, length-append, drop-of-length-le}
-use lib.Seq.{take-suc, length-take-le, sets-eq, drop-cons}
+use lib.Seq.{take-suc, length-take-le, drop-cons}
 use Rattle.seq.proofs.Tests.{and-left, and-right}
-use Rattle.words.specs.Bytes.{spliced, same}
+use Rattle.words.specs.Bytes.{spliced, joined, same}
+use Rattle.words.specs.Inner.Written.{Wrote}
 use Rattle.words.proofs.SpliceLaws.{spliced-length, spliced-none, spliced-more}
+use Rattle.words.proofs.WroteLaws.{set-spliced, wrote-none, wrote-more}
 use Rattle.words.proofs.SameLaws.{same-true}
-use Rattle.record.specs.Text.{digits, decimal, words, wordText, orDash, headText, tailText, lineOf}
-use Rattle.record.specs.Inner.Written.{upToZero, Wrote}
-
-pub set-spliced : (a : List ℕ) (at b : ℕ) → at < length a → set a at b ≡ spliced a at (b ∷ [])
-set-spliced a at b h = sets-eq (b ∷ []) a at (omega arith)
-
-pub wrote-none : (a : List ℕ) (at : ℕ) → Wrote a at [] a at
-wrote-none a at = record { ends = sym (add-zero at); holds = spliced-none a at }
-
-pub wrote-one : (a : List ℕ) (at b : ℕ) → at < length a → Wrote a at (b ∷ []) (set a at b) (at + 1)
-wrote-one a at b h = record { ends = refl; holds = set-spliced a at b h }
-
--- a second list written where the first ends
-pub wrote-more : (a b d : List ℕ) (at n m : ℕ) (xs ys : List ℕ) → Wrote a at xs b n → Wrote b n ys d m → n ≤ length a → Wrote a at (xs ++ ys) d m
-wrote-more a b d at n m xs ys v w h = record {
-  ends = rw (length-append xs ys) (omega (arith, v .ends, w .ends));
-  holds = w .holds ∙ rw (v .holds) (spliced-more a at xs ys n (sym (v .ends)) h);
-}
+use Rattle.record.specs.Record.{field}
+use Rattle.record.specs.Text.{digits, decimal, words, wordText, orDash, headText, tailText, lineOf, fillNumbers, fillLine, fillLines}
+use Rattle.record.specs.Inner.Written.{upToZero}
 
 -- where a loop that writes a text stands before byte i
 pub record Texted (a : List ℕ) (at : ℕ) (xs : List ℕ) (i : ℕ) (b : List ℕ) : Type 0 where
@@ -154,3 +140,61 @@ pub line-most : (number : ℕ) (answer : List ℕ) → length (lineOf number ans
 unfolding lineOf
 line-most number answer =
     rw length-append (omega (arith, head-most number (getD answer 0 0) (getD answer 1 0), tail-most (getD answer 2 0) (getD answer 3 0)))
+
+-- ---- the lines of a tick's list
+
+joined-most : (k : ℕ) (f : ℕ → List ℕ) → ((i : ℕ) → length (f i) ≤ k) → (n : ℕ) → length (joined n f) ≤ n * k
+unfolding joined
+joined-most k f h zero = omega arith
+joined-most k f h (suc n) = rw length-append (omega (arith, h n, joined-most k f h n))
+
+module _ (number : ℕ) (list : List ℕ) where
+  fill-most : (i : ℕ) → length (fillLine number list i) ≤ 95
+  unfolding fillLine
+  fill-most i = go (eqb (field list (i * 8 + 3) 1) 0)
+    where
+      go : (b : Bool) → length (cond b [] (lineOf number (fillNumbers list (i * 8)))) ≤ 95
+      go true = omega arith
+      go false = line-most number (fillNumbers list (i * 8))
+
+  -- the first i lines
+  abbrev pub firstFills : ℕ → List ℕ
+  firstFills i = joined i (fillLine number list)
+
+  pub first-most : (i : ℕ) → length (firstFills i) ≤ i * 95
+  first-most i = joined-most 95 (fillLine number list) fill-most i
+
+  pub fills-most : length (fillLines number list) ≤ 32 * 95
+  unfolding fillLines
+  fills-most = first-most 32
+
+  pub no-fill : (a : List ℕ) (at i flag : ℕ) → flag ≡ field list (i * 8 + 3) 1 → flag ≡ 0 → Wrote a at (fillLine number list i) a at
+  unfolding fillLine
+  no-fill a at i flag e f = rw (eq-eqb (field list (i * 8 + 3) 1) 0 (sym e ∙ f)) (wrote-none a at)
+
+  pub one-fill : (a b : List ℕ) (at n i flag : ℕ) (ns : List ℕ) → flag ≡ field list (i * 8 + 3) 1 → (flag ≡ 0 → ⊥) → ns ≡ fillNumbers list (i * 8)
+      → Wrote a at (lineOf number ns) b n → Wrote a at (fillLine number list i) b n
+  unfolding fillLine
+  one-fill a b at n i flag ns e f g w = rw (ne-eqb (field list (i * 8 + 3) 1) 0 (λ z. f (e ∙ z)), ← g) w
+
+  pub fills-none : (a : List ℕ) (at : ℕ) → Wrote a at (firstFills 0) a at
+  unfolding joined
+  fills-none a at = wrote-none a at
+
+  pub fills-more : (a b d : List ℕ) (at n m i : ℕ) → Wrote a at (firstFills i) b n → Wrote b n (fillLine number list i) d m → n ≤ length a → Wrote a at (firstFills (i + 1)) d m
+  unfolding joined
+  fills-more a b d at n m i v w h = rw (add-one i) (wrote-more a b d at n m (firstFills i) (fillLine number list i) v w h)
+
+  pub fills-end : (a b : List ℕ) (at n i : ℕ) → i ≡ 32 → Wrote a at (firstFills i) b n → Wrote a at (fillLines number list) b n
+  unfolding fillLines
+  fills-end a b at n i e w = rw e at w
+
+-- the numbers of an entry whose flag is 2, and of another
+module _ (list : List ℕ) (at level row slot flag : ℕ) (e0 : level ≡ field list at 1) (e1 : row ≡ field list (at + 1) 1) (e2 : slot ≡ field list (at + 2) 1) (e3 : flag ≡ field list (at + 3) 1) where
+  pub fill-back : (page : ℕ) → page ≡ field list (at + 6) 2 → flag ≡ 2 → 20 ∷ (level * 8 + row) ∷ (slot + 1) ∷ (page + 1) ∷ [] ≡ fillNumbers list at
+  unfolding fillNumbers
+  fill-back page e6 f = rw (← e0, ← e1, ← e2, ← e6, eq-eqb (field list (at + 3) 1) 2 (sym e3 ∙ f))
+
+  pub fill-alone : (flag ≡ 2 → ⊥) → 20 ∷ (level * 8 + row) ∷ (slot + 1) ∷ 0 ∷ [] ≡ fillNumbers list at
+  unfolding fillNumbers
+  fill-alone f = rw (← e0, ← e1, ← e2, ne-eqb (field list (at + 3) 1) 2 (λ z. f (e3 ∙ z)))

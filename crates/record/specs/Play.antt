@@ -1,20 +1,19 @@
--- Document 01, "The player": records played one after another on an area, and the text that comes out.
+-- Document 01, "The player", and document 02, T-04: records played one after another on an area, and the text that comes out.
 use mathlib.Core.Bool.{Bool, true, false, cond, not, _||_}
-use mathlib.Core.List.{List, [], _++_}
-use Prim.Native.Nat.{ℕ, zero, suc, _+_, _*_, _/_}
+use mathlib.Core.List.{List, [], _∷_, _++_}
+use Prim.Native.Nat.{ℕ, zero, suc, _+_}
 use lib.Dec.{eqb}
-use lib.ListN.{length}
-use Rattle.words.specs.Bytes.{part}
+use lib.ListN.{length, take, drop, replicate}
 use Rattle.model.specs.declared.Answer.{Answer}
 use Rattle.model.specs.declared.Answer.the-variants.{Refused}
 use Rattle.rules.specs.Answers.{word}
-use Rattle.rules.specs.Content.{isStart}
-use Rattle.sabre.specs.Lent.{answerOn, areaAfter, answerNumbers}
+use Rattle.rules.specs.Content.{isStart, isTick}
+use Rattle.sabre.specs.Lent.{answerOn, areaAfter, listAfter, answerNumbers}
 use Rattle.record.specs.declared.Progress.{Progress}
 use Rattle.record.specs.declared.Input.{Input}
 use Rattle.record.specs.declared.Input.the-variants.{Bad, Good}
-use Rattle.record.specs.Record.{recordOf}
-use Rattle.record.specs.Text.{lineOf, header}
+use Rattle.record.specs.Record.{recordWidth, listLength, recordOf}
+use Rattle.record.specs.Text.{lineOf, fillLines, header}
 
 abbrev pub isBad : Input → Bool
 isBad Bad = true
@@ -35,6 +34,15 @@ unfoldable pub areaWith : List ℕ → Input → List ℕ
 areaWith a Bad = a
 areaWith a (Good c) = areaAfter a c
 
+-- the list as the player lends it
+unfoldable pub zeroList : List ℕ
+zeroList = replicate listLength 0
+
+-- the list after a record: only a tick is lent it
+unfoldable pub listWith : List ℕ → List ℕ → Input → List ℕ
+listWith a list Bad = list
+listWith a list (Good c) = cond (isTick c) (listAfter a c list) list
+
 -- where a run stands, what it has made of the area, and what it has printed
 pub record Played : Type 0 where
   pub progress : Progress
@@ -45,34 +53,44 @@ pub record Played : Type 0 where
 unfoldable pub nextProgress : Progress → Input → ℕ → Progress
 nextProgress t r word = record { started = t .started || not (eqb word 0); over = isBad r; number = t .number + 1 }
 
--- a record that was admitted: its line, and the run ends after a bad one
+-- a record that was admitted: its line and those of what it filled, and the run ends after a bad one
 unfoldable pub playedRecord : Progress → List ℕ → Input → Played
 playedRecord t a r = record {
   progress = nextProgress t r (word (answerTo a r));
   area = areaWith a r;
-  text = lineOf (t .number) (answerNumbers (answerTo a r));
+  text = lineOf (t .number) (answerNumbers (answerTo a r)) ++ fillLines (t .number) (listWith a zeroList r);
 }
+
+-- nothing played
+abbrev pub unplayed : Progress → List ℕ → Played
+unplayed t a = record { progress = t; area = a; text = [] }
 
 -- the next record's bytes; nothing is played once the run is over
 unfoldable pub playedOne : Progress → List ℕ → List ℕ → Played
-playedOne t a bytes = cond (t .over) (record { progress = t; area = a; text = [] }) (playedRecord t a (admitted (t .started) (recordOf bytes)))
+playedOne t a bytes = cond (t .over) (unplayed t a) (playedRecord t a (admitted (t .started) (recordOf bytes)))
 
--- a run with one more record played
-unfoldable pub andOne : Played → List ℕ → Played
-andOne p bytes = let q = playedOne (p .progress) (p .area) bytes in record { progress = q .progress; area = q .area; text = p .text ++ q .text }
+-- a run, and what goes on where it stands
+abbrev pub andThen : Played → Played → Played
+andThen p q = record { progress = q .progress; area = q .area; text = p .text ++ q .text }
 
--- the first n records of some bytes, 12 bytes each; the last may be cut
-unfoldable pub played : ℕ → Progress → List ℕ → List ℕ → Played
-played zero t a bytes = record { progress = t; area = a; text = [] }
-played (suc n) t a bytes = andOne (played n t a bytes) (part bytes (n * 12) 12)
+-- records played one after another
+unfoldable pub played : Progress → List ℕ → List (List ℕ) → Played
+played t a [] = unplayed t a
+played t a (r ∷ rs) = let p = playedOne t a r in andThen p (played (p .progress) (p .area) rs)
 
--- how many records some bytes have, a cut one counted
-unfoldable pub records : List ℕ → ℕ
-records bytes = (length bytes + 11) / 12
+-- the first n records of some bytes, or all if there are fewer; the last may be cut
+unfoldable pub firstRecords : ℕ → List ℕ → List (List ℕ)
+firstRecords zero bytes = []
+firstRecords (suc n) [] = []
+firstRecords (suc n) (b ∷ bs) = take recordWidth (b ∷ bs) ∷ firstRecords n (drop recordWidth (b ∷ bs))
+
+-- all records of some bytes, of which there are no more than bytes
+unfoldable pub recordsOf : List ℕ → List (List ℕ)
+recordsOf bytes = firstRecords (length bytes) bytes
 
 unfoldable pub firstProgress : Progress
 firstProgress = record { started = false; over = false; number = 1 }
 
 -- what the player prints for its whole input, on any area
 unfoldable pub printed : List ℕ → List ℕ → List ℕ
-printed a input = header ++ played (records input) firstProgress a input .text
+printed a input = header ++ played firstProgress a (recordsOf input) .text

@@ -1,11 +1,11 @@
--- Document 01, "The player", and document 02, T-02: the call that a record of 12 bytes names.
+-- Document 01, "The player", and document 02, T-02 and T-04: the call that a record of 12 bytes names.
 use mathlib.Core.Bool.{Bool, cond, _&&_}
 use mathlib.Core.List.{List, [], _∷_}
 use Prim.Native.Nat.{ℕ, _+_, _*_, _/_, _%_}
 use lib.Dec.{eqb}
 use lib.ListN.{length, getD}
 use Rattle.words.specs.Bytes.{part}
-use Rattle.model.specs.declared.Call.the-variants.{Start, Begin, Request, Retry, Unpin, End, Tick, Look, View, Count, Borders}
+use Rattle.model.specs.declared.Call.the-variants.{Start, Begin, Request, Unpin, End, Tick, Look, View, Count, Borders}
 use Rattle.record.specs.declared.Input.{Input}
 use Rattle.record.specs.declared.Input.the-variants.{Bad, Good}
 
@@ -18,6 +18,10 @@ bigEndian x (b ∷ bs) = bigEndian (x * 256 + b) bs
 unfoldable pub field : List ℕ → ℕ → ℕ → ℕ
 field r at n = bigEndian 0 (part r at n)
 
+-- how many bytes the list has that the player lends with a tick
+abbrev pub listLength : ℕ
+listLength = 256
+
 -- the calls that the kinds name, from kind 0 on, and the fields that each uses
 unfoldable pub kinds : (level number mode page value : ℕ) → List Input
 kinds level number mode page value =
@@ -26,8 +30,8 @@ kinds level number mode page value =
     Good (Request level number page mode) ∷  -- 2
     Good (Unpin level number page) ∷  -- 3
     Good (End level number) ∷  -- 4
-    Good (Retry level number) ∷  -- 5
-    Good Tick ∷  -- 6
+    Bad ∷  -- 5
+    Good (Tick listLength) ∷  -- 6
     Good (Look level number) ∷  -- 7
     Good (View level page) ∷  -- 8
     Good (Count level) ∷  -- 9
@@ -38,9 +42,13 @@ kinds level number mode page value =
 unfoldable pub ofKind : (kind level number mode page value : ℕ) → Input
 ofKind kind level number mode page value = getD (kinds level number mode page value) kind Bad
 
--- a whole record has 12 bytes, and the mark C3 5A stands first
+-- how many bytes a record has
+abbrev pub recordWidth : ℕ
+recordWidth = 12
+
+-- a whole record has all its bytes, and the mark C3 5A stands first
 unfoldable pub isWhole : List ℕ → Bool
-isWhole r = eqb (length r) 12 && eqb (field r 0 2) 50010
+isWhole r = eqb (length r) recordWidth && eqb (field r 0 2) 50010
 
 -- kind, level, row number and mode have a byte each, page two bytes and value four
 unfoldable pub recordOf : List ℕ → Input

@@ -1,9 +1,11 @@
--- Document 01, "The player", and document 02, T-02: the line of an answer, as bytes.
+-- Document 01, "The player", and document 02, T-02 and T-04: the line of an answer and the lines of a tick's list, as bytes.
 use mathlib.Core.Bool.{cond}
 use mathlib.Core.List.{List, [], _∷_, _++_}
-use Prim.Native.Nat.{ℕ, zero, suc, _+_, _/_, _%_}
-use lib.Dec.{ltb}
+use Prim.Native.Nat.{ℕ, zero, suc, _+_, _*_, _/_, _%_}
+use lib.Dec.{eqb, ltb}
 use lib.ListN.{getD}
+use Rattle.words.specs.Bytes.{joined}
+use Rattle.record.specs.Record.{field}
 
 -- a number in decimal without leading zeros, if it has at most k digits
 unfoldable pub digits : ℕ → ℕ → List ℕ
@@ -37,6 +39,7 @@ words =
     (100 ∷ 111 ∷ 114 ∷ 109 ∷ 97 ∷ 110 ∷ 116 ∷ []) ∷  -- dormant
     (111 ∷ 112 ∷ 101 ∷ 110 ∷ []) ∷  -- open
     (98 ∷ 111 ∷ 114 ∷ 100 ∷ 101 ∷ 114 ∷ 115 ∷ []) ∷  -- borders
+    (102 ∷ 105 ∷ 108 ∷ 108 ∷ []) ∷  -- fill
     []
 
 abbrev pub wordText : ℕ → List ℕ
@@ -57,6 +60,26 @@ tailText slot back = (32 ∷ 124 ∷ 32 ∷ []) ++ orDash slot ++ (32 ∷ []) ++
 -- the line of the record of that number for an answer's four numbers: word, value, slot + 1 or 0, page to write back + 1 or 0
 unfoldable pub lineOf : ℕ → List ℕ → List ℕ
 lineOf number answer = headText number (getD answer 0 0) (getD answer 1 0) ++ tailText (getD answer 2 0) (getD answer 3 0)
+
+-- the four numbers of the entry that stands at a place of a tick's list: `fill`, level × 8 + row, slot + 1, and page written back + 1 where the flag is 2, else 0
+unfoldable pub fillNumbers : List ℕ → ℕ → List ℕ
+fillNumbers list at =
+    20 ∷ (field list at 1 * 8 + field list (at + 1) 1)
+    ∷ (field list (at + 2) 1 + 1)
+    ∷ cond (eqb (field list (at + 3) 1) 2) (field list (at + 6) 2 + 1) 0
+    ∷ []
+
+-- the line of entry i, under the tick's number; where its flag is 0 there is no entry, and no line
+unfoldable pub fillLine : ℕ → List ℕ → ℕ → List ℕ
+fillLine number list i = cond (eqb (field list (i * 8 + 3) 1) 0) [] (lineOf number (fillNumbers list (i * 8)))
+
+-- the lines of the list's 32 entries of 8 bytes, in turn
+unfoldable pub fillLines : ℕ → List ℕ → List ℕ
+fillLines number list = joined 32 (fillLine number list)
+
+-- the most bytes of a record's text: a line of at most 95 bytes, and as many for each of 32 fills
+abbrev pub mostText : ℕ
+mostText = 3135
 
 unfoldable pub header : List ℕ
 header =

@@ -4,13 +4,14 @@ ghost use mathlib.Core.Path.{_≡_};
 ghost use Prim.Native.Nat.{_+_, _*_, _^_, _<_, _≤_};
 ghost use mathlib.Core.List.{[], _∷_};
 ghost use lib.ListN.{length};
-ghost use Rattle.words.specs.Bytes.{part};
+ghost use Rattle.words.specs.Inner.Written.{Wrote};
 ghost use Rattle.rules.specs.Content.{isStart};
 ghost use Rattle.record.specs.Record.{field, ofKind, recordOf};
 ghost use Rattle.sabre.specs.Lent.{status, answerNumbers};
-ghost use Rattle.record.specs.Play.{isBad, admitted, answerTo, areaWith, nextProgress, playedOne, records, played, firstProgress};
-ghost use Rattle.record.specs.Text.{digits, decimal, wordText, orDash, headText, tailText, lineOf, header};
-ghost use Rattle.record.specs.Inner.Written.{upToZero, Wrote};
+ghost use Rattle.record.specs.Play.{isBad, admitted, answerTo, areaWith, zeroList, listWith, nextProgress, playedOne, firstProgress};
+ghost use Rattle.record.specs.Text.{digits, decimal, wordText, orDash, headText, tailText, lineOf, fillNumbers, fillLine, fillLines, mostText, header};
+ghost use Rattle.record.specs.Inner.Written.{upToZero};
+ghost use Rattle.record.specs.Inner.Room.{roomOf};
 
 // A record of the player: a good one names a call.
 pub enum Input {
@@ -30,6 +31,15 @@ pub struct Step {
     pub progress: Progress,
     pub end: usize,
 }
+
+// How many bytes a record has.
+pub const WIDTH: usize = 12;
+
+// The most bytes of a record's text.
+pub const MOST_TEXT: usize = 3135;
+
+// How many bytes the list has that a tick is lent.
+const LIST_LENGTH: usize = 256;
 
 fn wide(x: u8) -> u32
     ensures { λ r. ⌜ (r ≡ x) × (r < 256) ⌝ }
@@ -75,8 +85,7 @@ fn input_of(kind: u32, level: u32, number: u32, mode: u32, page: u32, value: u32
             page,
         }),
         4 => Input::Good(Call::End { level, number }),
-        5 => Input::Good(Call::Retry { level, number }),
-        6 => Input::Good(Call::Tick),
+        6 => Input::Good(Call::Tick { room: LIST_LENGTH }),
         7 => Input::Good(Call::Look { level, number }),
         8 => Input::Good(Call::View { level, page }),
         9 => Input::Good(Call::Count { level }),
@@ -89,11 +98,11 @@ fn input_of(kind: u32, level: u32, number: u32, mode: u32, page: u32, value: u32
     }
 }
 
-// The record in some bytes: bad if they are not 12, or the mark is another, or the kind.
+// The record in some bytes: bad if they are not as many as a record has, or the mark is another, or the kind.
 pub fn read_record(bytes: &[u8]) -> Input
     ensures { λ r. ⌜ r ≡ recordOf (now (bytes .entry)) ⌝ }
 {
-    if bytes.len() != 12 {
+    if bytes.len() != WIDTH {
         return Input::Bad;
     }
     if number_at(bytes, 0, 2) != 0xC35A {
@@ -122,14 +131,6 @@ fn put_text(out: &mut [u8], at: usize, text: &[u8]) -> usize
     at + text.len()
 }
 
-fn put_byte(out: &mut [u8], at: usize, b: u8) -> usize
-    requires { ⌜ at < length (now out) ⌝ }
-    ensures { λ r. ⌜ Wrote (now (out .entry)) at (b ∷ []) (now (out .exit)) r ⌝ }
-{
-    out[at] = b;
-    at + 1
-}
-
 // A number's last digits, at most so many.
 fn put_digits(out: &mut [u8], at: usize, n: u64, most: usize) -> usize
     requires { ⌜ at + most ≤ length (now out) ⌝ }
@@ -139,10 +140,10 @@ fn put_digits(out: &mut [u8], at: usize, n: u64, most: usize) -> usize
         return at;
     }
     if n < 10 {
-        return put_byte(out, at, (48 + n) as u8);
+        return words::put_byte(out, at, (48 + n) as u8);
     }
     let end = put_digits(out, at, n / 10, most - 1);
-    put_byte(out, end, (48 + n % 10) as u8)
+    words::put_byte(out, end, (48 + n % 10) as u8)
 }
 
 fn put_number(out: &mut [u8], at: usize, n: u64) -> usize
@@ -153,7 +154,7 @@ fn put_number(out: &mut [u8], at: usize, n: u64) -> usize
 }
 
 // The words in the order of their numbers, each ended by a zero byte or by its eighth letter.
-const WORDS: [[u8; 8]; 20] = [
+const WORDS: [[u8; 8]; 21] = [
     *b"refused\0",
     *b"started\0",
     *b"begun\0\0\0",
@@ -174,6 +175,7 @@ const WORDS: [[u8; 8]; 20] = [
     *b"dormant\0",
     *b"open\0\0\0\0",
     *b"borders\0",
+    *b"fill\0\0\0\0",
 ];
 
 fn put_word(out: &mut [u8], at: usize, word: u64) -> usize
@@ -193,7 +195,7 @@ fn put_or_dash(out: &mut [u8], at: usize, told: u64) -> usize
     ensures { λ r. ⌜ Wrote (now (out .entry)) at (orDash told) (now (out .exit)) r ⌝ }
 {
     if told == 0 {
-        return put_byte(out, at, b'-');
+        return words::put_byte(out, at, b'-');
     }
     put_number(out, at, told - 1)
 }
@@ -203,9 +205,9 @@ fn put_head(out: &mut [u8], at: usize, number: u64, word: u64, value: u64) -> us
     ensures { λ r. ⌜ Wrote (now (out .entry)) at (headText number word value) (now (out .exit)) r ⌝ }
 {
     let a = put_number(out, at, number);
-    let b = put_byte(out, a, b' ');
+    let b = words::put_byte(out, a, b' ');
     let c = put_word(out, b, word);
-    let d = put_byte(out, c, b' ');
+    let d = words::put_byte(out, c, b' ');
     put_number(out, d, value)
 }
 
@@ -215,9 +217,9 @@ fn put_tail(out: &mut [u8], at: usize, slot: u64, back: u64) -> usize
 {
     let a = put_text(out, at, b" | ");
     let b = put_or_dash(out, a, slot);
-    let c = put_byte(out, b, b' ');
+    let c = words::put_byte(out, b, b' ');
     let d = put_or_dash(out, c, back);
-    put_byte(out, d, b'\n')
+    words::put_byte(out, d, b'\n')
 }
 
 // The line of a record for its answer: word, value, slot + 1 or 0, page to write back + 1 or 0. A line has at most 95 bytes.
@@ -231,6 +233,44 @@ pub fn put_line(out: &mut [u8], at: usize, number: u64, answer: [u64; 4]) -> usi
     let back = answer[3];
     let end = put_head(out, at, number, word, value);
     put_tail(out, end, slot, back)
+}
+
+// The numbers of an entry, which stands at a place of a tick's list.
+fn fill_numbers(list: &[u8], at: usize) -> [u64; 4]
+    requires { ⌜ at + 8 ≤ length (now list) ⌝ }
+    ensures { λ r. ⌜ r ≡ fillNumbers (now (list .entry)) at ⌝ }
+{
+    let level = number_at(list, at, 1) as u64;
+    let row = number_at(list, at + 1, 1) as u64;
+    let slot = number_at(list, at + 2, 1) as u64;
+    if number_at(list, at + 3, 1) == 2 {
+        let page = number_at(list, at + 6, 2) as u64;
+        return [20, level * 8 + row, slot + 1, page + 1];
+    }
+    [20, level * 8 + row, slot + 1, 0]
+}
+
+// The line of an entry of a tick's list, none where its flag is 0.
+fn put_fill(out: &mut [u8], at: usize, number: u64, list: &[u8], i: usize) -> usize
+    requires { ⌜ (at + 95 ≤ length (now out)) × (i * 8 + 8 ≤ length (now list)) ⌝ }
+    ensures { λ r. ⌜ Wrote (now (out .entry)) at (fillLine number (now (list .entry)) i) (now (out .exit)) r ⌝ }
+{
+    if number_at(list, i * 8 + 3, 1) == 0 {
+        return at;
+    }
+    let numbers = fill_numbers(list, i * 8);
+    put_line(out, at, number, numbers)
+}
+
+fn put_fills(out: &mut [u8], at: usize, number: u64, list: &[u8]) -> usize
+    requires { ⌜ (at + 32 * 95 ≤ length (now out)) × (32 * 8 ≤ length (now list)) ⌝ }
+    ensures { λ r. ⌜ Wrote (now (out .entry)) at (fillLines number (now (list .entry))) (now (out .exit)) r ⌝ }
+{
+    let mut end = at;
+    for i in 0..32 {
+        end = put_fill(out, end, number, list, i);
+    }
+    end
 }
 
 pub fn put_header(out: &mut [u8]) -> usize
@@ -282,16 +322,27 @@ fn refuse(answer: &mut [u64; 4]) -> u32
     18
 }
 
-// The call of a record, made on the area.
-fn make_call(area: &mut [u8], input: Input, answer: &mut [u64; 4]) -> u32
+fn zero_list() -> [u8; LIST_LENGTH]
+    ensures { λ r. ⌜ r ≡ zeroList ⌝ }
+{
+    [0; LIST_LENGTH]
+}
+
+// The call of a record, made on the area; a tick is lent the list.
+fn make_call(area: &mut [u8], list: &mut [u8], input: Input, answer: &mut [u64; 4]) -> u32
+    requires { ⌜ roomOf input ≤ length (now list) ⌝ }
     ensures returned { λ r. ⌜ r ≡ status (answerTo (now (area .entry)) input) ⌝ }
     ensures told { λ _. ⌜ now (answer .exit) ≡ answerNumbers (answerTo (now (area .entry)) input) ⌝ }
     ensures left { λ _. ⌜ now (area .exit) ≡ areaWith (now (area .entry)) input ⌝ }
+    ensures listed { λ _. ⌜ now (list .exit) ≡ listWith (now (area .entry)) (now (list .entry)) input ⌝ }
 {
-    match input {
-        Input::Bad => refuse(answer),
-        Input::Good(call) => sabre::make(area, call, answer),
+    let Input::Good(call) = input else {
+        return refuse(answer);
+    };
+    if let Call::Tick { room } = call {
+        return sabre::tick(area, list, room, answer);
     }
+    sabre::make(area, call, answer)
 }
 
 pub fn first_progress() -> Progress
@@ -324,9 +375,15 @@ fn next_progress(progress: Progress, input: Input, word: u64) -> Progress
     }
 }
 
-// The next record played on the area, its line written at a place.
-fn play_one(area: &mut [u8], progress: Progress, bytes: &[u8], out: &mut [u8], at: usize) -> Step
-    requires { ⌜ (progress .number + 1 < 2 ^ 64) × (at + 95 ≤ length (now out)) ⌝ }
+// The next record, in the bytes that are its own, played on the area; its text is written at a place.
+pub fn play_one(
+    area: &mut [u8],
+    progress: Progress,
+    bytes: &[u8],
+    out: &mut [u8],
+    at: usize,
+) -> Step
+    requires { ⌜ (progress .number + 1 < 2 ^ 64) × (at + mostText ≤ length (now out)) ⌝ }
     ensures next { λ r. ⌜ r .progress ≡ playedOne progress (now (area .entry)) (now (bytes .entry)) .progress ⌝ }
     ensures left { λ _. ⌜ now (area .exit) ≡ playedOne progress (now (area .entry)) (now (bytes .entry)) .area ⌝ }
     ensures text { λ r. ⌜ Wrote (now (out .entry)) at (playedOne progress (now (area .entry)) (now (bytes .entry)) .text) (now (out .exit)) (r .end) ⌝ }
@@ -337,47 +394,14 @@ fn play_one(area: &mut [u8], progress: Progress, bytes: &[u8], out: &mut [u8], a
     let started = progress.started;
     let number = progress.number;
     let input = admit(started, read_record(bytes));
+    let mut list = zero_list();
     let mut answer = [0u64; 4];
-    make_call(area, input, &mut answer);
-    let end = put_line(out, at, number, answer);
+    make_call(area, &mut list, input, &mut answer);
+    let line_end = put_line(out, at, number, answer);
+    let end = put_fills(out, line_end, number, &list);
     let next = next_progress(progress, input, answer[0]);
     Step {
         progress: next,
         end,
-    }
-}
-
-// The bytes of the record that so many stand before; the last may be cut.
-fn record_at(bytes: &[u8], i: usize) -> &[u8]
-    requires { ⌜ i * 12 ≤ length (now bytes) ⌝ }
-    ensures { λ r. ⌜ now r ≡ part (now (bytes .entry)) (i * 12) 12 ⌝ }
-{
-    let from = i * 12;
-    if bytes.len() - from < 12 {
-        return &bytes[from..];
-    }
-    let to = from + 12;
-    &bytes[from..to]
-}
-
-// All records of some bytes played on the area, their lines written from the front of a slice.
-pub fn play(area: &mut [u8], progress: Progress, bytes: &[u8], out: &mut [u8]) -> Step
-    requires { ⌜ (progress .number + records (now bytes) < 2 ^ 64) × (records (now bytes) * 95 ≤ length (now out)) ⌝ }
-    ensures next { λ r. ⌜ r .progress ≡ played (records (now (bytes .entry))) progress (now (area .entry)) (now (bytes .entry)) .progress ⌝ }
-    ensures left { λ _. ⌜ now (area .exit) ≡ played (records (now (bytes .entry))) progress (now (area .entry)) (now (bytes .entry)) .area ⌝ }
-    ensures text { λ r. ⌜ Wrote (now (out .entry)) 0 (played (records (now (bytes .entry))) progress (now (area .entry)) (now (bytes .entry)) .text) (now (out .exit)) (r .end) ⌝ }
-{
-    let count = (bytes.len() + 11) / 12;
-    let mut next = progress;
-    let mut at = 0;
-    for i in 0..count {
-        let step = play_one(area, next, record_at(bytes, i), out, at);
-        let t = step.progress;
-        next = t;
-        at = step.end;
-    }
-    Step {
-        progress: next,
-        end: at,
     }
 }

@@ -7,4 +7,6 @@ pub mod ContentLaws
 pub mod RefusalFacts
 pub mod CallEffects
 pub mod ServeCases
+pub mod AnswerCases
+pub mod TryLaws
 pub mod SettingLaws

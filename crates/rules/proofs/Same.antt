@@ -7,4 +7,6 @@ pub mod SameRefusals
 pub mod SameCalls
 pub mod SameUnpin
 pub mod SameServed
+pub mod SameRequest
+pub mod SameTries
 pub mod SameStep

@@ -15,7 +15,7 @@ use Rattle.rules.specs.Answers.{word, isStarted, told}
 use Rattle.rules.specs.Run.{outcome}
 use Rattle.rules.specs.Secrecy.{isKept}
 use Rattle.rules.specs.Sound.{sound}
-use Rattle.rules.proofs.Facts.SoundFacts.{borders-facts}
+use Rattle.rules.proofs.Facts.SoundFacts.{facts, borders-facts}
 use Rattle.rules.proofs.Leaves.ContentLaws.{asks-above}
 use Rattle.rules.proofs.Leaves.CallEffects.{Effect, unchanged, starts, begins, unpins, ends, ticks, sets, serves, effect}
 use Rattle.rules.proofs.Leaves.SettingLaws.{kept-borders}
@@ -45,9 +45,9 @@ unkept-still s b c k r = go (outcome s c) r (effect s c)
     go o n (begins level number deadline q t e) = absurd (omega (arith, leb-false level 3 (rw q at k), t .names .level-is))
     go o n (unpins level number page slot q t f p e) = absurd (omega (arith, leb-false level 3 (rw q at k), t .names .level-is))
     go o n (ends level number q m e) = absurd (omega (arith, leb-false level 3 (rw q at k), m .level-is))
-    go o n (ticks q h e) = true-false (rw q at k)
+    go o n (ticks room q u h e) = true-false (rw q at k)
     go o n (sets x q t e) = rw e
-    go o n (serves row page mode h a m e) = absurd (omega (arith, asks-above s c row page mode 3 k a))
+    go o n (serves row page mode h a m e) = absurd (omega (arith, asks-above c row page mode 3 k a))
 
 -- a state that has the borders already
 own-borders : (s : State) (b : Borders) → s .borders ≡ b → withBorders s b ≡ s
@@ -62,7 +62,7 @@ under-step s b c z agree k = go (s .begun) refl
         let f = agree e in
         ap (λ (u : State). outcome u c) (own-borders s b f)
         ∙ (λ i. record { state = sym (own-borders (outcome s c .state) b (kept-borders 3 s c k ∙ f)) i; answer = outcome s c .answer })
-    go false e = before-begun s b c (borders-facts s z) e k
+    go false e = before-begun s b c (facts s z) (borders-facts s z) e k
 
 module _ (L : ℕ) (most : L ≤ 3) (b : Borders) where
   -- a state beside itself with the borders b

@@ -3,6 +3,7 @@ pub mod StaysBase
 pub mod StaysChange
 pub mod StaysRows
 pub mod StaysSetting
+pub mod StaysBegun
 pub mod StaysBorders
 pub mod StaysDrop
 pub mod StaysOwn
@@ -14,3 +15,4 @@ pub mod StaysChoice
 pub mod StaysTaken
 pub mod StaysServe
 pub mod StaysSound
+pub mod StaysTries

@@ -84,7 +84,7 @@ value (PageDormant arrival) = arrival
 value (Open count) = count
 value Bordered = 0
 
--- answers by their words: started; begun; ready; fetch or wait; a look's idle; a look's late; borders
+-- answers by their words: started; begun; ready; fetch or wait; clock; a look's idle; a look's late; borders
 abbrev pub isStarted : Answer → Bool
 isStarted a = eqb (word a) 1
 
@@ -96,6 +96,9 @@ isReady a = eqb (word a) 3
 
 abbrev pub isPending : Answer → Bool
 isPending a = eqb (word a) 4 || eqb (word a) 5
+
+abbrev pub isClock : Answer → Bool
+isClock a = eqb (word a) 8
 
 abbrev pub isIdle : Answer → Bool
 isIdle a = eqb (word a) 10
@@ -110,7 +113,7 @@ isBordered a = eqb (word a) 19
 unfoldable pub mayUse : Answer → Bool
 mayUse a = isReady a || isIdle a
 
--- the slot plus one, for ready and fetch of a request or retry alone, and 0 if none
+-- the slot plus one, for ready and fetch of a request alone, and 0 if none
 unfoldable pub slotTold : Answer → ℕ
 slotTold (Refused number) = 0
 slotTold Started = 0

@@ -1,4 +1,4 @@
--- Document 01, "The calls": the answer and the next state of each call, a tick's late rows as T-01 of document 02 has them; and T-02's call for borders.
+-- Document 01, "The calls": the answer and the next state of each call but tick, and the three steps of a tick, its late rows as T-01 of document 02 has them; and T-02's call for borders.
 use mathlib.Core.Bool.{Bool, true, false, cond, _&&_, not}
 use Prim.Native.Nat.{ℕ, zero, suc, _+_, min}
 use lib.Dec.{leb, eqb}
@@ -32,7 +32,6 @@ use Rattle.model.specs.declared.Answer.the-variants.{
   Wait,
   Unpinned,
   Ended,
-  Clock,
   RowFree,
   RowIdle,
   RowFetching,
@@ -55,10 +54,8 @@ use Rattle.rules.specs.Refusals.{
   startRefusal,
   beginRefusal,
   requestRefusal,
-  retryRefusal,
   unpinRefusal,
   endRefusal,
-  tickRefusal,
   lookRefusal,
   viewRefusal,
   countRefusal,
@@ -99,7 +96,7 @@ ended s level number =
     unless (endRefusal s level number) s
     (record { state = putRow (released (eqb (rowOf level number)) s) (rowOf level number) freeRow; answer = Ended })
 
--- tick: clock + 1; then fetching rows with due ≤ clock become idle; then live rows with deadline < clock are killed as late
+-- tick, its three steps: clock + 1; then fetching rows with due ≤ clock become idle; then live rows with deadline < clock are killed as late. The call itself is `ticked`, specs/Tries.antt
 abbrev pub delivered : ℕ → Condition → Condition
 delivered clock Free = Free
 delivered clock Idle = Idle
@@ -122,12 +119,10 @@ lateKilled s = killed (isLate s) Late s
 unfoldable pub advanced : State → State
 advanced s = withClock s (s .clock + 1)
 
-unfoldable pub ticked : State → Outcome
-ticked s =
-    unless (tickRefusal s) s
-    (record { state = lateKilled (deliveredRows (advanced s)); answer = Clock (s .clock + 1) })
+abbrev pub threeSteps : State → State
+threeSteps s = lateKilled (deliveredRows (advanced s))
 
--- Request and retry: `served`, below its steps, takes the first that applies.
+-- Request: `served`, below its steps, takes the first that applies.
 -- Step 1, page seen through a holding: wait, or kill and grant. Step 2, level 3 and a dormant page: grant.
 -- Step 3, not seen: grant in the slot that has the page, or else in a chosen slot (`intoSlot`; g. none: wait).
 -- Step 4 is `granted`, the end of every step that does not wait: ready or fetching.
@@ -228,19 +223,6 @@ served s row page mode = servedAt (slotOf s page) s row page mode
 unfoldable pub requested : State → ℕ → ℕ → ℕ → ℕ → Outcome
 requested s level number page mode =
     unless (requestRefusal s level number page mode) s (served s (rowOf level number) page (modeOf mode))
-
--- retry is the same for a waiting row's stored request; rows in any other condition are refused before
-abbrev pub servedAgain : Condition → State → ℕ → Outcome
-servedAgain Free s row = record { state = s; answer = Refused 9 }
-servedAgain Idle s row = record { state = s; answer = Refused 16 }
-servedAgain (Fetching due) s row = record { state = s; answer = Refused 16 }
-servedAgain (Waiting page mode) s row = served s row page mode
-servedAgain (Killed cause) s row = record { state = s; answer = Refused 10 }
-
-unfoldable pub retried : State → ℕ → ℕ → Outcome
-retried s level number =
-    unless (retryRefusal s level number) s
-    (servedAgain (rowAt s (rowOf level number) .condition) s (rowOf level number))
 
 -- look at a row: none, idle, fetch (due), wait, late, taken
 abbrev pub looked : Condition → Answer

@@ -1,16 +1,16 @@
--- Document 01, "The calls" and "Two runs side by side", and document 02, T-02: a call's content, its kind and its numbers, and who makes it.
--- Beside the area only the answer is lent, always four numbers long, so no length is part of the content.
+-- Document 01, "The calls" and "Two runs side by side", and document 02, T-02 and T-04: a call's content, its kind, its numbers and the length of what is lent beside the area, and who makes it.
+-- A tick is lent a list. The answer, lent to every call, is always four numbers long, so its length is no part of the content.
 use mathlib.Core.Bool.{Bool, _&&_, _||_, not}
 use Prim.Native.Nat.{ℕ, _<_, _^_}
 use lib.Dec.{leb, eqb}
 use Rattle.model.specs.declared.Call.{Call}
-use Rattle.model.specs.declared.Call.the-variants.{Start, Begin, Request, Retry, Unpin, End, Tick, Look, View, Count}
+use Rattle.model.specs.declared.Call.the-variants.{Start, Begin, Request, Unpin, End, Tick, Look, View, Count}
 use Rattle.model.specs.declared.Call.the-variants as Call
 use Rattle.model.specs.declared.Borders.{Borders}
 use Rattle.model.specs.Parties.{rowOf}
 
 -- a call's kind and numbers, 0 for a number that it has not; kinds as the player has them:
--- 0 start, 1 begin, 2 request, 3 unpin, 4 end, 5 retry, 6 tick, 7 look, 8 view, 9 count, 10 borders
+-- 0 start, 1 begin, 2 request, 3 unpin, 4 end, 6 tick, 7 look, 8 view, 9 count, 10 borders; room is the length of a tick's list
 pub record Fields : Type 0 where
   pub kind : ℕ
   pub level : ℕ
@@ -23,19 +23,19 @@ pub record Fields : Type 0 where
   pub first : ℕ
   pub second : ℕ
   pub third : ℕ
+  pub room : ℕ
 
 abbrev pub fields : Call → Fields
-fields (Start slots delay) = record { kind = 0; level = 0; number = 0; page = 0; mode = 0; slots = slots; delay = delay; deadline = 0; first = 0; second = 0; third = 0 }
-fields (Begin level number deadline) = record { kind = 1; level = level; number = number; page = 0; mode = 0; slots = 0; delay = 0; deadline = deadline; first = 0; second = 0; third = 0 }
-fields (Request level number page mode) = record { kind = 2; level = level; number = number; page = page; mode = mode; slots = 0; delay = 0; deadline = 0; first = 0; second = 0; third = 0 }
-fields (Unpin level number page) = record { kind = 3; level = level; number = number; page = page; mode = 0; slots = 0; delay = 0; deadline = 0; first = 0; second = 0; third = 0 }
-fields (End level number) = record { kind = 4; level = level; number = number; page = 0; mode = 0; slots = 0; delay = 0; deadline = 0; first = 0; second = 0; third = 0 }
-fields (Retry level number) = record { kind = 5; level = level; number = number; page = 0; mode = 0; slots = 0; delay = 0; deadline = 0; first = 0; second = 0; third = 0 }
-fields Tick = record { kind = 6; level = 0; number = 0; page = 0; mode = 0; slots = 0; delay = 0; deadline = 0; first = 0; second = 0; third = 0 }
-fields (Look level number) = record { kind = 7; level = level; number = number; page = 0; mode = 0; slots = 0; delay = 0; deadline = 0; first = 0; second = 0; third = 0 }
-fields (View level page) = record { kind = 8; level = level; number = 0; page = page; mode = 0; slots = 0; delay = 0; deadline = 0; first = 0; second = 0; third = 0 }
-fields (Count level) = record { kind = 9; level = level; number = 0; page = 0; mode = 0; slots = 0; delay = 0; deadline = 0; first = 0; second = 0; third = 0 }
-fields (Call.Borders first second third) = record { kind = 10; level = 0; number = 0; page = 0; mode = 0; slots = 0; delay = 0; deadline = 0; first = first; second = second; third = third }
+fields (Start slots delay) = record { kind = 0; level = 0; number = 0; page = 0; mode = 0; slots = slots; delay = delay; deadline = 0; first = 0; second = 0; third = 0; room = 0 }
+fields (Begin level number deadline) = record { kind = 1; level = level; number = number; page = 0; mode = 0; slots = 0; delay = 0; deadline = deadline; first = 0; second = 0; third = 0; room = 0 }
+fields (Request level number page mode) = record { kind = 2; level = level; number = number; page = page; mode = mode; slots = 0; delay = 0; deadline = 0; first = 0; second = 0; third = 0; room = 0 }
+fields (Unpin level number page) = record { kind = 3; level = level; number = number; page = page; mode = 0; slots = 0; delay = 0; deadline = 0; first = 0; second = 0; third = 0; room = 0 }
+fields (End level number) = record { kind = 4; level = level; number = number; page = 0; mode = 0; slots = 0; delay = 0; deadline = 0; first = 0; second = 0; third = 0; room = 0 }
+fields (Tick room) = record { kind = 6; level = 0; number = 0; page = 0; mode = 0; slots = 0; delay = 0; deadline = 0; first = 0; second = 0; third = 0; room = room }
+fields (Look level number) = record { kind = 7; level = level; number = number; page = 0; mode = 0; slots = 0; delay = 0; deadline = 0; first = 0; second = 0; third = 0; room = 0 }
+fields (View level page) = record { kind = 8; level = level; number = 0; page = page; mode = 0; slots = 0; delay = 0; deadline = 0; first = 0; second = 0; third = 0; room = 0 }
+fields (Count level) = record { kind = 9; level = level; number = 0; page = 0; mode = 0; slots = 0; delay = 0; deadline = 0; first = 0; second = 0; third = 0; room = 0 }
+fields (Call.Borders first second third) = record { kind = 10; level = 0; number = 0; page = 0; mode = 0; slots = 0; delay = 0; deadline = 0; first = first; second = second; third = third; room = 0 }
 
 abbrev pub isStart : Call → Bool
 isStart c = eqb (fields c .kind) 0
@@ -52,9 +52,6 @@ isUnpin c = eqb (fields c .kind) 3
 abbrev pub isEnd : Call → Bool
 isEnd c = eqb (fields c .kind) 4
 
-abbrev pub isRetry : Call → Bool
-isRetry c = eqb (fields c .kind) 5
-
 abbrev pub isTick : Call → Bool
 isTick c = eqb (fields c .kind) 6
 
@@ -69,10 +66,6 @@ isCount c = eqb (fields c .kind) 9
 
 abbrev pub isBorders : Call → Bool
 isBorders c = eqb (fields c .kind) 10
-
--- a call for a page: request or retry
-abbrev pub isAsking : Call → Bool
-isAsking c = isRequest c || isRetry c
 
 -- look, view and count change nothing
 abbrev pub isReading : Call → Bool
@@ -97,7 +90,7 @@ isServers c = isStart c || isTick c || isBorders c
 abbrev pub isMadeUpTo : ℕ → Call → Bool
 isMadeUpTo L c = not (isServers c) && leb (fields c .level) L
 
--- each number of the call is an unsigned 32-bit number
+-- each number of the call is an unsigned 32-bit number; its length may be any
 pub record Fits (c : Call) : Type 0 where
   pub level : fields c .level < 2 ^ 32
   pub number : fields c .number < 2 ^ 32

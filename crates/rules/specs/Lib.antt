@@ -1,5 +1,7 @@
 pub mod Sound
 pub mod Calls
+pub mod Tries
+pub mod Listed
 pub mod Content
 pub mod Run
 pub mod Requests

@@ -1,13 +1,15 @@
 -- Document 01, "The player", session S, and "Marked for the table", M1 to M11, M5 as T-01 of document 02 has it: each call with the line it must have.
--- Nine further runs, read off the documents' steps, have what M1 to M11 leave open: a deadline at the clock, the order within steps b, c and d, e and f, other borders, and the other words.
-use mathlib.Core.List.{List, [], _∷_, map}
+-- Twelve further runs, read off the documents' steps, have what M1 to M11 leave open: a deadline at the clock, the order within steps b, c and d, e and f, other borders, the other words, and the tries of a tick.
+use mathlib.Core.List.{List, [], _∷_, _++_, map}
 use Prim.Native.Nat.{ℕ, _+_}
 use Rattle.model.specs.State.{fresh}
 use Rattle.model.specs.declared.Answer.{Answer}
-use Rattle.rules.specs.Answers.{word, value, slotTold, backTold}
+use Rattle.model.specs.declared.State.{State}
+use Rattle.rules.specs.Answers.{word, value, pageBack, slotTold, backTold}
 use Rattle.model.specs.declared.Call.{Call}
-use Rattle.model.specs.declared.Call.the-variants.{Start, Begin, Request, Retry, Unpin, End, Tick, Look, View, Count, Borders}
-use Rattle.rules.specs.Run.{answers}
+use Rattle.model.specs.declared.Call.the-variants.{Start, Begin, Request, Unpin, End, Tick, Look, View, Count, Borders}
+use Rattle.rules.specs.Run.{outcome, fillsOf}
+use Rattle.rules.specs.Tries.{Fill}
 
 -- an output line: word, value, slot plus one or 0, page to write back plus one or 0
 pub record Line : Type 0 where
@@ -91,20 +93,31 @@ dormant! arrival = plain 17 arrival
 abbrev pub open! : ℕ → Line
 open! n = plain 18 n
 
--- a call and the line it must have
+-- a tick's lines after the clock: level × 8 + row, the slot, and the page to write back
+abbrev pub fill! : ℕ → ℕ → Line
+fill! row slot = record { word = 20; value = row; slot = slot + 1; back = 0 }
+
+abbrev pub fill-back! : ℕ → ℕ → ℕ → Line
+fill-back! row slot page = record { word = 20; value = row; slot = slot + 1; back = page + 1 }
+
+-- a call and the lines it must have: its own, and one for each row that it filled
 pub record Played : Type 0 where
   pub call : Call
-  pub line : Line
+  pub lines : List Line
 
 abbrev pub _gives_ : Call → Line → Played
-c gives l = record { call = c; line = l }
+c gives l = record { call = c; lines = l ∷ [] }
+
+abbrev pub _and_ : Played → Line → Played
+p and l = record { call = p .call; lines = p .lines ++ (l ∷ []) }
 
 infix 90 _gives_
+infixl 80 _and_
 abbrev pub callOf : Played → Call
 callOf p = p .call
 
-abbrev pub lineOf : Played → Line
-lineOf p = p .line
+abbrev pub linesOf : Played → List Line
+linesOf p = p .lines
 
 -- document 01's session S
 abbrev pub session : List Played
@@ -112,7 +125,7 @@ session =
     Start 1 1 gives started!
     ∷ Begin 1 0 100 gives begun!
     ∷ Request 1 0 1024 1 gives fetch! 1 0
-    ∷ Tick gives clock! 1
+    ∷ Tick 256 gives clock! 1
     ∷ Begin 0 0 90 gives begun!
     ∷ Count 0 gives open! 1
     ∷ Request 0 0 7 0 gives fetch-back! 2 0 1024
@@ -144,9 +157,9 @@ m5 =
     Start 1 1 gives started!
     ∷ Begin 0 0 1 gives begun!
     ∷ Look 0 0 gives idle!
-    ∷ Tick gives clock! 1
+    ∷ Tick 256 gives clock! 1
     ∷ Look 0 0 gives idle!
-    ∷ Tick gives clock! 2
+    ∷ Tick 256 gives clock! 2
     ∷ Look 0 0 gives late!
     ∷ []
 
@@ -171,7 +184,7 @@ m7 =
     ∷ Begin 0 0 50 gives begun!
     ∷ Begin 0 1 40 gives begun!
     ∷ Request 0 0 7 0 gives fetch! 1 0
-    ∷ Tick gives clock! 1
+    ∷ Tick 256 gives clock! 1
     ∷ Unpin 0 0 7 gives unpinned!
     ∷ Request 0 1 8 0 gives fetch! 2 0
     ∷ Look 0 0 gives idle!
@@ -183,7 +196,7 @@ m8-before last =
     Start 1 1 gives started!
     ∷ Begin 0 0 100 gives begun!
     ∷ Request 0 0 7 0 gives fetch! 1 0
-    ∷ Tick gives clock! 1
+    ∷ Tick 256 gives clock! 1
     ∷ End 0 0 gives ended!
     ∷ Begin 0 0 100 gives begun!
     ∷ Begin 3 0 100 gives begun!
@@ -208,7 +221,7 @@ m9 =
 
 -- M10 a row pinning the only slot waits for a second page
 abbrev pub m10 : List Played
-m10 = Start 1 1 gives started! ∷ Begin 0 0 100 gives begun! ∷ Request 0 0 7 0 gives fetch! 1 0 ∷ Tick gives clock! 1 ∷ Request 0 0 8 0 gives wait! ∷ []
+m10 = Start 1 1 gives started! ∷ Begin 0 0 100 gives begun! ∷ Request 0 0 7 0 gives fetch! 1 0 ∷ Tick 256 gives clock! 1 ∷ Request 0 0 8 0 gives wait! ∷ []
 
 -- M11 two slots: level 1 has 1,024 unpinned, level 2 pins 2,048; level 0 fetches 7: level 2 is taken, level 1 still sees 1,024
 abbrev pub m11 : List Played
@@ -217,7 +230,7 @@ m11 =
     ∷ Begin 1 0 100 gives begun!
     ∷ Begin 2 0 100 gives begun!
     ∷ Request 1 0 1024 0 gives fetch! 1 0
-    ∷ Tick gives clock! 1
+    ∷ Tick 256 gives clock! 1
     ∷ Unpin 1 0 1024 gives unpinned!
     ∷ Request 2 0 2048 0 gives fetch! 2 1
     ∷ Begin 0 0 100 gives begun!
@@ -233,12 +246,12 @@ deadline-at-clock =
     ∷ Begin 0 0 0 gives begun!
     ∷ Begin 0 1 1 gives begun!
     ∷ Request 0 1 7 0 gives fetch! 1 0
-    ∷ Tick gives clock! 1
+    ∷ Tick 256 gives clock! 1
     ∷ Look 0 0 gives late!
     ∷ Look 0 1 gives idle!
     ∷ Begin 0 2 0 gives refused! 12
     ∷ Begin 0 2 1 gives begun!
-    ∷ Tick gives clock! 2
+    ∷ Tick 256 gives clock! 2
     ∷ Look 0 1 gives late!
     ∷ Look 0 2 gives late!
     ∷ []
@@ -249,11 +262,11 @@ b-lowest-level =
     Start 2 1 gives started!
     ∷ Begin 1 0 100 gives begun!
     ∷ Request 1 0 1024 0 gives fetch! 1 0
-    ∷ Tick gives clock! 1
+    ∷ Tick 256 gives clock! 1
     ∷ End 1 0 gives ended!
     ∷ Begin 0 0 100 gives begun!
     ∷ Request 0 0 7 1 gives fetch! 2 1
-    ∷ Tick gives clock! 2
+    ∷ Tick 256 gives clock! 2
     ∷ End 0 0 gives ended!
     ∷ Begin 0 1 100 gives begun!
     ∷ Request 0 1 8 0 gives fetch-back! 3 1 7
@@ -265,10 +278,10 @@ b-clean-first =
     Start 2 1 gives started!
     ∷ Begin 0 0 100 gives begun!
     ∷ Request 0 0 7 1 gives fetch! 1 0
-    ∷ Tick gives clock! 1
+    ∷ Tick 256 gives clock! 1
     ∷ Unpin 0 0 7 gives unpinned!
     ∷ Request 0 0 8 0 gives fetch! 2 1
-    ∷ Tick gives clock! 2
+    ∷ Tick 256 gives clock! 2
     ∷ End 0 0 gives ended!
     ∷ Begin 0 1 100 gives begun!
     ∷ Request 0 1 9 0 gives fetch! 3 1
@@ -280,9 +293,9 @@ b-least-touch =
     Start 2 1 gives started!
     ∷ Begin 0 0 100 gives begun!
     ∷ Request 0 0 7 0 gives fetch! 1 0
-    ∷ Tick gives clock! 1
+    ∷ Tick 256 gives clock! 1
     ∷ Request 0 0 8 0 gives fetch! 2 1
-    ∷ Tick gives clock! 2
+    ∷ Tick 256 gives clock! 2
     ∷ Request 0 0 7 0 gives ready! 0
     ∷ End 0 0 gives ended!
     ∷ Begin 0 1 100 gives begun!
@@ -297,7 +310,7 @@ b-slot-number =
     ∷ Begin 0 1 100 gives begun!
     ∷ Request 0 0 7 0 gives fetch! 1 0
     ∷ Request 0 1 8 0 gives fetch! 1 1
-    ∷ Tick gives clock! 1
+    ∷ Tick 256 gives clock! 1
     ∷ End 0 0 gives ended!
     ∷ End 0 1 gives ended!
     ∷ Begin 0 2 100 gives begun!
@@ -312,7 +325,7 @@ c-before-d =
     ∷ Begin 1 1 100 gives begun!
     ∷ Request 1 1 1025 0 gives fetch! 1 0
     ∷ Request 1 0 1024 0 gives fetch! 1 1
-    ∷ Tick gives clock! 1
+    ∷ Tick 256 gives clock! 1
     ∷ Unpin 1 0 1024 gives unpinned!
     ∷ Begin 0 0 100 gives begun!
     ∷ Request 0 0 7 0 gives fetch! 2 1
@@ -327,7 +340,7 @@ e-before-f =
     ∷ Begin 0 1 100 gives begun!
     ∷ Request 0 1 8 0 gives fetch! 1 0
     ∷ Request 0 0 7 0 gives fetch! 1 1
-    ∷ Tick gives clock! 1
+    ∷ Tick 256 gives clock! 1
     ∷ Unpin 0 0 7 gives unpinned!
     ∷ Begin 0 2 20 gives begun!
     ∷ Request 0 2 9 0 gives fetch! 2 1
@@ -344,7 +357,7 @@ other-borders =
     ∷ Borders 10 20 4097 gives refused! 19
     ∷ Borders 4096 4096 4096 gives borders!
     ∷ Begin 4 0 9 gives refused! 4
-    ∷ Tick gives clock! 1
+    ∷ Tick 256 gives clock! 1
     ∷ Borders 10 10 30 gives borders!
     ∷ Begin 0 0 9 gives begun!
     ∷ Borders 11 10 30 gives refused! 19
@@ -369,7 +382,7 @@ other-borders =
     ∷ []
 
 -- the words that are left: look none, fetch and wait, view unseen, write and dormant;
--- 11 and 16 while fetching, 11 while waiting; an accepted retry, which finds the page in its slot
+-- 11 while fetching and while waiting; a tick that fills, its page in its slot
 abbrev pub other-words : List Played
 other-words =
     Start 1 1 gives started!
@@ -379,21 +392,79 @@ other-words =
     ∷ Request 1 0 1024 1 gives fetch! 1 0
     ∷ Look 1 0 gives fetching! 1
     ∷ Request 1 0 1025 1 gives refused! 11
-    ∷ Retry 1 0 gives refused! 16
     ∷ View 1 1024 gives write! 1
-    ∷ Tick gives clock! 1
+    ∷ Tick 256 gives clock! 1
     ∷ Begin 2 0 100 gives begun!
     ∷ Request 2 0 1024 0 gives wait!
     ∷ Look 2 0 gives wait!
     ∷ Request 2 0 1024 0 gives refused! 11
-    ∷ Tick gives clock! 2
+    ∷ Tick 256 gives clock! 2
     ∷ Look 2 0 gives wait!
     ∷ End 1 0 gives ended!
-    ∷ Retry 2 0 gives fetch! 3 0
-    ∷ Retry 2 0 gives refused! 16
+    ∷ (Tick 256 gives clock! 3) and fill! 16 0
+    ∷ Look 2 0 gives fetching! 4
     ∷ End 2 0 gives ended!
     ∷ View 3 1024 gives dormant! 1
     ∷ View 2 1024 gives unseen!
+    ∷ []
+
+-- document 02, T-04: two rows wait for one slot, which has a dirty page when it becomes free
+abbrev pub two-wait : List Played
+two-wait =
+    Start 1 1 gives started!
+    ∷ Begin 0 0 10 gives begun!
+    ∷ Request 0 0 7 1 gives fetch! 1 0
+    ∷ Tick 256 gives clock! 1
+    ∷ Begin 0 1 60 gives begun!
+    ∷ Request 0 1 8 0 gives wait!
+    ∷ Begin 0 2 50 gives begun!
+    ∷ Request 0 2 9 0 gives wait!
+    ∷ Tick 256 gives clock! 2
+    ∷ End 0 0 gives ended!
+    ∷ Tick 255 gives refused! 21
+    ∷ (Tick 256 gives clock! 3) and fill-back! 2 0 7
+    ∷ Look 0 2 gives fetching! 4
+    ∷ Look 0 1 gives wait!
+    ∷ []
+
+-- a row that waits is killed by the try of a better one, and skipped
+abbrev pub killed-on-the-way : List Played
+killed-on-the-way =
+    Start 2 1 gives started!
+    ∷ Begin 0 0 10 gives begun!
+    ∷ Request 0 0 7 0 gives fetch! 1 0
+    ∷ Begin 0 2 90 gives begun!
+    ∷ Request 0 2 7 0 gives fetch! 1 0
+    ∷ Tick 256 gives clock! 1
+    ∷ Begin 0 1 50 gives begun!
+    ∷ Request 0 1 7 1 gives wait!
+    ∷ Request 0 0 9 0 gives fetch! 2 1
+    ∷ Request 0 2 8 0 gives wait!
+    ∷ Tick 256 gives clock! 2
+    ∷ End 0 0 gives ended!
+    ∷ (Tick 256 gives clock! 3) and fill! 1 0
+    ∷ Look 0 1 gives idle!
+    ∷ Look 0 2 gives taken!
+    ∷ View 0 7 gives write! 1
+    ∷ View 0 8 gives unseen!
+    ∷ []
+
+-- the level comes before the deadline, and each level is tried
+abbrev pub lower-level-first : List Played
+lower-level-first =
+    Start 1 1 gives started!
+    ∷ Begin 0 0 10 gives begun!
+    ∷ Request 0 0 7 0 gives fetch! 1 0
+    ∷ Begin 1 0 20 gives begun!
+    ∷ Request 1 0 1024 0 gives wait!
+    ∷ Begin 0 1 90 gives begun!
+    ∷ Request 0 1 8 0 gives wait!
+    ∷ End 0 0 gives ended!
+    ∷ (Tick 256 gives clock! 1) and fill! 1 0
+    ∷ Look 0 1 gives fetching! 2
+    ∷ Look 1 0 gives wait!
+    ∷ End 0 1 gives ended!
+    ∷ (Tick 256 gives clock! 2) and fill! 8 0
     ∷ []
 
 abbrev pub table : List (List Played)
@@ -421,8 +492,18 @@ table =
     ∷ e-before-f
     ∷ other-borders
     ∷ other-words
+    ∷ two-wait
+    ∷ killed-on-the-way
+    ∷ lower-level-first
     ∷ []
 
 -- what the definitions answer, each example from a state that its first call replaces
-abbrev pub lines : List Played → List Line
-lines ps = map line (answers (fresh 1 1) (map callOf ps))
+abbrev pub fillLine : Fill → Line
+fillLine f = record { word = 20; value = f .row; slot = f .slot + 1; back = pageBack (f .back) }
+
+unfoldable pub linesFrom : State → List Call → List (List Line)
+linesFrom s [] = []
+linesFrom s (c ∷ cs) = (line (outcome s c .answer) ∷ map fillLine (fillsOf s c)) ∷ linesFrom (outcome s c .state) cs
+
+abbrev pub lines : List Played → List (List Line)
+lines ps = linesFrom (fresh 1 1) (map callOf ps)

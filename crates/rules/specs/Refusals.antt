@@ -1,4 +1,4 @@
--- Document 01, "Refusals", and document 02, T-01 and T-02: of those that apply to a call the smallest number is given, and 0 stands for none. Refusals 1 and 18 are found before a state is there.
+-- Document 01, "Refusals", and document 02, T-01, T-02 and T-04: of those that apply to a call the first in the documents' order is given, and 0 stands for none. Refusals 1 and 18 are found before a state is there.
 use mathlib.Core.Bool.{Bool, true, false, cond, _&&_, not}
 use mathlib.Core.List.{List, [], _∷_}
 use Prim.Native.Nat.{ℕ, _≤_}
@@ -14,7 +14,7 @@ use Rattle.model.specs.Parties.{rowOf, modeOf, areBorders, mayAccess, lastClock
 use Rattle.model.specs.State.{rowAt}
 use Rattle.model.specs.Words.{isFree, pins, slotOf}
 
--- the refusals of a call by rising number, each with whether it applies: the first that does
+-- the refusals of a call in the documents' order, each with whether it applies: the first that does
 abbrev pub firstToApply : List (ℕ × Bool) → ℕ
 firstToApply [] = 0
 firstToApply (r ∷ rs) = cond (r .1) (r .0) (firstToApply rs)
@@ -89,16 +89,6 @@ requestRefusal s level number page mode =
     ∷ (14, not (isRead (modeOf mode)) && not (mayAccess (s .borders) level page (modeOf mode)))
     ∷ [])
 
-unfoldable pub retryRefusal : State → ℕ → ℕ → ℕ
-retryRefusal s level number =
-    firstToApply (
-    (4, ltb 3 level)
-    ∷ (5, ltb 7 number)
-    ∷ (9, isFree (conditionAt s level number))
-    ∷ (10, isKilled (conditionAt s level number))
-    ∷ (16, not (isWaiting (conditionAt s level number)))
-    ∷ [])
-
 unfoldable pub unpinRefusal : State → ℕ → ℕ → ℕ → ℕ
 unpinRefusal s level number page =
     firstToApply (
@@ -119,8 +109,9 @@ endRefusal s level number =
     ∷ (9, isFree (conditionAt s level number))
     ∷ [])
 
-unfoldable pub tickRefusal : State → ℕ
-tickRefusal s = firstToApply ((17, leb lastClock (s .clock)) ∷ [])
+-- 21, list under 256 bytes, comes between 1 and 17
+unfoldable pub tickRefusal : State → ℕ → ℕ
+tickRefusal s room = firstToApply ((21, ltb room 256) ∷ (17, leb lastClock (s .clock)) ∷ [])
 
 unfoldable pub lookRefusal : ℕ → ℕ → ℕ
 lookRefusal level number = firstToApply ((4, ltb 3 level) ∷ (5, ltb 7 number) ∷ [])

@@ -1,28 +1,44 @@
--- Document 01, "The calls" and "Choosing a slot": a slot that is dirty, and one that a request or retry gave a new page.
+-- Document 01, "The calls" and "Choosing a slot", and document 02, T-04: a page that a row holds, a slot that is dirty, a page that is reported for write-back, and a slot that was given a new page.
 use mathlib.Core.Path.{_≡_}
-use mathlib.Core.Bool.{true, false}
-use Prim.Native.Nat.{ℕ}
+use mathlib.Core.Bool.{Bool, true, false, _&&_}
+use mathlib.Core.Logic.{_⊎_}
+use Prim.Native.Nat.{ℕ, _+_}
 use Rattle.seq.specs.declared.Found.the-variants.{At, Nowhere}
+use Rattle.model.specs.declared.Back.the-variants.{Page}
 use Rattle.model.specs.declared.Mode.{Mode}
 use Rattle.model.specs.declared.State.{State}
 use Rattle.model.specs.State.{slotAt}
-use Rattle.model.specs.Words.{dirtyIn, hasPage, pins, slotOf}
+use Rattle.model.specs.Words.{dirtyIn, hasPage, holds, pins, slotOf}
 use Rattle.rules.specs.Choice.{chosen}
 use Rattle.model.specs.declared.Call.{Call}
-use Rattle.rules.specs.Requests.{Asks}
+use Rattle.rules.specs.Answers.{slotTold, backTold}
+use Rattle.rules.specs.Listed.{Some}
+use Rattle.rules.specs.Requests.{Serves}
+use Rattle.rules.specs.Run.{outcome, fillsOf}
+
+-- the row holds the page in the slot
+abbrev pub holdsPage : State → ℕ → ℕ → ℕ → Bool
+holdsPage s slot row page = holds s slot row && hasPage page (slotAt s slot .content)
 
 -- the slot has the page and is dirty
 pub record Dirty (s : State) (slot page : ℕ) : Type 0 where
   pub has-it : hasPage page (slotAt s slot .content) ≡ true
   pub dirty : dirtyIn (slotAt s slot .content) ≡ true
 
--- the call gave the slot a new page, and row q had no pin there
+-- the page is reported for write-back from its slot, by the call's answer or by an entry of its list
+abbrev pub Reported : State → Call → ℕ → ℕ → Type 0
+Reported s c slot page =
+    ((slotTold (outcome s c .answer) ≡ slot + 1) × (backTold (outcome s c .answer) ≡ page + 1))
+    ⊎ Some (λ f. (f .slot ≡ slot) × (f .back ≡ Page page)) (fillsOf s c)
+
+-- a request that was served in the course of the call, on a state of its course, gave the slot a new page, and row q had no pin there
 pub record Refilled (s : State) (c : Call) (t : State) (slot q : ℕ) : Type 0 where
+  pub on : State
   pub row : ℕ
   pub page : ℕ
   pub mode : Mode
-  pub asks : Asks s c row page mode
-  pub nowhere : slotOf s page ≡ Nowhere
-  pub chose : chosen s row ≡ At slot
+  pub serves : Serves s c on row page mode
+  pub nowhere : slotOf on page ≡ Nowhere
+  pub chose : chosen on row ≡ At slot
   pub new-page : hasPage page (slotAt t slot .content) ≡ true
-  pub unpinned : pins s slot q ≡ false
+  pub unpinned : pins on slot q ≡ false

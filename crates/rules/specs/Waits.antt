@@ -1,4 +1,4 @@
--- Document 01, "The calls", request, step 1, and "Choosing a slot", step g: what holds where a request or retry must wait.
+-- Document 01, "The calls", request, step 1, and "Choosing a slot", step g: what holds where a request must wait.
 use mathlib.Core.Path.{_≡_}
 use mathlib.Core.Bool.{true, false}
 use Prim.Native.Nat.{ℕ, _<_, _≤_}

@@ -52,7 +52,7 @@ use Rattle.rules.specs.Answers.{word, value, slotTold, backTold}
 use Rattle.rules.specs.Refusals.{startRefusal}
 use Rattle.rules.specs.Calls.{unless, started}
 use Rattle.model.specs.declared.Call.{Call}
-use Rattle.model.specs.declared.Call.the-variants.{Start, Begin, Request, Retry, Unpin, End, Tick, Look, View, Count, Borders}
+use Rattle.model.specs.declared.Call.the-variants.{Start, Begin, Request, Unpin, End, Tick, Look, View, Count, Borders}
 use Rattle.rules.specs.Run.{outcome}
 use Rattle.rules.proofs.Facts.SoundFacts.{Sound, facts}
 use Rattle.rules.proofs.Promises.Granting.{grant-fetch, grant-ready}
@@ -79,14 +79,13 @@ module _ (a : List ℕ) (c : Call) where
   finished o r ns b u e p q t = record { returned = rw (u, ← e) p; told = rw (u, ← e) q; left = rw (u, ← e) t }
 
 -- which calls are no start: those of the other tags, and look, view and count
-pub not-start : (c : Call) → OneOf (1 ∷ 2 ∷ 3 ∷ 4 ∷ 5 ∷ 6 ∷ 7 ∷ 8 ∷ 9 ∷ 10 ∷ []) (tagOf Call'.the-type c) → isStart c ≡ false
-not-start (Start slots delay) k = absurd (miss (1 ∷ 2 ∷ 3 ∷ 4 ∷ 5 ∷ 6 ∷ 7 ∷ 8 ∷ 9 ∷ 10 ∷ []) 0 tt k)
+pub not-start : (c : Call) → OneOf (1 ∷ 2 ∷ 3 ∷ 4 ∷ 5 ∷ 6 ∷ 7 ∷ 8 ∷ 9 ∷ []) (tagOf Call'.the-type c) → isStart c ≡ false
+not-start (Start slots delay) k = absurd (miss (1 ∷ 2 ∷ 3 ∷ 4 ∷ 5 ∷ 6 ∷ 7 ∷ 8 ∷ 9 ∷ []) 0 tt k)
 not-start (Begin level number deadline) k = refl
 not-start (Request level number page mode) k = refl
-not-start (Retry level number) k = refl
 not-start (Unpin level number page) k = refl
 not-start (End level number) k = refl
-not-start Tick k = refl
+not-start (Tick room) k = refl
 not-start (Look level number) k = refl
 not-start (View level page) k = refl
 not-start (Count level) k = refl

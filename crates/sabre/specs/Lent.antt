@@ -1,4 +1,4 @@
--- Demands 1 and 2 over the bytes of a lent area: what each exported call answers, and the area that it leaves.
+-- Demands 1 and 2 over the bytes of a lent area: what each exported call answers, the area that it leaves, and the list that a tick leaves.
 use mathlib.Core.Bool.{Bool, cond, not, _&&_}
 use mathlib.Core.List.{List, [], _∷_, _++_}
 use Prim.Native.Nat.{ℕ}
@@ -8,9 +8,10 @@ use Rattle.model.specs.declared.Answer.{Answer}
 use Rattle.model.specs.declared.Answer.the-variants.{Refused}
 use Rattle.rules.specs.Sound.{sound}
 use Rattle.rules.specs.Content.{isStart}
-use Rattle.rules.specs.Answers.{word, value, slotTold, backTold}
+use Rattle.rules.specs.Answers.{word, value, slotTold, backTold, isClock}
 use Rattle.model.specs.declared.Call.{Call}
-use Rattle.rules.specs.Run.{outcome}
+use Rattle.rules.specs.Run.{outcome, fillsOf}
+use Rattle.rules.specs.Tries.{listBytes}
 use Rattle.area.specs.Layout.{encoded, decoded, exact}
 
 -- an area is sound if it is long enough, its first 65,536 bytes are exactly those of the state that they name, and that state is sound
@@ -31,6 +32,10 @@ isRefused x = eqb (word x) 0
 -- the area that a call leaves: after a refusal every byte as before; else the bytes of the next state, and those past 65,536 as before
 unfoldable pub areaAfter : List ℕ → Call → List ℕ
 areaAfter a c = cond (isRefused (answerOn a c)) a (encoded (outcome (decoded a) c .state) ++ drop 65536 a)
+
+-- the list that a call leaves: an accepted tick writes its first 256 bytes; any other call, and a refused tick, leaves every byte
+unfoldable pub listAfter : List ℕ → Call → List ℕ → List ℕ
+listAfter a c list = cond (isClock (answerOn a c)) (listBytes (fillsOf (decoded a) c) ++ drop 256 list) list
 
 -- what a call returns: 0 where it is accepted, else the refusal's number
 unfoldable pub status : Answer → ℕ

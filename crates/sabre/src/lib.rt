@@ -1,24 +1,26 @@
 // The exported calls. Each makes its call by `make`: the lent area is read, the call made on the state by value, and what it changes written over the
-// area. Look, view and count, which change nothing, go by `ask`, and a start, which takes any bytes, by `start`.
+// area. Look, view and count, which change nothing, go by `ask`, a start, which takes any bytes, by `start`, and a tick, which is lent a list too, by `tick`.
 use model::Answer;
 use model::Back;
 use model::Call;
 use model::Cause;
+use model::Change;
 use model::Reply;
 use model::State;
 ghost use mathlib.Core.Path.{_≡_};
-ghost use mathlib.Core.Bool.{true, cond, _&&_};
+ghost use mathlib.Core.Bool.{true, false, cond, _&&_};
 ghost use mathlib.Core.List.{[], _∷_, _++_};
 ghost use Prim.Native.Nat.{_≤_};
 ghost use lib.ListN.{length, drop};
 ghost use Rattle.rules.specs.Sound.{sound};
-ghost use Rattle.rules.specs.Content.{isReading};
+ghost use Rattle.rules.specs.Content.{isTick, isReading};
+ghost use Rattle.rules.specs.Tries.{allTried, listBytes};
 ghost use Rattle.rules.specs.Answers.{causeWord, pageBack, slotTold};
 ghost use Rattle.model.specs.declared.Answer.the-variants.{Refused};
-ghost use Rattle.model.specs.declared.Call.the-variants.{Start, Begin, Request, Retry, Unpin, End, Tick, Look, View, Count, Borders};
+ghost use Rattle.model.specs.declared.Call.the-variants.{Start, Begin, Request, Unpin, End, Tick, Look, View, Count, Borders};
 ghost use Rattle.model.specs.Inner.Changed.{changed};
 ghost use Rattle.area.specs.Layout.{encoded, decoded, exact};
-ghost use Rattle.sabre.specs.Lent.{isRefused, answerOn, areaAfter, status, answerNumbers};
+ghost use Rattle.sabre.specs.Lent.{isRefused, answerOn, areaAfter, listAfter, status, answerNumbers};
 
 fn cause_word(cause: Cause) -> u64
     ensures { λ r. ⌜ r ≡ causeWord cause ⌝ }
@@ -140,8 +142,67 @@ fn start(area: &mut [u8], slots: u32, delay: u32, answer: &mut [u64; 4]) -> u32
     tell(answer, Answer::Started)
 }
 
-// A call made on an area.
+// What the steps of a tick change is done, and each waiting row is tried: the next state written over the area, and what was filled over the list.
+// Where no row waits only the change is written.
+fn fill(area: &mut [u8], list: &mut [u8], s: State, c: Change)
+    requires { ⌜ (exact (now area) ≡ true) × (s ≡ decoded (now area)) × (sound (changed s c) ≡ true) × (256 ≤ length (now list)) ⌝ }
+    ensures { λ _. ⌜ (now (area .exit) ≡ encoded (allTried (changed s c) .state) ++ drop 65536 (now (area .entry)))
+        × (now (list .exit) ≡ listBytes (allTried (changed s c) .fills) ++ drop 256 (now (list .entry))) ⌝ }
+{
+    let rows = c.rows;
+    let queue = tries::waiting_rows(rows);
+    if queue.count == 0 {
+        words::put_zeros(list, 0, 32);
+        area::amend(area, c);
+        return;
+    }
+    let u = model::changed_state(s, c);
+    let t = tries::try_rows(u, queue, list);
+    area::encode(area, t);
+}
+
+// The answer of a tick told and, where it is accepted, its steps and its tries done.
+fn finish_tick(area: &mut [u8], list: &mut [u8], answer: &mut [u64; 4], s: State, r: Reply) -> u32
+    requires { ⌜ (exact (now area) ≡ true) × (s ≡ decoded (now area)) × (slotTold (r .answer) ≤ 64)
+        × (isRefused (r .answer) ≡ false → (sound (changed s (r .change)) ≡ true) × (256 ≤ length (now list))) ⌝ }
+    ensures { λ n. ⌜ (n ≡ status (r .answer)) × (now (answer .exit) ≡ answerNumbers (r .answer))
+        × (now (area .exit) ≡ cond (isRefused (r .answer)) (now (area .entry)) (encoded (allTried (changed s (r .change)) .state) ++ drop 65536 (now (area .entry))))
+        × (now (list .exit) ≡ cond (isRefused (r .answer)) (now (list .entry)) (listBytes (allTried (changed s (r .change)) .fills) ++ drop 256 (now (list .entry)))) ⌝ }
+{
+    let x = r.answer;
+    let n = tell(answer, x);
+    let word = answer[0];
+    if word == 0 {
+        return n;
+    }
+    let c = r.change;
+    fill(area, list, s, c);
+    n
+}
+
+// A tick made on an area, with the first bytes of a list.
+pub fn tick(area: &mut [u8], list: &mut [u8], room: usize, answer: &mut [u64; 4]) -> u32
+    requires { ⌜ room ≤ length (now list) ⌝ }
+    ensures returned { λ r. ⌜ r ≡ status (answerOn (now (area .entry)) (Tick room)) ⌝ }
+    ensures told { λ _. ⌜ now (answer .exit) ≡ answerNumbers (answerOn (now (area .entry)) (Tick room)) ⌝ }
+    ensures left { λ _. ⌜ now (area .exit) ≡ areaAfter (now (area .entry)) (Tick room) ⌝ }
+    ensures listed { λ _. ⌜ now (list .exit) ≡ listAfter (now (area .entry)) (Tick room) (now (list .entry)) ⌝ }
+{
+    if area.len() < 65536 {
+        return refuse(answer);
+    }
+    let mut exact = false;
+    let s = area::decode(area, &mut exact);
+    if is_area_sound(exact, s) {
+        let r = calls::tick(s, room);
+        return finish_tick(area, list, answer, s, r);
+    }
+    refuse(answer)
+}
+
+// A call made on an area, which is not a tick.
 pub fn make(area: &mut [u8], c: Call, answer: &mut [u64; 4]) -> u32
+    requires { ⌜ isTick c ≡ false ⌝ }
     ensures returned { λ r. ⌜ r ≡ status (answerOn (now (area .entry)) c) ⌝ }
     ensures told { λ _. ⌜ now (answer .exit) ≡ answerNumbers (answerOn (now (area .entry)) c) ⌝ }
     ensures left { λ _. ⌜ now (area .exit) ≡ areaAfter (now (area .entry)) c ⌝ }
@@ -237,15 +298,6 @@ pub extern "C" fn sabre_request(
 }
 
 #[no_mangle]
-pub extern "C" fn sabre_retry(area: &mut [u8], level: u32, row: u32, answer: &mut [u64; 4]) -> u32
-    ensures returned { λ r. ⌜ r ≡ status (answerOn (now (area .entry)) (Retry level row)) ⌝ }
-    ensures told { λ _. ⌜ now (answer .exit) ≡ answerNumbers (answerOn (now (area .entry)) (Retry level row)) ⌝ }
-    ensures left { λ _. ⌜ now (area .exit) ≡ areaAfter (now (area .entry)) (Retry level row) ⌝ }
-{
-    make(area, Call::Retry { level, number: row }, answer)
-}
-
-#[no_mangle]
 pub extern "C" fn sabre_unpin(
     area: &mut [u8],
     level: u32,
@@ -278,12 +330,14 @@ pub extern "C" fn sabre_end(area: &mut [u8], level: u32, row: u32, answer: &mut 
 }
 
 #[no_mangle]
-pub extern "C" fn sabre_tick(area: &mut [u8], answer: &mut [u64; 4]) -> u32
-    ensures returned { λ r. ⌜ r ≡ status (answerOn (now (area .entry)) Tick) ⌝ }
-    ensures told { λ _. ⌜ now (answer .exit) ≡ answerNumbers (answerOn (now (area .entry)) Tick) ⌝ }
-    ensures left { λ _. ⌜ now (area .exit) ≡ areaAfter (now (area .entry)) Tick ⌝ }
+pub extern "C" fn sabre_tick(area: &mut [u8], list: &mut [u8], answer: &mut [u64; 4]) -> u32
+    ensures returned { λ r. ⌜ r ≡ status (answerOn (now (area .entry)) (Tick (length (now (list .entry))))) ⌝ }
+    ensures told { λ _. ⌜ now (answer .exit) ≡ answerNumbers (answerOn (now (area .entry)) (Tick (length (now (list .entry))))) ⌝ }
+    ensures left { λ _. ⌜ now (area .exit) ≡ areaAfter (now (area .entry)) (Tick (length (now (list .entry)))) ⌝ }
+    ensures listed { λ _. ⌜ now (list .exit) ≡ listAfter (now (area .entry)) (Tick (length (now (list .entry)))) (now (list .entry)) ⌝ }
 {
-    make(area, Call::Tick, answer)
+    let room = list.len();
+    tick(area, list, room, answer)
 }
 
 #[no_mangle]

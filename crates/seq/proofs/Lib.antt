@@ -3,6 +3,9 @@ pub mod BelowLaws
 pub mod CountLaws
 pub mod OrderLaws
 pub mod PickLaws
+pub mod SortLaws
+pub mod SortOrder
+pub mod SortPick
 pub mod PairLaws
 pub mod BuildLaws
 pub mod EachLaws

@@ -1,5 +1,6 @@
 -- Tests, counts and searches over the numbers below n, in rising order.
 use mathlib.Core.Bool.{Bool, true, false, cond, _&&_, _||_}
+use mathlib.Core.List.{List, [], _∷_}
 use Prim.Native.Nat.{ℕ, zero, suc, _+_}
 use Rattle.seq.specs.declared.Found.{Found}
 use Rattle.seq.specs.declared.Found.the-variants.{At, Nowhere}
@@ -41,3 +42,13 @@ atFound (At i) f d = f i
 -- the smallest number below n that passes p
 abbrev pub firstBelow : ℕ → (ℕ → Bool) → Found
 firstBelow n p = pickBelow n p (λ i j. false)
+
+-- a number put into a list ahead of the first that it comes before, and at the end where there is none
+unfoldable pub inserted : (ℕ → ℕ → Bool) → ℕ → List ℕ → List ℕ
+inserted before n [] = n ∷ []
+inserted before n (m ∷ ms) = cond (before n m) (n ∷ (m ∷ ms)) (m ∷ inserted before n ms)
+
+-- the numbers below n that pass p, each once, those that come before others first, and of equals the smallest
+unfoldable pub sortedBelow : ℕ → (ℕ → Bool) → (ℕ → ℕ → Bool) → List ℕ
+sortedBelow zero p before = []
+sortedBelow (suc n) p before = cond (p n) (inserted before n (sortedBelow n p before)) (sortedBelow n p before)

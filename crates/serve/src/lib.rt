@@ -1,4 +1,4 @@
-// How a request or a retry is served, steps 1 to 4 of document 01, on a state by value.
+// How a request, the call's own or one that a tick tries, is served, steps 1 to 4 of document 01, on a state by value.
 use model::Answer;
 use model::Back;
 use model::Cause;

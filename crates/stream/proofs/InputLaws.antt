@@ -1,77 +1,120 @@
--- An input that is read in parts of 512 records.
+-- Records that are read one by one and played.
+use Prim.{tt}
 use mathlib.Core.Path.{_≡_, refl, _∙_, sym, ap}
-use mathlib.Core.Bool.{Bool}
-use mathlib.Core.List.{List, [], _++_}
-use Prim.Native.Nat.{ℕ, _+_, _*_, _≤_}
+use mathlib.Core.Bool.{Bool, true, false, cond, _||_}
+use mathlib.Core.List.{List, [], _∷_, _++_}
+use Prim.Native.Nat.{ℕ, _+_, _-_, _<_, _≤_}
+use native.Mathlib.Decide.{decLt}
 use native.Mathlib.Omega.{arith}
-use lib.ListN.{length, take, length-append}
+use borrow.Author.Tests.{eqb-false, ltb-false}
+use lib.Dec.{eqb, ltb}
+use lib.ListN.{length, take}
+use lib.Seq.{length-take-le}
+use Rattle.seq.proofs.Tests.{true-false, or-false}
+use Rattle.words.proofs.WroteLaws.{wrote-none}
 use Rattle.record.specs.declared.Progress.{Progress}
-use Rattle.record.specs.Play.{Played, played, records, firstProgress}
-use Rattle.record.proofs.PlayLaws.{Came, played-small, came-small, records-most}
-use Rattle.record.proofs.PartLaws.{goingOn, played-parts, records-parts}
+use Rattle.record.specs.Record.{recordWidth}
+use Rattle.record.specs.Text.{mostText}
+use Rattle.record.specs.Play.{Played, unplayed, playedOne, andThen, played, firstRecords, recordsOf, firstProgress}
+use Rattle.record.proofs.PlayLaws.{Came, one-small, cut-over}
+use Rattle.record.proofs.RunLaws.{AllFull, full-more, inputOf, records-input, played-append, played-alone, last-record}
 use Rattle.stream.specs.Left.{firstFrom, LeftBySome}
 
 pub first-from : (t : Progress) (started : Bool) → t ≡ firstProgress → record { started = started; over = t .over; number = t .number } ≡ firstFrom started
 unfolding firstProgress firstFrom
 first-from t started e = ap (λ (u : Progress). record { started = started; over = u .over; number = u .number }) e
 
--- a run from t on a stands at n on b after m whole records
-pub record Reached (t : Progress) (a : List ℕ) (m : ℕ) (n : Progress) (b : List ℕ) : Type 0 where
-  pub input : List ℕ
-  pub long : length input ≡ m * 12
-  pub progress-is : n ≡ played m t a input .progress
-  pub area-is : b ≡ played m t a input .area
-
+-- what was read is no record, or one, which may be cut
 module _ (t : Progress) (a : List ℕ) where
-  pub reached-none : (n : Progress) → n ≡ t → Reached t a 0 n a
-  unfolding played
-  reached-none n e = record { input = []; long = refl; progress-is = e; area-is = refl }
+  read-none : played t a (recordsOf []) ≡ unplayed t a
+  unfolding played recordsOf firstRecords
+  read-none = refl
 
-  module _ (m : ℕ) (n : Progress) (b : List ℕ) (h : Reached t a m n b) where
-    pub reached-number : n .number ≤ t .number + m
-    reached-number = rw (h .progress-is) (played-small t a (h .input) m .1)
+  module _ (r : List ℕ) (h : length r ≤ recordWidth) where
+    read-one : 0 < length r → played t a (recordsOf r) ≡ playedOne t a r
+    read-one p = ap (λ (rs : List (List ℕ)). played t a rs) (last-record r p h) ∙ played-alone t a r
 
-    -- the records of a further part, played whole
-    joined : (bytes : List ℕ) (k : ℕ) → played (m + k) t a (h .input ++ bytes) ≡ goingOn (played m t a (h .input)) (played k n b bytes)
-    joined bytes k = rw (h .progress-is, h .area-is) (played-parts t a (h .input) bytes m k (h .long))
+    -- only a whole record lets the run go on
+    read-full : 0 < length r → played t a (recordsOf r) .progress .over ≡ false → length r ≡ recordWidth
+    read-full p e = elim (decLt (length r) recordWidth) [
+      | yes l ↦
+          let o : playedOne t a r .progress .over ≡ true = cut-over t a r (λ q. absurd (omega arith)) in
+          true-false (sym o ∙ ap (λ (q : Played). q .progress .over) (sym (read-one p)) ∙ e)
+      | no l ↦ omega arith
+    ]
 
-    pub reached-more : (bytes : List ℕ) → 6144 ≡ length bytes → (n' : Progress) (b' : List ℕ) → n' ≡ played (records bytes) n b bytes .progress
-        → b' ≡ played (records bytes) n b bytes .area → Reached t a (m + 512) n' b'
-    unfolding records
-    reached-more bytes e n' b' p q =
-        let k : records bytes ≡ 512 = omega arith in
-        record {
-          input = h .input ++ bytes;
-          long = rw length-append (omega (arith, h .long));
-          progress-is = p ∙ ap (λ (i : ℕ). played i n b bytes .progress) k ∙ ap (λ (x : Played). x .progress) (sym (joined bytes 512));
-          area-is = q ∙ ap (λ (i : ℕ). played i n b bytes .area) k ∙ ap (λ (x : Played). x .area) (sym (joined bytes 512));
-        }
+  read-small : (r : List ℕ) → length r ≤ recordWidth → (length (played t a (recordsOf r) .text) ≤ mostText) × (played t a (recordsOf r) .progress .number ≤ t .number + 1)
+  read-small [] h = rw read-none (omega arith, omega arith)
+  read-small (b ∷ bs) h = rw (read-one (b ∷ bs) h (omega arith)) (one-small t a (b ∷ bs))
 
-module _ (started : Bool) (a : List ℕ) (m : ℕ) (n : Progress) (b : List ℕ) (h : Reached (firstFrom started) a m n b) where
-  pub left-by : (bytes b' : List ℕ) → b' ≡ played (records bytes) n b bytes .area → LeftBySome started a b'
-  left-by bytes b' q = record {
-    input = h .input ++ bytes;
-    left = q ∙ ap (λ (x : Played). x .area) (sym (joined (firstFrom started) a m n b h bytes (records bytes)))
-        ∙ ap (λ (i : ℕ). played i (firstFrom started) a (h .input ++ bytes) .area) (sym (records-parts (firstFrom started) a (h .input) bytes m (h .long)));
+  module _ (bytes out : List ℕ) (at n : ℕ) where
+    pub none-read : n ≡ 0 → Came (played t a (recordsOf (take n bytes))) t a out at out at
+    none-read e = rw (e, read-none) (refl, (refl, wrote-none out at))
+
+    module _ (h : n ≤ recordWidth) (l : length (take n bytes) ≡ n) (p : Progress) (b out' : List ℕ) (end : ℕ) where
+      pub one-read : (n ≡ 0 → ⊥) → Came (playedOne t a (take n bytes)) p b out at out' end → Came (played t a (recordsOf (take n bytes))) p b out at out' end
+      one-read f w = rw (read-one (take n bytes) (omega arith) (omega arith)) w
+
+      pub turn-small : Came (played t a (recordsOf (take n bytes))) p b out at out' end → (end ≤ at + mostText) × (p .number ≤ t .number + 1)
+      turn-small w =
+          let s = read-small (take n bytes) (omega arith) in
+          (omega (arith, w .1 .1 .ends, s .0), rw (w .0) (s .1))
+
+-- what is read of a record's bytes
+pub read-long : (n : ℕ) (bytes bytes₀ : List ℕ) → n ≤ recordWidth → length bytes ≡ length bytes₀ → recordWidth ≡ length bytes₀ → length (take n bytes) ≡ n
+read-long n bytes bytes₀ h k e = length-take-le n bytes (omega arith)
+
+-- a run from t on a stands at n on b after whole records
+pub record Reached (t : Progress) (a : List ℕ) (n : Progress) (b : List ℕ) : Type 0 where
+  pub records : List (List ℕ)
+  pub full : AllFull records
+  pub progress-is : n ≡ played t a records .progress
+  pub area-is : b ≡ played t a records .area
+
+pub reached-none : (t : Progress) (a : List ℕ) (n : Progress) → n ≡ t → Reached t a n a
+unfolding played
+reached-none t a n e = record { records = []; full = tt; progress-is = e; area-is = refl }
+
+module _ (t : Progress) (a : List ℕ) (n : Progress) (b : List ℕ) (h : Reached t a n b) where
+  goes-on : (rs : List (List ℕ)) → played t a (h .records ++ rs) ≡ andThen (played t a (h .records)) (played n b rs)
+  goes-on rs = rw (h .progress-is, h .area-is) (played-append t a (h .records) rs)
+
+  pub reached-more : (r : List ℕ) → 0 < length r → length r ≤ recordWidth → (n' : Progress) (b' : List ℕ) → n' ≡ played n b (recordsOf r) .progress
+      → b' ≡ played n b (recordsOf r) .area → n' .over ≡ false → Reached t a n' b'
+  reached-more r p k n' b' e f o =
+      let all : played t a (h .records ++ (r ∷ [])) ≡ andThen (played t a (h .records)) (played n b (recordsOf r)) = rw (last-record r p k) (goes-on (r ∷ [])) in
+      record {
+        records = h .records ++ (r ∷ []);
+        full = full-more (h .records) r (h .full) (read-full n b r k p (ap (λ (u : Progress). u .over) (sym e) ∙ o));
+        progress-is = e ∙ ap (λ (q : Played). q .progress) (sym all);
+        area-is = f ∙ ap (λ (q : Played). q .area) (sym all);
+      }
+
+module _ (started : Bool) (a : List ℕ) (n : Progress) (b : List ℕ) (h : Reached (firstFrom started) a n b) where
+  -- the last of what is read may be no whole record
+  pub left-by : (r b' : List ℕ) → b' ≡ played n b (recordsOf r) .area → LeftBySome started a b'
+  left-by r b' e = record {
+    input = inputOf (h .records) r;
+    left = e ∙ ap (λ (q : Played). q .area) (sym (goes-on (firstFrom started) a n b h (recordsOf r)))
+        ∙ ap (λ (rs : List (List ℕ)). played (firstFrom started) a rs .area) (sym (records-input (h .records) r (h .full)));
   }
 
   pub left-whole : LeftBySome started a b
-  unfolding records
-  left-whole =
-      let k : records (h .input) ≡ m = omega (arith, h .long) in
-      record { input = h .input; left = h .area-is ∙ ap (λ (i : ℕ). played i (firstFrom started) a (h .input) .area) (sym k) }
+  left-whole = left-by [] b (ap (λ (q : Played). q .area) (sym (read-none n b)))
 
 pub left-none : (started : Bool) (a : List ℕ) → LeftBySome started a a
-left-none started a = left-whole started a 0 (firstFrom started) a (reached-none (firstFrom started) a (firstFrom started) refl)
+left-none started a = left-whole started a (firstFrom started) a (reached-none (firstFrom started) a (firstFrom started) refl)
 
--- what was read into a part's bytes is at most 512 records
-pub part-few : (n : ℕ) (bytes bytes₀ : List ℕ) → (n ≤ length bytes) × (n ≡ length (take n bytes)) → length bytes ≡ length bytes₀ → 6144 ≡ length bytes₀ → records (take n bytes) ≤ 512
-part-few n bytes bytes₀ h k e = records-most (take n bytes) 512 (omega (arith, h .0, h .1, k, e))
+pub not-last : (n : ℕ) (over r : Bool) → r ≡ (eqb n 0 || over) → r ≡ false → (n ≡ 0 → ⊥) × (over ≡ false)
+not-last n over r e f =
+    let o = or-false (eqb n 0) over (sym e ∙ f) in
+    (eqb-false n 0 (o .0), o .1)
 
--- so their text fits into 65,536 bytes
-pub part-room : (t n : Progress) (a b bytes out out' : List ℕ) (end : ℕ) → Came (played (records bytes) t a bytes) n b out 0 out' end → records bytes ≤ 512 → 65536 ≡ length out → length out' ≡ length out
-    → end ≤ length out'
-part-room t n a b bytes out out' end h few l k = omega (arith, came-small t a bytes (records bytes) n b out out' end h .0)
-
-pub next-part : (i : ℕ) → (i + 1) * 512 ≡ i * 512 + 512
-next-part i = omega arith
+pub room-left : (long end at : ℕ) → mostText ≤ long → end ≤ long → at ≡ cond (ltb (long - end) mostText) 0 end → at + mostText ≤ long
+room-left long end at h k e = rw e (go (ltb (long - end) mostText) refl)
+  where
+    go : (b : Bool) → ltb (long - end) mostText ≡ b → cond b 0 end + mostText ≤ long
+    go true f = h
+    go false f =
+        let l : mostText ≤ long - end = ltb-false (long - end) mostText f in
+        omega arith

@@ -3,3 +3,4 @@ pub mod ByteLaws
 pub mod JoinLaws
 pub mod SameLaws
 pub mod ZeroLaws
+pub mod WroteLaws

@@ -1,10 +1,12 @@
-// Words of eight bytes in a slice, the least byte first.
+// Words of eight bytes in a slice, the least byte first, and single bytes.
 ghost use mathlib.Core.Path.{_≡_};
 ghost use mathlib.Core.Bool.{cond};
 ghost use lib.Dec.{ltb};
 ghost use Prim.Native.Nat.{_+_, _*_, _<_, _≤_};
+ghost use mathlib.Core.List.{[], _∷_};
 ghost use lib.ListN.{length, replicate};
 ghost use Rattle.words.specs.Bytes.{bytesOf, wordAt, hasWords, wordBytes, spliced, zeroWords};
+ghost use Rattle.words.specs.Inner.Written.{Wrote};
 
 // A byte as a word, with its bound.
 fn wide(x: u8) -> u64
@@ -26,6 +28,15 @@ pub fn word(a: &[u8], at: usize) -> u64
     let b6 = wide(a[at + 6]);
     let b7 = wide(a[at + 7]);
     b0 + 256 * (b1 + 256 * (b2 + 256 * (b3 + 256 * (b4 + 256 * (b5 + 256 * (b6 + 256 * b7))))))
+}
+
+// A byte written at a place; the answer is the place past it.
+pub fn put_byte(out: &mut [u8], at: usize, b: u8) -> usize
+    requires { ⌜ at < length (now out) ⌝ }
+    ensures { λ r. ⌜ Wrote (now (out .entry)) at (b ∷ []) (now (out .exit)) r ⌝ }
+{
+    out[at] = b;
+    at + 1
 }
 
 pub fn put_word(a: &mut [u8], at: usize, x: u64)

@@ -7,7 +7,7 @@ use Rattle.calls.proofs.make.Statement.{statement}
 use Rattle.calls.proofs.make.Tie as tie
 
 ask-requires : tie.Need-ask-requires
-ask-requires c κs = (it-reads (c .before .args .s) (c .before .args .c) (c .match .keys8) (c .before .pre .0) .0, c .before .pre .1)
+ask-requires c κs = (it-reads (c .before .args .s) (c .before .args .c) (c .match .keys6) (c .before .pre .0) (c .before .pre .1) .0, c .before .pre .2)
 
 returns : tie.Need-returns
 unfolding outcome
@@ -19,34 +19,26 @@ returns-2 c = rw (c .before .before .c2 .given .1) (c .request .ensures)
 
 returns-3 : tie.Need-returns-3
 unfolding outcome
-returns-3 c = rw (c .before .before .c3 .given .1) (c .retry .ensures)
+returns-3 c = rw (c .before .before .c3 .given .1) (c .unpin .ensures)
 
 returns-4 : tie.Need-returns-4
 unfolding outcome
-returns-4 c = rw (c .before .before .c4 .given .1) (c .unpin .ensures)
+returns-4 c = rw (c .before .before .c4 .given .1) (c .end .ensures)
 
 returns-5 : tie.Need-returns-5
 unfolding outcome
-returns-5 c = rw (c .before .before .c5 .given .1) (c .end .ensures)
+returns-5 c = rw (c .before .before .c5 .given .1) (c .set-borders .ensures)
 
 returns-6 : tie.Need-returns-6
-unfolding outcome
-returns-6 c = rw (c .before .enum-told .given .1) (c .tick .ensures)
-
-returns-7 : tie.Need-returns-7
-unfolding outcome
-returns-7 c = rw (c .before .before .c6 .given .1) (c .set-borders .ensures)
-
-returns-8 : tie.Need-returns-8
-returns-8 c =
+returns-6 c =
     let b = c .before .before .before .before .before in
-    let k = c .before .before .before .before .match .keys8 in
-    same-after (b .args .s) (state-ok (b .args .s) _ (b .good .0) .sized) (c .leave-holdings .result) _ _ (c .leave-holdings .ensures) (c .before .before .before .ask .ensures) (it-reads (b .args .s) (b .args .c) k (b .pre .0) .1)
+    let k = c .before .before .before .before .match .keys6 in
+    same-after (b .args .s) (state-ok (b .args .s) _ (b .good .0) .sized) (c .leave-holdings .result) _ _ (c .leave-holdings .ensures) (c .before .before .before .ask .ensures) (it-reads (b .args .s) (b .args .c) k (b .pre .0) (b .pre .1) .1)
 
 pub make-spec : {M : Type 1} → statement M
 make-spec =
     tie.close
     (tie.spec
     (λ c. search needs) (λ c κs. search needs) (λ c. search needs) (λ c κs. search needs) (λ c. search needs) (λ c κs. search needs)
-    (λ c. search needs) (λ c κs. search needs) (λ c. search needs) (λ c κs. search needs) (λ c. search needs) (λ c κs. search needs) (λ c. search needs) (λ c κs. search needs) ask-requires
-    (λ c κs. search needs) returns returns-2 returns-3 returns-4 returns-5 returns-6 returns-7 returns-8)
+    (λ c. search needs) (λ c κs. search needs) (λ c. search needs) (λ c κs. search needs) ask-requires
+    (λ c κs. search needs) returns returns-2 returns-3 returns-4 returns-5 returns-6)

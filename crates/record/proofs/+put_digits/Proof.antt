@@ -4,11 +4,12 @@ use native.Mathlib.Omega.{arith}
 use borrow.Fn.Kinds.{In}
 use borrow.Fn.PlainCycle.{Measures, is, falls, and}
 use Rattle.record.specs.Text.{digits}
-use Rattle.record.proofs.TextLaws.{no-digits, one-digit, more-digits, digits-most, wrote-more}
+use Rattle.words.proofs.WroteLaws.{wrote-more}
+use Rattle.record.proofs.TextLaws.{no-digits, one-digit, more-digits, digits-most}
 use Rattle.record.proofs.put_digits.Reads as put-digits
 use Rattle.record.proofs.put_digits.Kinds as put-digits-kinds
 use Rattle.record.proofs.+put_digits.Lts-put_digits as put-digits-lts
-use Rattle.record.proofs.put_byte.Reads as put-byte-reads
+use Rattle.words.proofs.put_byte.Reads as put-byte-reads
 use Rattle.record.proofs.+put_digits.{statement}
 use Rattle.record.proofs.+put_digits.Tie.{close}
 

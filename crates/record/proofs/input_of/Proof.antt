@@ -1,8 +1,5 @@
-use mathlib.Core.Path.{sym}
-use lib.ListN.{List·getD-eq-default}
-use Rattle.record.specs.declared.Input.the-variants.{Bad}
 use Rattle.record.specs.Record.{kinds, ofKind}
-use Rattle.record.proofs.RecordLaws.{none-below}
+use Rattle.record.proofs.RecordLaws.{other-kind}
 use Rattle.record.proofs.input_of.Statement.{statement}
 use Rattle.record.proofs.input_of.Tie as tie
 
@@ -21,5 +18,4 @@ input-of-spec =
     (λ c. rw (c .match .keys8))
     (λ c. rw (c .match .keys9))
     (λ c. rw (c .match .keys10))
-    (λ c. rw (c .match .keys11))
-    (λ c. let a = c .before .args in sym (List·getD-eq-default (kinds (a .level) (a .number) (a .mode) (a .page) (a .value)) Bad (none-below 11 (a .kind) (c .match .rest)))))
+    (λ c. let a = c .before .args in other-kind (a .kind) (a .level) (a .number) (a .mode) (a .page) (a .value) (c .match .rest)))

@@ -11,4 +11,4 @@ is-start-spec =
     (tie.spec
     (λ c. search needs)
     (λ c. rw (c .enum-told .given .1))
-    (λ c. sym (no-start (c .before .args .call) (1 ∷ 2 ∷ 3 ∷ 4 ∷ 5 ∷ 6 ∷ 7 ∷ 8 ∷ 9 ∷ 10 ∷ []) tt (c .match .keys2))))
+    (λ c. sym (no-start (c .before .args .call) (1 ∷ 2 ∷ 3 ∷ 4 ∷ 5 ∷ 6 ∷ 7 ∷ 8 ∷ 9 ∷ []) tt (c .match .keys2))))

@@ -1,7 +1,8 @@
 use native.Mathlib.Omega.{arith}
 use lib.ListN.{getD}
 use Rattle.record.specs.Text.{headText, tailText, lineOf}
-use Rattle.record.proofs.TextLaws.{wrote-more, head-most}
+use Rattle.words.proofs.WroteLaws.{wrote-more}
+use Rattle.record.proofs.TextLaws.{head-most}
 use borrow.Author.Needs.{needs}
 use Rattle.record.proofs.put_line.Statement.{statement}
 use Rattle.record.proofs.put_line.Tie as tie

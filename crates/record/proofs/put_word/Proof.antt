@@ -1,7 +1,8 @@
 use mathlib.Core.List.{[]}
 use lib.ListN.{List·getD-eq-default}
 use Rattle.record.specs.Text.{words}
-use Rattle.record.proofs.TextLaws.{wrote-none, wrote-word}
+use Rattle.words.proofs.WroteLaws.{wrote-none}
+use Rattle.record.proofs.TextLaws.{wrote-word}
 use borrow.Author.Needs.{needs}
 use Rattle.record.proofs.put_word.Statement.{statement}
 use Rattle.record.proofs.put_word.Tie as tie

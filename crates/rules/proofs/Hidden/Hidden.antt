@@ -64,6 +64,6 @@ hidden L s c y k r = go (outcome s c) r (effect s c)
         let up = higher L level number (rw q at k) m in
         rw e (alike-trans (released-hidden L s (z .sized) (z .size-most) (eqb me) (λ r b l. ne-eqb me r (λ w. let v : levelOf me ≡ levelOf r = ap levelOf w in omega arith)))
         (row-hidden L (released (eqb me) s) (sized-released (eqb me) s (z .sized)) me (m .row-is) up freeRow))
-    go o n (ticks q h e) = true-false (rw q at k)
+    go o n (ticks room q w h e) = true-false (rw q at k)
     go o n (sets b q t e) = rw e (borders-hidden L s b)
-    go o n (serves row page mode b a m e) = rw e (served-hidden L s z row b (asks-above s c row page mode L k a) page mode)
+    go o n (serves row page mode b a m e) = rw e (served-hidden L s z row b (asks-above c row page mode L k a) page mode)

@@ -1,4 +1,4 @@
--- A request or retry of a row above a level leaves the state alike for the level.
+-- A request of a row above a level leaves the state alike for the level.
 use mathlib.Core.Path.{_≡_, sym, _∙_}
 use mathlib.Core.Bool.{Bool, false, _&&_}
 use Prim.Native.Nat.{ℕ, _+_, _<_, _≤_}

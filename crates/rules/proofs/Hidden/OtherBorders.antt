@@ -1,16 +1,17 @@
 -- Before a row has begun, a kept call of clearance 3 gives the same answer and, but for the borders, the same state whatever the borders are: no call then gets as far as to ask them.
 use mathlib.Core.Path.{_≡_, refl, sym, _∙_}
 use mathlib.Core.Bool.{Bool, true, false}
-use Prim.Native.Nat.{ℕ, zero, suc, _≤_}
+use Prim.Native.Nat.{ℕ, zero, suc, _+_, _≤_}
 use native.Mathlib.Omega.{arith}
 use borrow.Author.Tests.{ltb-false, leb-true}
 use lib.Dec.{ltb}
 use Rattle.seq.specs.declared.Found.{Found}
 use Rattle.seq.specs.declared.Found.the-variants.{At, Nowhere}
 use Rattle.seq.proofs.Tests.{true-false}
+use Rattle.model.specs.declared.Answer.the-variants.{Clock}
 use Rattle.model.specs.declared.Borders.{Borders}
 use Rattle.model.specs.declared.Call.{Call}
-use Rattle.model.specs.declared.Call.the-variants.{Start, Begin, Request, Retry, Unpin, End, Tick, Look, View, Count}
+use Rattle.model.specs.declared.Call.the-variants.{Start, Begin, Request, Unpin, End, Tick, Look, View, Count}
 use Rattle.model.specs.declared.Call.the-variants as Call
 use Rattle.model.specs.declared.Condition.the-variants.{Free, Idle}
 use Rattle.model.specs.declared.Outcome.{Outcome}
@@ -19,12 +20,15 @@ use Rattle.model.specs.Parties.{rowOf}
 use Rattle.model.specs.State.{withBorders}
 use Rattle.model.specs.Words.{seenHolder, seen, isOpen, dormant, seesDormant, strongestPin, leastArrival, slotOf}
 use Rattle.model.specs.Changes.{released, killed}
-use Rattle.rules.specs.Calls.{unless, begun, unpinned, ended, deliveredRows, isLate, lateKilled, advanced, ticked, requested, retried, lookedAt, viewedIn, viewed, counted}
-use Rattle.rules.specs.Refusals.{conditionAt, pinsPage, beginRefusal, requestRefusal, retryRefusal, unpinRefusal, endRefusal, tickRefusal, lookRefusal, viewRefusal, countRefusal}
+use Rattle.rules.specs.Calls.{unless, begun, unpinned, ended, deliveredRows, isLate, lateKilled, advanced, threeSteps, requested, lookedAt, viewedIn, viewed, counted}
+use Rattle.rules.specs.Refusals.{conditionAt, pinsPage, beginRefusal, requestRefusal, unpinRefusal, endRefusal, tickRefusal, lookRefusal, viewRefusal, countRefusal}
 use Rattle.rules.specs.Run.{outcome}
 use Rattle.rules.specs.Secrecy.{isKept}
-use Rattle.rules.proofs.Facts.SoundFacts.{BordersSound}
-use Rattle.rules.proofs.Leaves.RefusalFacts.{request-taken, unpin-taken, retry-taken}
+use Rattle.rules.specs.Tries.{allTried, ticked}
+use Rattle.rules.proofs.Facts.SoundFacts.{Sound, BordersSound}
+use Rattle.rules.proofs.Leaves.RefusalFacts.{request-taken, unpin-taken}
+use Rattle.rules.proofs.Leaves.TryLaws.{none-tried}
+use Rattle.rules.proofs.Stays.StaysBorders.{ticked-borders}
 
 -- an outcome whose state has the borders b
 abbrev pub underBorders : Outcome → Borders → Outcome
@@ -60,10 +64,6 @@ module _ (s : State) (b : Borders) where
         unless-under (requestRefusal s level number page mode) (requestRefusal (withBorders s b) level number page mode) _ _ (same-request page mode)
         (λ e. let t = request-taken s level number page mode e in absurd (idle-free (sym (t .idle) ∙ free (t .names .number-is))))
 
-    under-retry : retried (withBorders s b) level number ≡ underBorders (retried s level number) b
-    unfolding retried retryRefusal
-    under-retry = unless-under (retryRefusal s level number) (retryRefusal (withBorders s b) level number) _ _ refl (λ e. rw (free (retry-taken s level number e .number-is)))
-
     under-unpin : (page : ℕ) → unpinned (withBorders s b) level number page ≡ underBorders (unpinned s level number page) b
     unfolding unpinned unpinRefusal pinsPage slotOf
     under-unpin page =
@@ -75,16 +75,22 @@ module _ (s : State) (b : Borders) where
   same-view level Nowhere = refl
   same-view level (At slot) = refl
 
-  pub before-begun : (c : Call) → BordersSound s → s .begun ≡ false → isKept 3 c ≡ true → outcome (withBorders s b) c ≡ underBorders (outcome s c) b
+  -- a tick finds no row that waits
+  under-ticked : Sound s → BordersSound s → s .begun ≡ false
+      → allTried (threeSteps (withBorders s b)) .state ≡ withBorders (allTried (threeSteps s) .state) b
+  unfolding lateKilled killed released deliveredRows advanced isLate
+  under-ticked z h u =
+      rw (none-tried (threeSteps s) (λ r k. rw (ticked-borders s z h .free u r k)), none-tried (threeSteps (withBorders s b)) (λ r k. rw (ticked-borders s z h .free u r k)))
+
+  pub before-begun : (c : Call) → Sound s → BordersSound s → s .begun ≡ false → isKept 3 c ≡ true → outcome (withBorders s b) c ≡ underBorders (outcome s c) b
   unfolding outcome isKept begun ended ticked lookedAt viewed counted beginRefusal endRefusal tickRefusal lateKilled killed released deliveredRows advanced isLate seenHolder seen isOpen slotOf
-  before-begun (Start slots delay) h u k = true-false (sym k)
-  before-begun (Begin level number deadline) h u k = unless-under (beginRefusal s level number deadline) (beginRefusal (withBorders s b) level number deadline) _ _ refl (λ _. refl)
-  before-begun (Request level number page mode) h u k = under-request h u level number (leb-true level 3 k) page mode
-  before-begun (Retry level number) h u k = under-retry h u level number (leb-true level 3 k)
-  before-begun (Unpin level number page) h u k = under-unpin h u level number (leb-true level 3 k) page
-  before-begun (End level number) h u k = unless-under (endRefusal s level number) (endRefusal (withBorders s b) level number) _ _ refl (λ _. refl)
-  before-begun Tick h u k = unless-under (tickRefusal s) (tickRefusal (withBorders s b)) _ _ refl (λ _. refl)
-  before-begun (Look level number) h u k = unless-under (lookRefusal level number) (lookRefusal level number) _ _ refl (λ _. refl)
-  before-begun (View level page) h u k = unless-under (viewRefusal level page) (viewRefusal level page) _ _ refl (λ _ i. record { state = withBorders s b; answer = same-view level (slotOf s page) i })
-  before-begun (Count level) h u k = unless-under (countRefusal level) (countRefusal level) _ _ refl (λ _. refl)
-  before-begun (Call.Borders first second third) h u k = true-false (sym k)
+  before-begun (Start slots delay) z h u k = true-false (sym k)
+  before-begun (Begin level number deadline) z h u k = unless-under (beginRefusal s level number deadline) (beginRefusal (withBorders s b) level number deadline) _ _ refl (λ _. refl)
+  before-begun (Request level number page mode) z h u k = under-request h u level number (leb-true level 3 k) page mode
+  before-begun (Unpin level number page) z h u k = under-unpin h u level number (leb-true level 3 k) page
+  before-begun (End level number) z h u k = unless-under (endRefusal s level number) (endRefusal (withBorders s b) level number) _ _ refl (λ _. refl)
+  before-begun (Tick room) z h u k = unless-under (tickRefusal s room) (tickRefusal (withBorders s b) room) _ _ refl (λ _ i. record { state = under-ticked z h u i; answer = Clock (s .clock + 1) })
+  before-begun (Look level number) z h u k = unless-under (lookRefusal level number) (lookRefusal level number) _ _ refl (λ _. refl)
+  before-begun (View level page) z h u k = unless-under (viewRefusal level page) (viewRefusal level page) _ _ refl (λ _ i. record { state = withBorders s b; answer = same-view level (slotOf s page) i })
+  before-begun (Count level) z h u k = unless-under (countRefusal level) (countRefusal level) _ _ refl (λ _. refl)
+  before-begun (Call.Borders first second third) z h u k = true-false (sym k)

@@ -1,7 +1,6 @@
 -- What a call does: it leaves the state, or its numbers pass every refusal and it makes one kind of change.
 use mathlib.Core.Path.{_≡_, refl, sym, _∙_}
 use mathlib.Core.Bool.{true, false}
-use mathlib.Core.Logic.{_⊎_, inl, inr}
 use Prim.Native.Nat.{ℕ, suc, _+_, _<_, _≤_}
 use lib.Dec.{eqb}
 use Rattle.seq.specs.Below.{atFound}
@@ -12,10 +11,9 @@ use Rattle.model.specs.declared.Answer.{Answer}
 use Rattle.model.specs.declared.Answer.the-variants.{Refused, Started, Begun, Unpinned, Ended, Clock, Open, Bordered}
 use Rattle.model.specs.declared.Call.{Call}
 use Rattle.model.specs.declared.Borders.{Borders}
-use Rattle.model.specs.declared.Call.the-variants.{Start, Begin, Request, Retry, Unpin, End, Tick, Look, View, Count}
+use Rattle.model.specs.declared.Call.the-variants.{Start, Begin, Request, Unpin, End, Tick, Look, View, Count}
 use Rattle.model.specs.declared.Call.the-variants as Call
-use Rattle.model.specs.declared.Condition.{Condition}
-use Rattle.model.specs.declared.Condition.the-variants.{Free, Idle, Fetching, Waiting, Killed}
+use Rattle.model.specs.declared.Condition.the-variants.{Idle}
 use Rattle.model.specs.declared.Mode.{Mode}
 use Rattle.model.specs.declared.Outcome.{Outcome}
 use Rattle.model.specs.declared.State.{State}
@@ -23,13 +21,14 @@ use Rattle.model.specs.Parties.{rowOf, levelOf, modeOf, mayAccess, lastClock}
 use Rattle.model.specs.State.{freeRow, fresh, rowAt, withBorders, withBegun, putRow}
 use Rattle.model.specs.Words.{pins, slotOf}
 use Rattle.model.specs.Changes.{released}
-use Rattle.rules.specs.Refusals.{conditionAt, pinsPage, startRefusal, beginRefusal, requestRefusal, retryRefusal, unpinRefusal, endRefusal, tickRefusal, lookRefusal, viewRefusal, countRefusal, bordersRefusal, StartTaken}
-use Rattle.rules.specs.Calls.{unless, started, begun, unpinnedAt, unpinned, ended, advanced, deliveredRows, lateKilled, ticked, served, requested, servedAgain, retried, looked, lookedAt, viewedIn, viewed, counted, bordered}
+use Rattle.rules.specs.Refusals.{conditionAt, pinsPage, startRefusal, beginRefusal, requestRefusal, unpinRefusal, endRefusal, tickRefusal, lookRefusal, viewRefusal, countRefusal, bordersRefusal, StartTaken}
+use Rattle.rules.specs.Calls.{unless, started, begun, unpinnedAt, unpinned, ended, threeSteps, served, requested, looked, lookedAt, viewedIn, viewed, counted, bordered}
 use Rattle.rules.specs.Content.{isReading}
 use Rattle.rules.specs.Requests.{Asks}
 use Rattle.rules.specs.Run.{outcome}
-use Rattle.rules.proofs.Leaves.ContentLaws.{asking-own, asks-asking}
-use Rattle.rules.proofs.Leaves.RefusalFacts.{unless-is, Named, BeginTaken, UnpinTaken, BordersTaken, start-taken, begin-taken, request-taken, retry-taken, unpin-taken, end-taken, tick-taken, look-taken, borders-taken}
+use Rattle.rules.specs.Tries.{allTried, ticked}
+use Rattle.rules.proofs.Leaves.ContentLaws.{request-own}
+use Rattle.rules.proofs.Leaves.RefusalFacts.{unless-is, Named, BeginTaken, UnpinTaken, BordersTaken, start-taken, begin-taken, request-taken, unpin-taken, end-taken, tick-taken, look-taken, borders-taken}
 
 -- the calls that leave the state: refused ones, and look, view and count
 pub data Still (s : State) (c : Call) (a : Answer) : Type 0 where
@@ -38,10 +37,9 @@ pub data Still (s : State) (c : Call) (a : Answer) : Type 0 where
   views : (level page : ℕ) → c ≡ View level page → a ≡ viewedIn (slotOf s page) s level → Still s c a
   counts : (level n : ℕ) → c ≡ Count level → a ≡ Open n → Still s c a
 
--- a row that may be served: idle, with a request that no refusal applies to, or waiting
+-- a row that may ask: idle, with a request that no refusal applies to
 abbrev pub MayAsk : State → ℕ → ℕ → Mode → Type 0
-MayAsk s row page mode =
-    ((rowAt s row .condition ≡ Idle) × (page ≤ 4095) × (mayAccess (s .borders) (levelOf row) page mode ≡ true)) ⊎ (rowAt s row .condition ≡ Waiting page mode)
+MayAsk s row page mode = (rowAt s row .condition ≡ Idle) × (page ≤ 4095) × (mayAccess (s .borders) (levelOf row) page mode ≡ true)
 
 pub data Effect (s : State) (c : Call) (o : Outcome) : Type 0 where
   unchanged : (a : Answer) → Still s c a → o ≡ record { state = s; answer = a } → Effect s c o
@@ -52,9 +50,9 @@ pub data Effect (s : State) (c : Call) (o : Outcome) : Type 0 where
       → o ≡ record { state = unpinnedAt s (rowOf level number) slot; answer = Unpinned } → Effect s c o
   ends : (level number : ℕ) → c ≡ End level number → Named level number
       → o ≡ record { state = putRow (released (eqb (rowOf level number)) s) (rowOf level number) freeRow; answer = Ended } → Effect s c o
-  ticks : c ≡ Tick → s .clock < lastClock → o ≡ record { state = lateKilled (deliveredRows (advanced s)); answer = Clock (s .clock + 1) } → Effect s c o
+  ticks : (room : ℕ) → c ≡ Tick room → tickRefusal s room ≡ 0 → s .clock < lastClock → o ≡ record { state = allTried (threeSteps s) .state; answer = Clock (s .clock + 1) } → Effect s c o
   sets : (b : Borders) → c ≡ Call.Borders (b .first) (b .second) (b .third) → BordersTaken s b → o ≡ record { state = withBorders s b; answer = Bordered } → Effect s c o
-  serves : (row page : ℕ) (mode : Mode) → row < 32 → Asks s c row page mode → MayAsk s row page mode → o ≡ served s row page mode → Effect s c o
+  serves : (row page : ℕ) (mode : Mode) → row < 32 → Asks c row page mode → MayAsk s row page mode → o ≡ served s row page mode → Effect s c o
 
 -- a refused call
 by-refusal : (s : State) (c : Call) (n : ℕ) (o : Outcome) → (n ≡ 0 → Effect s c o) → Effect s c (unless n s o)
@@ -71,17 +69,8 @@ module _ (s : State) where
       go Nowhere q k = true-false (sym k)
       go (At slot) q k = unpins level number page slot refl t q k refl
 
-  retry-effect : (level number : ℕ) → Named level number → (x : Condition) → conditionAt s level number ≡ x → Effect s (Retry level number) (servedAgain x s (rowOf level number))
-  retry-effect level number n Free e = unchanged (Refused 9) (refused 8 refl) refl
-  retry-effect level number n Idle e = unchanged (Refused 16) (refused 15 refl) refl
-  retry-effect level number n (Fetching due) e = unchanged (Refused 16) (refused 15 refl) refl
-  retry-effect level number n (Waiting page mode) e =
-      serves (rowOf level number) page mode (n .row-is)
-      (record { level-most = n .level-is; number-most = n .number-is; row-is = refl; call = inr (refl, e) }) (inr e) refl
-  retry-effect level number n (Killed cause) e = unchanged (Refused 10) (refused 9 refl) refl
-
   pub effect : (c : Call) → Effect s c (outcome s c)
-  unfolding outcome started begun requested retried unpinned ended ticked lookedAt viewed counted bordered
+  unfolding outcome started begun requested unpinned ended ticked lookedAt viewed counted bordered
   effect (Start slots delay) = by-refusal s (Start slots delay) (startRefusal slots delay) _ (λ e. starts slots delay refl (start-taken slots delay e) refl)
   effect (Begin level number deadline) = by-refusal s (Begin level number deadline) (beginRefusal s level number deadline) _ (λ e.
       begins level number deadline refl (begin-taken s level number deadline e) refl)
@@ -89,13 +78,11 @@ module _ (s : State) where
       let t = request-taken s level number page mode e in
       let n = t .names in
       serves (rowOf level number) page (modeOf mode) (n .row-is)
-      (record { level-most = n .level-is; number-most = n .number-is; row-is = refl; call = inl (refl, refl, refl) })
-      (inl (t .idle, t .page-is, t .allowed)) refl)
-  effect (Retry level number) = by-refusal s (Retry level number) (retryRefusal s level number) _ (λ e.
-      retry-effect level number (retry-taken s level number e) (conditionAt s level number) refl)
+      (record { level-most = n .level-is; number-most = n .number-is; row-is = refl; kind = refl; page-is = refl; mode-is = refl })
+      (t .idle, t .page-is, t .allowed) refl)
   effect (Unpin level number page) = by-refusal s (Unpin level number page) (unpinRefusal s level number page) _ (λ e. unpin-effect level number page (unpin-taken s level number page e))
   effect (End level number) = by-refusal s (End level number) (endRefusal s level number) _ (λ e. ends level number refl (end-taken s level number e) refl)
-  effect Tick = by-refusal s Tick (tickRefusal s) _ (λ e. ticks refl (tick-taken s e) refl)
+  effect (Tick room) = by-refusal s (Tick room) (tickRefusal s room) _ (λ e. ticks room refl e (tick-taken s room e .early) refl)
   effect (Look level number) = by-refusal s (Look level number) (lookRefusal level number) _ (λ e. unchanged _ (looks level number refl (look-taken level number e) refl) refl)
   effect (View level page) = by-refusal s (View level page) (viewRefusal level page) _ (λ e. unchanged _ (views level page refl refl) refl)
   effect (Count level) = by-refusal s (Count level) (countRefusal level) _ (λ e. unchanged _ (counts level _ refl refl) refl)
@@ -113,6 +100,6 @@ reading-still s c r = go (outcome s c) (effect s c)
     go o (begins level number deadline q t e) = true-false (sym (rw q at r))
     go o (unpins level number page slot q t f p e) = true-false (sym (rw q at r))
     go o (ends level number q n e) = true-false (sym (rw q at r))
-    go o (ticks q h e) = true-false (sym (rw q at r))
+    go o (ticks room q t h e) = true-false (sym (rw q at r))
     go o (sets b q t e) = true-false (sym (rw q at r))
-    go o (serves row page mode b a m e) = true-false (sym r ∙ asking-own c (asks-asking s c row page mode a) .1)
+    go o (serves row page mode b a m e) = true-false (sym r ∙ request-own c (a .kind) .1)

@@ -1,19 +1,15 @@
 -- What the accessors of a call say of each other.
 use mathlib.Core.Path.{_≡_, refl, sym}
-use mathlib.Core.Bool.{Bool, true, false, _||_, not}
-use mathlib.Core.Logic.{_⊎_, inl, inr}
+use mathlib.Core.Bool.{true, false}
 use Prim.Native.Nat.{ℕ, _<_}
 use native.Mathlib.Omega.{arith}
 use borrow.Author.Tests.{eqb-true, leb-false}
 use Rattle.seq.proofs.Tests.{true-false, and-right, or-false, or-true-right}
 use Rattle.model.specs.declared.Call.{Call}
-use Rattle.model.specs.declared.Call.the-variants.{Start, Begin, Request, Retry, Unpin, End, Tick, Look, View, Count, Borders}
-use Rattle.model.specs.declared.Condition.the-variants.{Waiting}
+use Rattle.model.specs.declared.Call.the-variants.{Start, Begin, Request, Unpin, End, Tick, Look, View, Count, Borders}
 use Rattle.model.specs.declared.Mode.{Mode}
-use Rattle.model.specs.declared.State.{State}
-use Rattle.model.specs.Parties.{levelOf, modeOf}
-use Rattle.model.specs.State.{rowAt}
-use Rattle.rules.specs.Content.{fields, isStart, isRequest, isRetry, isTick, isAsking, isReading, isServers, isMadeUpTo}
+use Rattle.model.specs.Parties.{levelOf}
+use Rattle.rules.specs.Content.{fields, isStart, isRequest, isTick, isReading, isServers, isMadeUpTo}
 use Rattle.rules.specs.Requests.{Asks, Names}
 use Rattle.rules.specs.Secrecy.{isKept, isQuestion}
 
@@ -34,34 +30,22 @@ pub start-is : (c : Call) → isStart c ≡ true → c ≡ Start (fields c .slot
 start-is (Start slots delay) e = refl
 start-is (Begin level number deadline) e = true-false (sym e)
 start-is (Request level number page mode) e = true-false (sym e)
-start-is (Retry level number) e = true-false (sym e)
 start-is (Unpin level number page) e = true-false (sym e)
 start-is (End level number) e = true-false (sym e)
-start-is Tick e = true-false (sym e)
+start-is (Tick room) e = true-false (sym e)
 start-is (Look level number) e = true-false (sym e)
 start-is (View level page) e = true-false (sym e)
 start-is (Count level) e = true-false (sym e)
 start-is (Borders first second third) e = true-false (sym e)
 
--- a request or retry is not the server's, and changes the state
-pub asking-own : (c : Call) → isAsking c ≡ true → (isServers c ≡ false) × (isReading c ≡ false)
-asking-own c = go (isRequest c) refl
-  where
-    go : (b : Bool) → isRequest c ≡ b → b || isRetry c ≡ true → (isServers c ≡ false) × (isReading c ≡ false)
-    go true q e = rw (eqb-true (fields c .kind) 2 q) (refl, refl)
-    go false q e = rw (eqb-true (fields c .kind) 5 e) (refl, refl)
+-- a request is not the server's, and changes the state
+pub request-own : (c : Call) → isRequest c ≡ true → (isServers c ≡ false) × (isReading c ≡ false)
+request-own c q = rw (eqb-true (fields c .kind) 2 q) (refl, refl)
 
-module _ (s : State) (c : Call) (row page : ℕ) (mode : Mode) where
-  pub asks-asking : Asks s c row page mode → isAsking c ≡ true
-  asks-asking a = go (a .call)
-    where
-      go : ((isRequest c ≡ true) × (page ≡ fields c .page) × (mode ≡ modeOf (fields c .mode))) ⊎ ((isRetry c ≡ true) × (rowAt s row .condition ≡ Waiting page mode)) → isAsking c ≡ true
-      go (inl x) = rw (x .0)
-      go (inr x) = or-true-right (isRequest c) (isRetry c) (x .0)
+module _ (c : Call) (row page : ℕ) (mode : Mode) where
+  pub asks-names : Asks c row page mode → Names c row
+  asks-names a = record { kind = rw (a .kind); row-is = a .row-is }
 
-  pub asks-names : Asks s c row page mode → Names c row
-  asks-names a = record { kind = rw (asks-asking a); row-is = a .row-is }
-
-  -- the row of a request or retry that is not kept is above the clearance
-  pub asks-above : (L : ℕ) → isKept L c ≡ false → Asks s c row page mode → L < levelOf row
-  asks-above L k a = omega (arith, unkept L c k .1 (asking-own c (asks-asking a) .0), a .number-most, a .row-is)
+  -- the row of a request that is not kept is above the clearance
+  pub asks-above : (L : ℕ) → isKept L c ≡ false → Asks c row page mode → L < levelOf row
+  asks-above L k a = omega (arith, unkept L c k .1 (request-own c (a .kind) .0), a .number-most, a .row-is)

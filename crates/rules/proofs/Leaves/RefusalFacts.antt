@@ -16,7 +16,7 @@ use Rattle.model.specs.declared.State.{State}
 use Rattle.model.specs.Parties.{rowOf, levelOf, modeOf, areBorders, mayAccess, lastClock, isPast}
 use Rattle.model.specs.Words.{isFree}
 use Rattle.rules.specs.Calls.{unless}
-use Rattle.rules.specs.Refusals.{firstToApply, isKilled, isBusy, isWaiting, isRead, conditionAt, pinsPage, startRefusal, beginRefusal, requestRefusal, retryRefusal, unpinRefusal, endRefusal, tickRefusal, lookRefusal, bordersRefusal, StartTaken}
+use Rattle.rules.specs.Refusals.{firstToApply, isKilled, isBusy, isRead, conditionAt, pinsPage, startRefusal, beginRefusal, requestRefusal, unpinRefusal, endRefusal, tickRefusal, lookRefusal, bordersRefusal, StartTaken}
 use Rattle.rules.proofs.Facts.SoundFacts.{is-free}
 
 -- what holds of a refused call and of an accepted one
@@ -118,14 +118,6 @@ request-taken s level number page mode e =
       allowed = rw (r .own-level) (no-breach reading may (busy .1 .1 .1 .0) (busy .1 .1 .1 .1 .0));
     }
 
-pub retry-taken : (s : State) (level number : ℕ) → retryRefusal s level number ≡ 0 → Named level number
-unfolding retryRefusal
-retry-taken s level number e =
-    let n = none-apply (
-    (4, ltb 3 level) ∷ (5, ltb 7 number) ∷ (9, isFree (conditionAt s level number)) ∷ (10, isKilled (conditionAt s level number))
-    ∷ (16, not (isWaiting (conditionAt s level number))) ∷ []) (omega arith) e in
-    named level number (n .0) (n .1 .0)
-
 pub record UnpinTaken (s : State) (level number page : ℕ) : Type 0 where
   pub names : Named level number
   pub idle : conditionAt s level number ≡ Idle
@@ -157,9 +149,15 @@ look-taken level number e =
     let n = none-apply ((4, ltb 3 level) ∷ (5, ltb 7 number) ∷ []) (omega arith) e in
     named level number (n .0) (n .1 .0)
 
-pub tick-taken : (s : State) → tickRefusal s ≡ 0 → s .clock < lastClock
+pub record TickTaken (s : State) (room : ℕ) : Type 0 where
+  pub roomy : 256 ≤ room
+  pub early : s .clock < lastClock
+
+pub tick-taken : (s : State) (room : ℕ) → tickRefusal s room ≡ 0 → TickTaken s room
 unfolding tickRefusal
-tick-taken s e = let n = none-apply ((17, leb lastClock (s .clock)) ∷ []) (omega arith) e in leb-false lastClock (s .clock) (n .0)
+tick-taken s room e =
+    let n = none-apply ((21, ltb room 256) ∷ (17, leb lastClock (s .clock)) ∷ []) (omega arith) e in
+    record { roomy = ltb-false room 256 (n .0); early = leb-false lastClock (s .clock) (n .1 .0) }
 
 pub record BordersTaken (s : State) (b : Borders) : Type 0 where
   pub valid : areBorders b ≡ true

@@ -1,4 +1,4 @@
--- How a request or retry is served: by which step.
+-- How a request is served: by which step.
 use mathlib.Core.Path.{_≡_, refl}
 use mathlib.Core.Bool.{Bool, true, false, cond}
 use Prim.Native.Nat.{ℕ, _+_}
@@ -12,9 +12,9 @@ use Rattle.model.specs.declared.State.{State}
 use Rattle.model.specs.Parties.{levelOf}
 use Rattle.model.specs.State.{slotAt}
 use Rattle.model.specs.Words.{seen, leastArrival, slotOf}
-use Rattle.model.specs.Changes.{killed}
+use Rattle.model.specs.Changes.{released, killed, cleared}
 use Rattle.rules.specs.Choice.{chosen}
-use Rattle.rules.specs.Calls.{waiting, granted, conflicts, mustWait, step1, step2, pinnersKilled, writeBack, filled, intoSlot, unseenAt, hitsDormant, servedAt, served}
+use Rattle.rules.specs.Calls.{waiting, granted, conflicts, mustWait, step1, step2, step3, pinnersKilled, writeBack, filled, intoSlot, unseenAt, hitsDormant, servedAt, served}
 
 -- the step that serves it
 pub data Step (s : State) (row page : ℕ) (mode : Mode) (o : Outcome) : Type 0 where
@@ -48,3 +48,15 @@ module _ (s : State) (row page : ℕ) (mode : Mode) where
       go : (f : Found) → slotOf s page ≡ f → Step s row page mode (servedAt f s row page mode)
       go Nowhere e = absent e (chosen s row) refl
       go (At slot) e = there slot e (seen s (levelOf row) slot) (mustWait s row slot mode) (hitsDormant s row slot) refl refl refl
+
+pub served-clock : (s : State) (row page : ℕ) (mode : Mode) → served s row page mode .state .clock ≡ s .clock
+unfolding waiting granted step2 step3 pinnersKilled filled killed released cleared
+served-clock s row page mode = go (served s row page mode) (step s row page mode)
+  where
+    go : (o : Outcome) → Step s row page mode o → o .state .clock ≡ s .clock
+    go o (wait-1 slot e v w q) = rw q
+    go o (grant-1 slot e v w q) = rw q
+    go o (grant-2 slot e d q) = rw q
+    go o (grant-3 slot e v q) = rw q
+    go o (wait-g e c q) = rw q
+    go o (fill slot e c q) = rw q

@@ -1,6 +1,7 @@
 -- What a call makes of the borders and of the mark that a row has begun: a start makes them anew, a begin sets the mark, borders are set before that, and every other call leaves both.
 use mathlib.Core.Path.{_≡_, refl, sym, _∙_}
 use mathlib.Core.Bool.{true, false}
+use mathlib.Core.List.{List}
 use Prim.Native.Nat.{ℕ}
 use Rattle.seq.proofs.Tests.{true-false}
 use Rattle.model.specs.declared.Call.{Call}
@@ -9,11 +10,13 @@ use Rattle.model.specs.declared.Outcome.{Outcome}
 use Rattle.model.specs.declared.State.{State}
 use Rattle.model.specs.Changes.{released, killed, cleared}
 use Rattle.rules.specs.Answers.{word, isStarted}
-use Rattle.rules.specs.Calls.{unpinnedAt, advanced, deliveredRows, lateKilled, waiting, granted, step2, step3, pinnersKilled, filled, served}
+use Rattle.rules.specs.Calls.{unpinnedAt, advanced, deliveredRows, lateKilled, threeSteps, waiting, granted, step2, step3, pinnersKilled, filled, served}
 use Rattle.rules.specs.Run.{outcome}
 use Rattle.rules.specs.Secrecy.{isKept}
+use Rattle.rules.specs.Tries.{tries, waiters, allTried}
 use Rattle.rules.proofs.Leaves.CallEffects.{Effect, unchanged, starts, begins, unpins, ends, ticks, sets, serves, effect}
 use Rattle.rules.proofs.Leaves.ServeCases.{Step, wait-1, grant-1, grant-2, grant-3, wait-g, fill, step}
+use Rattle.rules.proofs.Leaves.TryLaws.{by-tries}
 
 -- the borders and the mark stay
 abbrev pub Unset : State → State → Type 0
@@ -31,6 +34,17 @@ served-unset s row page mode = go (served s row page mode) (step s row page mode
     go o (wait-g e c q) = rw q (refl, refl)
     go o (fill slot e c q) = rw q (refl, refl)
 
+pub tries-unset : (rows : List ℕ) (s : State) → Unset s (tries rows s .state)
+tries-unset = by-tries (λ rows s y. Unset s (y .state))
+    (λ s. (refl, refl))
+    (λ row rows s y w more. more)
+    (λ row rows s page mode y w more. let x = served-unset s row page mode in (more .0 ∙ x .0, more .1 ∙ x .1))
+
+-- a tick leaves both
+pub ticked-unset : (s : State) → Unset s (allTried (threeSteps s) .state)
+unfolding allTried lateKilled deliveredRows advanced killed released
+ticked-unset s = tries-unset (waiters (threeSteps s)) (threeSteps s)
+
 -- once a row has begun, both stay until a start
 pub frozen : (s : State) (c : Call) → s .begun ≡ true → isStarted (outcome s c .answer) ≡ false → Unset s (outcome s c .state)
 unfolding word unpinnedAt released lateKilled deliveredRows advanced killed
@@ -42,7 +56,7 @@ frozen s c b r = go (outcome s c) r (effect s c)
     go o n (begins level number deadline q t e) = rw e (refl, sym b)
     go o n (unpins level number page slot q t f p e) = rw e (refl, refl)
     go o n (ends level number q m e) = rw e (refl, refl)
-    go o n (ticks q h e) = rw e (refl, refl)
+    go o n (ticks room q w h e) = rw e (ticked-unset s)
     go o n (sets x q t e) = true-false (sym b ∙ t .unbegun)
     go o n (serves row page mode h a m e) = rw e (served-unset s row page mode)
 
@@ -57,6 +71,6 @@ kept-borders L s c k = go (outcome s c) (effect s c)
     go o (begins level number deadline q t e) = rw e
     go o (unpins level number page slot q t f p e) = rw e
     go o (ends level number q m e) = rw e
-    go o (ticks q h e) = rw e
+    go o (ticks room q w h e) = rw e (ticked-unset s .0)
     go o (sets x q t e) = true-false (sym (rw q at k))
     go o (serves row page mode h a m e) = rw e (served-unset s row page mode .0)

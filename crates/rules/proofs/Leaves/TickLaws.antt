@@ -1,4 +1,4 @@
--- What a tick leaves at each row, slot and holding.
+-- What the three steps of a tick leave at each row, slot and holding.
 use mathlib.Core.Path.{_≡_, refl, sym, _∙_, ap}
 use mathlib.Core.Bool.{Bool, true, false, cond}
 use Prim.Native.Nat.{ℕ, _+_, _<_, _≤_}
@@ -17,6 +17,7 @@ use Rattle.model.specs.Changes.{dirtied, killedRow, wroteSlot}
 use Rattle.model.proofs.StateLaws.{Sized}
 use Rattle.model.proofs.ChangeLaws.{killed-row, killed-slot, killed-holding, killed-clock}
 use Rattle.rules.specs.Calls.{delivered, deliveredRow, deliveredRows, isLate, lateKilled, advanced}
+use Rattle.rules.specs.Refusals.{isWaiting}
 
 -- the clock and the rows before the late ones are killed
 abbrev pub later : State → State
@@ -68,3 +69,16 @@ module _ (s : State) (z : Sized s) where
       go true r q k = true-false (cc)
       go false true q k = leb-true due (s .clock + 1) q
       go false false q k = let n : Fetching due ≡ Idle = rw (f, q) at k in true-false (cc)
+
+  -- a row that was fetching does not wait
+  pub unwaiting : (row due : ℕ) → row < 32 → rowAt s row .condition ≡ Fetching due → isWaiting (rowAt (lateKilled (later s)) row .condition) ≡ false
+  unfolding deliveredRow
+  unwaiting row due b f = rw (ticked-row row b) (go (isLate (later s) row))
+    where
+      go : (late : Bool) → isWaiting (cond late (killedRow Late) (record { condition = delivered (s .clock + 1) (rowAt s row .condition); deadline = rowAt s row .deadline }) .condition) ≡ false
+      go true = refl
+      go false = rw f (last (leb due (s .clock + 1)))
+        where
+          last : (x : Bool) → isWaiting (cond x Idle (Fetching due)) ≡ false
+          last true = refl
+          last false = refl

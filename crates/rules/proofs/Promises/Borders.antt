@@ -23,7 +23,7 @@ use Rattle.rules.specs.Content.{bordersNamed}
 use Rattle.rules.specs.Refusals.{conditionAt}
 use Rattle.rules.specs.Run.{outcome}
 use Rattle.rules.proofs.Leaves.CallEffects.{Still, refused, looks, views, counts, Effect, unchanged, starts, begins, unpins, ends, ticks, sets, serves, effect}
-use Rattle.rules.proofs.Leaves.SettingLaws.{served-unset}
+use Rattle.rules.proofs.Leaves.SettingLaws.{served-unset, ticked-unset}
 use Rattle.rules.proofs.Promises.CallCases.{viewed-is}
 use Rattle.rules.proofs.Promises.Serving.{Serving, waits, waits-g, joins, fills, serving}
 use Rattle.rules.proofs.Promises.Granting.{granted-answer}
@@ -80,7 +80,7 @@ module _ (s : State) (c : Call) where
   after o (begins level number deadline q t e) = rw e (refl, refl)
   after o (unpins level number page slot q t f p e) = rw e (refl, refl)
   after o (ends level number q m e) = rw e (refl, refl)
-  after o (ticks q h e) = rw e (refl, refl)
+  after o (ticks room q w h e) = rw e (ticked-unset s)
   after o (sets b q t e) = rw (e, q) (refl, refl)
   after o (serves row page mode h a m e) =
       let n = served-other s row page mode in

@@ -1,4 +1,4 @@
--- The answers of a served request or retry, and that no other call is given one.
+-- The answers of a served request, and that no other call is given one.
 use mathlib.Core.Path.{_≡_, refl}
 use mathlib.Core.Bool.{Bool, true, false, cond}
 use Prim.Native.Nat.{ℕ}
@@ -40,7 +40,7 @@ use Rattle.rules.specs.Refusals.{conditionAt}
 use Rattle.rules.specs.Calls.{looked, viewedPin, viewedIn}
 use Rattle.rules.proofs.Leaves.CallEffects.{Still, refused, looks, views, counts}
 
--- the answers of a served request or retry
+-- the answers of a served request
 abbrev pub isServed : Answer → Bool
 isServed (Refused number) = false
 isServed Started = false

@@ -1,4 +1,4 @@
--- A request or retry that is not told to wait is granted on a state whose slot has the page: what its answer says of the next state.
+-- A request that is not told to wait is granted on a state whose slot has the page: what its answer says of the next state.
 use mathlib.Core.Path.{_≡_, refl, sym, _∙_, ap}
 use mathlib.Core.Bool.{Bool, true, false, cond}
 use Prim.Native.Nat.{ℕ, _+_, _<_, _≤_}
@@ -119,6 +119,21 @@ module _ (s : State) (row page : ℕ) (mode : Mode) (mine : row < 32) (o : Outco
       ∙ granted-row (g .before) (g .ground .sized) row (g .slot) mine (g .ground .slot-is) mode (g .arrival) (g .back) row
       ∙ rw (eq-eqb row row refl)
 
+  -- the slot has the page, and the row its pin, ready or fetching
+  pub own-page : hasPage page (slotAt (o .state) (g .slot) .content) ≡ true
+  own-page =
+      ap (λ (x : Outcome). hasPage page (slotAt (x .state) (g .slot) .content)) (g .same)
+      ∙ granted-booked (g .before) (g .ground .sized) row (g .slot) mine (g .ground .slot-is) mode (g .arrival) (g .back) 0 page (g .slot) .has-it (g .ground .has-it)
+
+  own-holding : holdingAt (o .state) (g .slot) row ≡ grantedHolding (g .before) row (g .slot) mode (g .arrival)
+  own-holding =
+      ap (λ (x : Outcome). holdingAt (x .state) (g .slot) row) (g .same)
+      ∙ granted-holding (g .before) (g .ground .sized) row (g .slot) mine (g .ground .slot-is) mode (g .arrival) (g .back) (g .slot) row mine
+      ∙ rw (eq-eqb (g .slot) (g .slot) refl, eq-eqb row row refl)
+
+  pub own-pin : strength (pinOf mode) ≤ strength (holdingAt (o .state) (g .slot) row .pin)
+  own-pin = rw own-holding (pin-least (isHeld (holdingAt (g .before) (g .slot) row .pin)) (holdingAt (g .before) (g .slot) row) (pinOf mode) (g .arrival) (g .before .clock))
+
   -- else fetching until then
   pub grant-fetch : (due slot : ℕ) (back : Back) → o .answer ≡ Fetch due slot back → (s .clock < due) × (rowAt (o .state) row .condition ≡ Fetching due) × (slot < 64)
   grant-fetch due slot back e =
@@ -143,17 +158,3 @@ module _ (s : State) (row page : ℕ) (mode : Mode) (mine : row < 32) (o : Outco
         rw d own-pin,
       ))
       (λ q k. true-false (cc))
-    where
-      own-page : hasPage page (slotAt (o .state) (g .slot) .content) ≡ true
-      own-page =
-          ap (λ (x : Outcome). hasPage page (slotAt (x .state) (g .slot) .content)) (g .same)
-          ∙ granted-booked (g .before) (g .ground .sized) row (g .slot) mine (g .ground .slot-is) mode (g .arrival) (g .back) 0 page (g .slot) .has-it (g .ground .has-it)
-
-      own-holding : holdingAt (o .state) (g .slot) row ≡ grantedHolding (g .before) row (g .slot) mode (g .arrival)
-      own-holding =
-          ap (λ (x : Outcome). holdingAt (x .state) (g .slot) row) (g .same)
-          ∙ granted-holding (g .before) (g .ground .sized) row (g .slot) mine (g .ground .slot-is) mode (g .arrival) (g .back) (g .slot) row mine
-          ∙ rw (eq-eqb (g .slot) (g .slot) refl, eq-eqb row row refl)
-
-      own-pin : strength (pinOf mode) ≤ strength (holdingAt (o .state) (g .slot) row .pin)
-      own-pin = rw own-holding (pin-least (isHeld (holdingAt (g .before) (g .slot) row .pin)) (holdingAt (g .before) (g .slot) row) (pinOf mode) (g .arrival) (g .before .clock))

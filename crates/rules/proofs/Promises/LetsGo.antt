@@ -2,11 +2,11 @@
 use mathlib.Core.Path.{_≡_, refl, sym, _∙_}
 use mathlib.Core.Bool.{true, false, _&&_}
 use mathlib.Core.Logic.{_⊎_, inl, inr}
-use Prim.Native.Nat.{ℕ, _+_, _<_, _≤_}
+use Prim.Native.Nat.{ℕ, _<_, _≤_}
 use native.Mathlib.Omega.{arith}
 use borrow.Author.Tests.{le-leb}
 use lib.Dec.{leb}
-use Rattle.seq.proofs.Tests.{true-false, and-left, both-true, not-true-false}
+use Rattle.seq.proofs.Tests.{true-false, and-true, and-left, both-true, not-true-false}
 use Rattle.model.specs.declared.Content.{Content}
 use Rattle.model.specs.declared.Content.the-variants.{Empty, Filled}
 use Rattle.model.specs.declared.Outcome.{Outcome}
@@ -18,15 +18,15 @@ use Rattle.model.proofs.ContentLaws.{has-page}
 use Rattle.model.proofs.PinLaws.{write-held}
 use Rattle.model.proofs.BookLaws.{Booked}
 use Rattle.rules.specs.Sound.{sound}
-use Rattle.rules.specs.Answers.{backTold, isStarted}
+use Rattle.rules.specs.Answers.{isStarted}
 use Rattle.model.specs.declared.Call.{Call}
-use Rattle.rules.specs.Run.{outcome}
-use Rattle.rules.specs.Slots.{Refilled, Dirty}
-use Rattle.rules.proofs.Facts.SoundFacts.{facts}
+use Rattle.rules.specs.Run.{outcome, fillsOf}
+use Rattle.rules.specs.Slots.{holdsPage, Refilled, Dirty, Reported}
+use Rattle.rules.proofs.Facts.SoundFacts.{facts, borders-facts}
 use Rattle.rules.proofs.Leaves.CallEffects.{effect}
 use Rattle.rules.proofs.Stays.StaysSound.{stays-sound}
 use Rattle.rules.proofs.Promises.Drops.{drop}
-use Rattle.rules.proofs.Promises.Booking.{Writes, stay, reported, writes}
+use Rattle.rules.proofs.Promises.Booking.{Writes, stay, reported, Reports, writes}
 
 -- ---- rows
 
@@ -44,10 +44,12 @@ lets-go s z c row slot r b l d h = rw (not-live-unheld s z c row slot r b d)
 
 -- ---- holdings
 
--- a holding goes only with its row, or where its row has no pin and a request or retry chose the slot for a new page
-pub drops-only : (s : State) → sound s ≡ true → (c : Call) (slot row : ℕ) → slot < 64 → row < 32 → holds s slot row ≡ true → holds (outcome s c .state) slot row ≡ false
+-- a row no longer holds a page only where it is no longer live, or where it had no pin and a request that is served in the course of the call chose the slot for another page
+pub drops-only : (s : State) → sound s ≡ true → (c : Call) (slot row page : ℕ) → slot < 64 → row < 32 → holdsPage s slot row page ≡ true → holdsPage (outcome s c .state) slot row page ≡ false
     → (isLive (rowAt (outcome s c .state) row .condition) ≡ false) ⊎ Refilled s c (outcome s c .state) slot row
-drops-only s z c slot row b r h = drop s (facts s z) slot row b r h c (outcome s c) (effect s c)
+drops-only s z c slot row page b r h =
+    let x = and-true (holds s slot row) (hasPage page (slotAt s slot .content)) h in
+    drop s z slot row page b r (x .0) (x .1) c (outcome s c) refl (effect s c)
 
 -- ---- writes
 
@@ -57,10 +59,11 @@ dirty-filled (Filled page arrival dirty lowest) e = refl
 
 -- for every call but an accepted start
 module _ (s : State) (z : sound s ≡ true) (c : Call) (again : isStarted (outcome s c .answer) ≡ false) (slot : ℕ) (b : slot < 64) where
-  -- a dirty page stays dirty in its slot, or is reported for write-back
+  -- a dirty page stays dirty in its slot, or is reported for write-back from it
   pub dirty-not-lost : dirtyIn (slotAt s slot .content) ≡ true
-      → Dirty (outcome s c .state) slot (pageIn (slotAt s slot .content)) ⊎ (backTold (outcome s c .answer) ≡ pageIn (slotAt s slot .content) + 1)
-  dirty-not-lost d = go (outcome s c) (writes s (facts s z) page slot b c (outcome s c) again (effect s c))
+      → Dirty (outcome s c .state) slot (pageIn (slotAt s slot .content)) ⊎ Reported s c slot (pageIn (slotAt s slot .content))
+  unfolding fillsOf
+  dirty-not-lost d = go (outcome s c) (writes s (facts s z) (borders-facts s z) page slot b c (outcome s c) again (effect s c))
     where
       page : ℕ
       page = pageIn (slotAt s slot .content)
@@ -68,16 +71,16 @@ module _ (s : State) (z : sound s ≡ true) (c : Call) (again : isStarted (outco
       has : hasPage page (slotAt s slot .content) ≡ true
       has = has-page page (slotAt s slot .content) (dirty-filled (slotAt s slot .content) d) refl
 
-      go : (o : Outcome) → Writes s o page slot → Dirty (o .state) slot page ⊎ (backTold (o .answer) ≡ page + 1)
+      go : (o : Outcome) → Writes s (o .state) page slot (Reports s o slot page) → Dirty (o .state) slot page ⊎ Reports s o slot page
       go o (stay k e x) = inl (record { has-it = x .has-it has; dirty = x .dirty d })
       go o (reported k e u x n f) = inr (f (x .has-it has) (x .dirty d))
 
-  -- when a write pin goes and its arrival ≤ clock, the slot becomes dirty, or the page is reported for write-back
+  -- when a write pin goes and its arrival ≤ clock, the slot becomes dirty, or the page is reported for write-back from it
   pub write-not-lost : (row : ℕ) → row < 32 → isWrite (holdingAt s slot row .pin) ≡ true → holdingAt s slot row .arrival ≤ outcome s c .state .clock
       → isWrite (holdingAt (outcome s c .state) slot row .pin) ≡ false
-      → Dirty (outcome s c .state) slot (pageIn (slotAt s slot .content)) ⊎ (backTold (outcome s c .answer) ≡ pageIn (slotAt s slot .content) + 1)
-  unfolding written
-  write-not-lost row r w = go (outcome s c) (writes s (facts s z) page slot b c (outcome s c) again (effect s c))
+      → Dirty (outcome s c .state) slot (pageIn (slotAt s slot .content)) ⊎ Reported s c slot (pageIn (slotAt s slot .content))
+  unfolding written fillsOf
+  write-not-lost row r w = go (outcome s c) (writes s (facts s z) (borders-facts s z) page slot b c (outcome s c) again (effect s c))
     where
       page : ℕ
       page = pageIn (slotAt s slot .content)
@@ -94,7 +97,7 @@ module _ (s : State) (z : sound s ≡ true) (c : Call) (again : isStarted (outco
           last (inl v) = true-false (sym (and-left (isWrite (holdingAt u slot row .pin)) (leb (holdingAt u slot row .arrival) k) v) ∙ n)
           last (inr d) = f (x .has-it has) d
 
-      go : (o : Outcome) → Writes s o page slot → holdingAt s slot row .arrival ≤ o .state .clock → isWrite (holdingAt (o .state) slot row .pin) ≡ false
-          → Dirty (o .state) slot page ⊎ (backTold (o .answer) ≡ page + 1)
+      go : (o : Outcome) → Writes s (o .state) page slot (Reports s o slot page) → holdingAt s slot row .arrival ≤ o .state .clock → isWrite (holdingAt (o .state) slot row .pin) ≡ false
+          → Dirty (o .state) slot page ⊎ Reports s o slot page
       go o (stay k e x) a n = either k (o .state) x (omega arith) n (λ h d. inl (record { has-it = h; dirty = d }))
       go o (reported k e u x m f) a n = either k u x (omega arith) (m row r) (λ h d. inr (f h d))

@@ -22,7 +22,7 @@ use Rattle.model.specs.Words.{holds, pins, slotOf}
 use Rattle.model.proofs.PutLaws.{row-same}
 use Rattle.rules.specs.Sound.{awaits, sound}
 use Rattle.rules.specs.Answers.{word, value, mayUse, told}
-use Rattle.rules.specs.Calls.{waiting, servedAgain, looked}
+use Rattle.rules.specs.Calls.{waiting, looked}
 use Rattle.model.specs.declared.Call.{Call}
 use Rattle.rules.specs.Run.{outcome}
 use Rattle.rules.specs.Content.{rowNamed}
@@ -62,13 +62,6 @@ module _ (s : State) (z : Sound s) where
   served-says row page mode b o (joins slot arrival some e r q) = grant-says row page mode b o (grant s z row page mode b o (joins slot arrival some e r q) (λ w. never-waits _ _ _ _ _ _ (rw q at w)))
   served-says row page mode b o (fills slot e c q) = grant-says row page mode b o (grant s z row page mode b o (fills slot e c q) (λ w. never-waits _ _ _ _ _ _ (rw q at w)))
 
-  again-says : (row : ℕ) → row < 32 → (x : Condition) → Reply row (servedAgain x s row)
-  again-says row b Free = inl (9, refl)
-  again-says row b Idle = inl (16, refl)
-  again-says row b (Fetching due) = inl (16, refl)
-  again-says row b (Waiting page mode) = inr (b, served-says row page mode b _ (serving s row page mode))
-  again-says row b (Killed cause) = inl (10, refl)
-
   reply : (c : Call) (row : ℕ) → Names c row → Reply row (outcome s c)
   reply c row n = go (outcome s c) (effect s c)
     where
@@ -81,7 +74,7 @@ module _ (s : State) (z : Sound s) where
       go o (begins level number deadline q t e) = true-false (sym (rw q at (n .kind)))
       go o (unpins level number page slot q t f p e) = true-false (sym (rw q at (n .kind)))
       go o (ends level number q m e) = true-false (sym (rw q at (n .kind)))
-      go o (ticks q h e) = true-false (sym (rw q at (n .kind)))
+      go o (ticks room q w h e) = true-false (sym (rw q at (n .kind)))
       go o (sets b q t e) = true-false (sym (rw q at (n .kind)))
       go o (serves r page mode b a m e) =
           let w : row ≡ r = n .row-is ∙ sym (a .row-is) in
@@ -117,11 +110,11 @@ used-names s c o (starts slots delay q t e) u = true-false (sym (rw e at u))
 used-names s c o (begins level number deadline q t e) u = true-false (sym (rw e at u))
 used-names s c o (unpins level number page slot q t f p e) u = true-false (sym (rw e at u))
 used-names s c o (ends level number q m e) u = true-false (sym (rw e at u))
-used-names s c o (ticks q h e) u = true-false (sym (rw e at u))
+used-names s c o (ticks room q w h e) u = true-false (sym (rw e at u))
 used-names s c o (sets b q t e) u = true-false (sym (rw e at u))
-used-names s c o (serves row page mode b a m e) u = record { kind = asks-names s c row page mode a .kind; row-is = refl }
+used-names s c o (serves row page mode b a m e) u = record { kind = asks-names c row page mode a .kind; row-is = refl }
 
--- an answer that says that a page may be used goes to a request, retry or look of a row, and every page that the row holds has arrived
+-- an answer that says that a page may be used goes to a request or look of a row, and every page that the row holds has arrived
 pub may-use-arrived : (s : State) → sound s ≡ true → (c : Call) → mayUse (outcome s c .answer) ≡ true → (row : ℕ) × Names c row × AllArrived (outcome s c .state) row
 unfolding mayUse word
 may-use-arrived s z c e =
@@ -157,7 +150,7 @@ says-due x a due f (says-fetch until slot back k i) = let n : Fetching until ≡
 says-due x a due f (says-wait page mode k i) = let n : Waiting page mode ≡ Fetching due = sym i ∙ f in true-false (cc)
 says-due x a due f (says-look k) = rw (k, f)
 
--- where a page that the row holds has not arrived, a request, retry or look of the row is refused, or told fetch with that arrival
+-- where a page that the row holds has not arrived, a request or look of the row is refused, or told fetch with that arrival
 pub fetching-told : (s : State) → sound s ≡ true → (c : Call) (row slot : ℕ) → Names c row → row < 32 → slot < 64
     → holds (outcome s c .state) slot row ≡ true → outcome s c .state .clock < holdingAt (outcome s c .state) slot row .arrival
     → (word (outcome s c .answer) ≡ 0) ⊎ (told (outcome s c .answer) ≡ record { word = 4; value = holdingAt (outcome s c .state) slot row .arrival })

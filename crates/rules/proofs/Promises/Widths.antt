@@ -26,21 +26,25 @@ use Rattle.model.specs.State.{freeRow, emptySlot, emptyHolding, fresh, rowAt, s
 use Rattle.model.specs.Words.{holds, pins}
 use Rattle.model.specs.Changes.{killedRow, released, killed, cleared}
 use Rattle.model.proofs.StateLaws.{Sized, row-put, fresh-row}
-use Rattle.model.proofs.ChangeLaws.{killed-row, sized-released}
+use Rattle.model.proofs.ChangeLaws.{killed-row, sized-released, sized-killed}
 use Rattle.model.proofs.BordersLaws.{in-order}
 use Rattle.model.proofs.PinLaws.{pin-held}
 use Rattle.model.proofs.Ranges.{ConditionOk, ContentOk, HoldingOk, RowOk, SlotOk, BordersOk, StateOk}
 use Rattle.rules.specs.Sound.{awaits, sound}
-use Rattle.rules.specs.Calls.{unpinnedAt, deliveredRow, isLate, waiting, granted, pinnersKilled, filled}
+use Rattle.rules.specs.Calls.{unpinnedAt, deliveredRow, isLate, lateKilled, threeSteps, waiting, granted, pinnersKilled, filled, served}
 use Rattle.model.specs.declared.Call.{Call}
 use Rattle.rules.specs.Run.{outcome}
 use Rattle.rules.specs.Content.{Fits}
-use Rattle.rules.proofs.Facts.SoundFacts.{Sound, Awaiting, RowSound, facts, borders-facts}
+use Rattle.rules.specs.Tries.{allTried}
+use Rattle.rules.proofs.Facts.SoundFacts.{Sound, BordersSound, Awaiting, RowSound, facts, borders-facts}
 use Rattle.rules.proofs.Leaves.CallEffects.{Effect, unchanged, starts, begins, unpins, ends, ticks, sets, serves, effect}
 use Rattle.rules.proofs.Leaves.GrantLaws.{grantedRow, granted-row}
-use Rattle.rules.proofs.Leaves.TickLaws.{later, ticked-row}
+use Rattle.rules.proofs.Leaves.TickLaws.{later, sized-later, ticked-row}
 use Rattle.rules.proofs.Promises.Serving.{Serving, waits, waits-g, joins, fills, serving}
+use Rattle.rules.proofs.Stays.StaysBorders.{ticked-borders}
 use Rattle.rules.proofs.Stays.StaysSound.{stays-sound}
+use Rattle.rules.proofs.Stays.StaysTick.{ticked-sound}
+use Rattle.rules.proofs.Stays.StaysTries.{by-all-tried}
 use Rattle.rules.proofs.Stays.StaysChoice.{chosen-free}
 use Rattle.rules.proofs.Promises.Granting.{killed-ground, filled-ground}
 
@@ -86,8 +90,24 @@ module _ (s : State) (z : Sound s) (narrow : Narrow s) (q : ℕ) (b : q < 32) wh
       let g = filled-ground s z page slot (levelOf row) (chosen-free s row r z slot n .0) in
       rw k (granted-narrow _ _ (g .sized) (λ _. refl) row slot r (g .slot-is) mode _ _)
 
+all-narrow : (s : State) → Sized s → ((q : ℕ) → q < 32 → rowAt s q .deadline < 2 ^ 32) → Narrow s
+all-narrow s z = everywhere (λ x. x .deadline < 2 ^ 32) (s .rows) freeRow 32 (z .rows) (omega arith)
+
+-- the three steps of a tick, and each of its tries
+tried-narrow : (s : State) → Sound s → BordersSound s → Narrow s → Narrow (allTried s .state)
+tried-narrow = by-all-tried (λ s y. Narrow s → Narrow (y .state)) (λ s n. n)
+    (λ s row page mode y z b w next more n.
+    more (all-narrow (served s row page mode .state) (next .sized)
+    (λ q r. served-narrow s z n q r row page mode b (served s row page mode) (serving s row page mode))))
+
+steps-narrow : (s : State) → Sound s → Narrow s → Narrow (threeSteps s)
+unfolding deliveredRow lateKilled
+steps-narrow s z narrow = all-narrow (threeSteps s) (sized-killed (isLate (later s)) (later s) (sized-later s (z .sized)) Late) (λ q b.
+    rw (ticked-row s (z .sized) q b) (either (isLate (later s) q) (killedRow Late) (deliveredRow (s .clock + 1) (rowAt s q)) (omega arith) (narrow q)))
+
+module _ (s : State) (z : Sound s) (y : BordersSound s) (narrow : Narrow s) (q : ℕ) (b : q < 32) where
   call-narrow : (c : Call) → Fits c → (o : Outcome) → Effect s c o → rowAt (o .state) q .deadline < 2 ^ 32
-  unfolding unpinnedAt deliveredRow released
+  unfolding unpinnedAt released
   call-narrow c f o (unchanged a x e) = rw e (narrow q)
   call-narrow c f o (starts slots delay k x e) = rw e (fresh-narrow slots delay q)
   call-narrow c f o (begins level number deadline k t e) =
@@ -96,15 +116,13 @@ module _ (s : State) (z : Sound s) (narrow : Narrow s) (q : ℕ) (b : q < 32) wh
   call-narrow c f o (ends level number k n e) =
       let row = rowOf level number in
       rw (e, row-put (released (eqb row) s) (sized-released (eqb row) s (z .sized)) row freeRow q (n .row-is)) (either (eqb q row) freeRow (rowAt s q) (omega arith) (narrow q))
-  call-narrow c f o (ticks k x e) =
-      rw (e, ticked-row s (z .sized) q b) (either (isLate (later s) q) (killedRow Late) (deliveredRow (s .clock + 1) (rowAt s q)) (omega arith) (narrow q))
+  call-narrow c f o (ticks room k w x e) = rw e (tried-narrow (threeSteps s) (ticked-sound s z x) (ticked-borders s z y) (steps-narrow s z narrow) q)
   call-narrow c f o (sets b k t e) = rw e (narrow q)
-  call-narrow c f o (serves row page mode r a x e) = served-narrow row page mode r o (rw (← e) at (serving s row page mode))
+  call-narrow c f o (serves row page mode r a x e) = served-narrow s z narrow q b row page mode r o (rw (← e) at (serving s row page mode))
 
 pub stays-narrow : (s : State) (c : Call) → sound s ≡ true → Fits c → Narrow s → Narrow (outcome s c .state)
 stays-narrow s c z f narrow =
-    everywhere (λ x. x .deadline < 2 ^ 32) (outcome s c .state .rows) freeRow 32 (facts (outcome s c .state) (stays-sound s c z) .sized .rows) (omega arith)
-    (λ row b. call-narrow s (facts s z) narrow row b c f (outcome s c) (effect s c))
+    all-narrow (outcome s c .state) (facts (outcome s c .state) (stays-sound s c z) .sized) (λ row b. call-narrow s (facts s z) (borders-facts s z) narrow row b c f (outcome s c) (effect s c))
 
 -- ---- the other numbers
 

@@ -1,4 +1,4 @@
--- Begin, end, tick, look, view and count on two states alike for L, by a level up to L: the same answer, and alike states.
+-- Begin, end, the three steps of a tick, look, view and count on two states alike for L, by a level up to L: the same answer, and alike states.
 use mathlib.Core.Path.{_≡_, refl, sym, _∙_, ap}
 use mathlib.Core.Bool.{Bool, false}
 use Prim.Native.Nat.{ℕ, _+_, _<_, _≤_}
@@ -7,7 +7,7 @@ use lib.Dec.{eqb}
 use Rattle.seq.specs.Below.{countBelow}
 use Rattle.seq.specs.declared.Found.{Found}
 use Rattle.seq.specs.declared.Found.the-variants.{At, Nowhere}
-use Rattle.model.specs.declared.Answer.the-variants.{Begun, Ended, Clock}
+use Rattle.model.specs.declared.Answer.the-variants.{Begun, Ended}
 use Rattle.model.specs.declared.Cause.the-variants.{Late}
 use Rattle.model.specs.declared.Condition.the-variants.{Idle}
 use Rattle.model.specs.declared.Holding.{Holding}
@@ -21,8 +21,8 @@ use Rattle.model.proofs.StateLaws.{Sized, sized-begun}
 use Rattle.model.proofs.ChangeLaws.{sized-released}
 use Rattle.model.proofs.SeenLaws.{no-dormant, none-seen}
 use Rattle.rules.specs.Answers.{told}
-use Rattle.rules.specs.Calls.{begun, ended, deliveredRows, isLate, lateKilled, advanced, ticked, looked, lookedAt, viewedIn, viewed, counted}
-use Rattle.rules.specs.Refusals.{beginRefusal, endRefusal, tickRefusal, lookRefusal, viewRefusal, countRefusal}
+use Rattle.rules.specs.Calls.{begun, ended, deliveredRows, isLate, lateKilled, advanced, threeSteps, looked, lookedAt, viewedIn, viewed, counted}
+use Rattle.rules.specs.Refusals.{beginRefusal, endRefusal, lookRefusal, viewRefusal, countRefusal}
 use Rattle.rules.proofs.Facts.SoundFacts.{Sound}
 use Rattle.rules.proofs.Same.Alike.{holdingOn, Alike, Same}
 use Rattle.rules.proofs.Same.AlikeLaws.{alike-sym}
@@ -31,7 +31,7 @@ use Rattle.rules.proofs.Leaves.TickLaws.{later, sized-later, later-row}
 use Rattle.rules.proofs.Leaves.RefusalFacts.{begin-taken, end-taken, look-taken}
 use Rattle.rules.proofs.Same.SamePages.{same-seen, same-strongest, same-least, same-holding}
 use Rattle.rules.proofs.Same.SameChanges.{same-unless, same-put-row, same-killed, same-released}
-use Rattle.rules.proofs.Same.SameRefusals.{same-tick-refusal, own-row, same-begin-refusal, same-end-refusal}
+use Rattle.rules.proofs.Same.SameRefusals.{own-row, same-begin-refusal, same-end-refusal}
 
 -- a page that the other state has in no slot is held by no row up to L
 unseen : (L : ℕ) (s t : State) → Alike L s t → (page i : ℕ) → slotOf s page ≡ At i → slotOf t page ≡ Nowhere → (level : ℕ) → level ≤ L → seen s level i ≡ false
@@ -43,7 +43,7 @@ same-begun-mark : (L : ℕ) (s t : State) → Alike L s t → Alike L (withBegun
 unfolding holdingOn slotOf
 same-begun-mark L s t a = record { size = a .size; delay = a .delay; clock = a .clock; row = a .row; holding = a .holding }
 
--- ---- tick
+-- ---- the three steps of a tick
 
 same-delivered : (L : ℕ) (s t : State) → Sized s → Sized t → Alike L s t → Alike L (later s) (later t)
 unfolding deliveredRows advanced holdingOn slotOf
@@ -64,21 +64,14 @@ unfolding deliveredRows advanced
 delivered-most s h = h
 
 module _ (L : ℕ) (s t : State) (y : Sound s) (z : Sound t) (alike : Alike L s t) where
-  pub same-ticked : Same L (ticked s) (ticked t)
-  unfolding ticked lateKilled
-  same-ticked =
-      same-unless L s t (tickRefusal s) (tickRefusal t)
-      (record { state = lateKilled (later s); answer = Clock (s .clock + 1) })
-      (record { state = lateKilled (later t); answer = Clock (t .clock + 1) })
-      alike (same-tick-refusal L s t alike)
-      (λ e.
-      let d = same-delivered L s t (y .sized) (z .sized) alike in (
-        rw (alike .clock),
-        same-killed L (later s) (later t) (sized-later s (y .sized)) (sized-later t (z .sized)) d
-            (delivered-most s (y .size-most)) (delivered-most t (z .size-most))
-            (isLate (later s)) (isLate (later t))
-            (same-late L (later s) (later t) d) Late,
-      ))
+  pub same-steps : Alike L (threeSteps s) (threeSteps t)
+  unfolding lateKilled
+  same-steps =
+      let d = same-delivered L s t (y .sized) (z .sized) alike in
+      same-killed L (later s) (later t) (sized-later s (y .sized)) (sized-later t (z .sized)) d
+      (delivered-most s (y .size-most)) (delivered-most t (z .size-most))
+      (isLate (later s)) (isLate (later t))
+      (same-late L (later s) (later t) d) Late
 
   module _ (two : L ≤ 2) (level : ℕ) (low : level ≤ L) where
     pub same-begun : (number deadline : ℕ) → Same L (begun s level number deadline) (begun t level number deadline)

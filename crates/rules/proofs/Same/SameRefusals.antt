@@ -14,7 +14,7 @@ use Rattle.model.specs.declared.State.{State}
 use Rattle.model.specs.Parties.{rowOf}
 use Rattle.model.specs.State.{emptyHolding, rowAt, holdingAt}
 use Rattle.model.specs.Words.{isPin, pins, slotOf}
-use Rattle.rules.specs.Refusals.{conditionAt, pinsPage, beginRefusal, requestRefusal, retryRefusal, unpinRefusal, endRefusal, tickRefusal}
+use Rattle.rules.specs.Refusals.{conditionAt, pinsPage, beginRefusal, requestRefusal, unpinRefusal, endRefusal, tickRefusal}
 use Rattle.rules.proofs.Facts.SoundFacts.{BordersSound}
 use Rattle.rules.proofs.Same.Alike.{holdingOn, Alike}
 
@@ -27,9 +27,9 @@ pins-on s row page = go (slotOf s page)
     go (At i) = refl
 
 module _ (L : ℕ) (s t : State) (alike : Alike L s t) where
-  pub same-tick-refusal : tickRefusal s ≡ tickRefusal t
+  pub same-tick-refusal : (room : ℕ) → tickRefusal s room ≡ tickRefusal t room
   unfolding tickRefusal
-  same-tick-refusal = rw (alike .clock)
+  same-tick-refusal room = rw (alike .clock)
 
   module _ (two : L ≤ 2) (level number : ℕ) (low : level ≤ L) where
     pub own-row : number ≤ 7 → rowAt s (rowOf level number) ≡ rowAt t (rowOf level number)
@@ -61,10 +61,6 @@ module _ (L : ℕ) (s t : State) (alike : Alike L s t) where
         go h false e =
             let f : conditionAt s level number ≡ Free = o .free e (rowOf level number) (omega arith) in
             rw (f, sym (own-condition h) ∙ f)
-
-    pub same-retry-refusal : retryRefusal s level number ≡ retryRefusal t level number
-    unfolding retryRefusal
-    same-retry-refusal = by-row (λ x. retryRefusal x level number) (λ e. rw e) (λ h. rw (own-condition h))
 
     pub same-end-refusal : endRefusal s level number ≡ endRefusal t level number
     unfolding endRefusal

@@ -48,10 +48,10 @@ opened w = long-sound (w .before .before .before .before .before .before .before
 
 make-requires : tie.Need-make-requires
 make-requires c κs = let w = c .before in
-    let o = w .before .before .before .before .before .before .before .args in
+    let o = w .before .before .before .before .before .before .before in
     let h = opened w ∙ c .if2 .taken in
-    let f = fits-clock _ (sound-state (o .area .now) _ (w .before .decode .ensures .0) h) in
-    (not-start (o .c) (w .before .before .before .before .before .match .keys2), f .0, f .1)
+    let f = fits-clock _ (sound-state (o .args .area .now) _ (w .before .decode .ensures .0) h) in
+    (not-start (o .args .c) (w .before .before .before .before .before .match .keys2), o .pre, f .0, f .1)
 
 finish-requires : tie.Need-finish-requires
 finish-requires c κs = let w = c .before .before .before .before in

@@ -1,0 +1,109 @@
+-- Document 02, T-04, over lent areas: the bytes of the list that a call leaves, and what the entries of an accepted tick's list say.
+use mathlib.Core.Path.{_≡_, refl, sym, _∙_}
+use mathlib.Core.Bool.{Bool, true, false, cond}
+use mathlib.Core.List.{List, [], _++_}
+use Prim.Native.Nat.{ℕ, _-_, _<_, _≤_}
+use native.Mathlib.Omega.{arith}
+use borrow.Author.Tests.{eqb-true}
+use lib.ListN.{length, drop, replicate, length-append, length-replicate}
+use lib.Seq.{drop-at}
+use Rattle.seq.proofs.SortOrder.{Ranked}
+use Rattle.seq.proofs.Tests.{not-true-false}
+use Rattle.model.specs.declared.Answer.the-variants.{Clock}
+use Rattle.model.specs.declared.Call.{Call}
+use Rattle.model.specs.declared.Call.the-variants.{Tick}
+use Rattle.model.specs.declared.State.{State}
+use Rattle.model.specs.State.{rowAt}
+use Rattle.model.specs.Words.{outranks}
+use Rattle.rules.specs.Answers.{word, isClock}
+use Rattle.rules.specs.Listed.{isIdleOrFetching, Listed, WaitedFor, EachFill, HasRow, OnceEach}
+use Rattle.rules.specs.Refusals.{isWaiting}
+use Rattle.rules.specs.Calls.{threeSteps}
+use Rattle.rules.specs.Requests.{TriedOn}
+use Rattle.rules.specs.Run.{outcome, fillsOf}
+use Rattle.rules.specs.Tries.{Fill, waiters, allTried, entries, listBytes}
+use Rattle.rules.proofs.Leaves.TryLaws.{waiters-have, has-tried}
+use Rattle.rules.proofs.Promises.Filled.{ranked}
+use Rattle.rules.proofs.Promises.TickFills as States
+use Rattle.tries.proofs.EntryLaws.{entries-length}
+use Rattle.tries.proofs.TurnLaws.{tries-most, waiters-most}
+use Rattle.area.specs.Layout.{decoded}
+use Rattle.sabre.specs.Lent.{answerOn, isRefused, areaAfter, listAfter, soundArea}
+use Rattle.sabre.proofs.SoundAreas.{sound-area}
+use Rattle.demands.proofs.Areas.{accepted-sound}
+use Rattle.demands.proofs.Steps.{step-on}
+
+-- ---- the bytes
+
+-- a refused call leaves every byte of the list
+pub refused-list : (a : List ℕ) (c : Call) (list : List ℕ) → isRefused (answerOn a c) ≡ true → listAfter a c list ≡ list
+unfolding listAfter
+refused-list a c list e = rw (not-true-false (isClock (answerOn a c)) (λ k. let n = sym (eqb-true (word (answerOn a c)) 0 e) ∙ eqb-true (word (answerOn a c)) 8 k in absurd (omega arith)))
+
+-- 256 bytes are written
+list-long : (fs : List Fill) → length fs ≤ 32 → length (listBytes fs) ≡ 256
+unfolding listBytes
+list-long fs h =
+    let n = entries-length fs in
+    length-append (entries fs) (replicate (256 - length (entries fs)) 0) ∙ rw (length-replicate {A = ℕ} (256 - length (entries fs)) 0) (omega arith)
+
+-- a call fills at most 32 rows
+fills-most : (s : State) (c : Call) → length (fillsOf s c) ≤ 32
+unfolding fillsOf allTried
+fills-most s c = go (isClock (outcome s c .answer))
+  where
+    go : (b : Bool) → length (cond b (allTried (threeSteps s) .fills) []) ≤ 32
+    go true = let u = threeSteps s in omega (arith, tries-most (waiters u) u, waiters-most u)
+    go false = omega arith
+
+-- the bytes past 256 stay, whatever the call
+pub past-list : (a : List ℕ) (c : Call) (list : List ℕ) → drop 256 (listAfter a c list) ≡ drop 256 list
+unfolding listAfter
+past-list a c list = go (isClock (answerOn a c))
+  where
+    go : (b : Bool) → drop 256 (cond b (listBytes (fillsOf (decoded a) c) ++ drop 256 list) list) ≡ drop 256 list
+    go true = drop-at (listBytes (fillsOf (decoded a) c)) (drop 256 list) 256 (list-long (fillsOf (decoded a) c) (fills-most (decoded a) c))
+    go false = refl
+
+-- ---- the tries of a tick on any area, after its three steps
+
+-- each row that then waits is tried
+pub tried-all : (a : List ℕ) (row : ℕ) → row < 32 → isWaiting (rowAt (threeSteps (decoded a)) row .condition) ≡ true
+    → (u : State) × TriedOn (waiters (threeSteps (decoded a))) (threeSteps (decoded a)) u row
+tried-all a row b w = let s = threeSteps (decoded a) in has-tried (waiters s) s row (waiters-have s row b w)
+
+-- and a single time, best priority first: each row outranks every later one
+pub tried-in-order : (a : List ℕ) → Ranked (outranks (threeSteps (decoded a))) (waiters (threeSteps (decoded a)))
+tried-in-order a = ranked (threeSteps (decoded a))
+
+-- ---- the entries of an accepted tick
+
+module _ (a : List ℕ) (room clock : ℕ) (e : answerOn a (Tick room) ≡ Clock clock) where
+  z : soundArea a ≡ true
+  unfolding word
+  z = accepted-sound a (Tick room) refl (rw e)
+
+  accepted : outcome (decoded a) (Tick room) .answer ≡ Clock clock
+  accepted = sym (step-on a (Tick room) z (omega arith) .0) ∙ e
+
+  -- the first 256 bytes of the list are those of the entries, and zero after them
+  pub list-left : (list : List ℕ) → listAfter a (Tick room) list ≡ listBytes (fillsOf (decoded a) (Tick room)) ++ drop 256 list
+  unfolding listAfter word
+  list-left list = rw e
+
+  -- after the tick each entry's row is idle or fetching and pins the slot that the entry names, which has the entry's page
+  pub listed-holds : EachFill (Listed (decoded (areaAfter a (Tick room)))) (fillsOf (decoded a) (Tick room))
+  listed-holds = rw (step-on a (Tick room) z (omega arith) .1) (States.listed-holds (decoded a) (sound-area a z .sound-state) room clock accepted)
+
+  -- no row has two entries
+  pub listed-once : OnceEach (fillsOf (decoded a) (Tick room))
+  listed-once = States.listed-once (decoded a) (sound-area a z .sound-state) room clock accepted
+
+  -- each entry's row waited for the entry's page before the tick
+  pub listed-waited : EachFill (WaitedFor (decoded a)) (fillsOf (decoded a) (Tick room))
+  listed-waited = States.listed-waited (decoded a) (sound-area a z .sound-state) room clock accepted
+
+  -- every row that the tick took from waiting to idle or fetching has an entry
+  pub listed-all : (row : ℕ) → row < 32 → isWaiting (rowAt (decoded a) row .condition) ≡ true → isIdleOrFetching (rowAt (decoded (areaAfter a (Tick room))) row .condition) ≡ true
+      → HasRow row (fillsOf (decoded a) (Tick room))
+  listed-all row b w = rw (step-on a (Tick room) z (omega arith) .1) (States.listed-all (decoded a) (sound-area a z .sound-state) room clock accepted row b w)

@@ -1,0 +1,27 @@
+-- Properties of some and of each entry of a list of fills.
+use mathlib.Core.List.{List, [], _∷_, _++_}
+use mathlib.Core.Logic.{inl, inr}
+use Rattle.rules.specs.Listed.{EachFill, Some}
+use Rattle.rules.specs.Tries.{Fill}
+
+pub some-left : (P : Fill → Type 0) (xs ys : List Fill) → Some P xs → Some P (xs ++ ys)
+some-left P [] ys h = absurd h
+some-left P (x ∷ xs) ys (inl h) = inl h
+some-left P (x ∷ xs) ys (inr h) = inr (some-left P xs ys h)
+
+pub some-right : (P : Fill → Type 0) (xs ys : List Fill) → Some P ys → Some P (xs ++ ys)
+some-right P [] ys h = h
+some-right P (x ∷ xs) ys h = inr (some-right P xs ys h)
+
+pub each-some : (P Q : Fill → Type 0) (fs : List Fill) → EachFill P fs → Some Q fs → (f : Fill) × P f × Q f
+each-some P Q [] h k = absurd k
+each-some P Q (f ∷ fs) h (inl k) = (f, h .0, k)
+each-some P Q (f ∷ fs) h (inr k) = each-some P Q fs (h .1) k
+
+pub each-fill : (P Q : Fill → Type 0) → ((f : Fill) → P f → Q f) → (fs : List Fill) → EachFill P fs → EachFill Q fs
+each-fill P Q k [] h = tt
+each-fill P Q k (f ∷ fs) h = (k f (h .0), each-fill P Q k fs (h .1))
+
+pub both-fills : (P Q : Fill → Type 0) (fs : List Fill) → EachFill P fs → EachFill Q fs → EachFill (λ f. P f × Q f) fs
+both-fills P Q [] h k = tt
+both-fills P Q (f ∷ fs) h k = ((h .0, k .0), both-fills P Q fs (h .1) (k .1))

@@ -1,0 +1,183 @@
+-- Document 02, T-04, the list of what the tries of a tick filled: its entries hold when the tries are done, it has each row that was made ready or fetching, and no row twice.
+use mathlib.Core.Path.{_≡_, refl, sym, _∙_, ap}
+use mathlib.Core.Bool.{true}
+use mathlib.Core.List.{List, [], _∷_, _++_}
+use mathlib.Core.Logic.{_⊎_, inl, inr}
+use Prim.Native.Nat.{ℕ, _<_}
+use native.Mathlib.Omega.{arith}
+use native.Mathlib.Decide.{ℕ-discrete}
+use Rattle.seq.proofs.Tests.{true-false}
+use Rattle.seq.proofs.SortLaws.{Each}
+use Rattle.seq.proofs.SortOrder.{Ranked, sorted-ranked}
+use Rattle.model.specs.declared.Condition.the-variants.{Waiting}
+use Rattle.model.specs.declared.Mode.{Mode}
+use Rattle.model.specs.declared.Outcome.{Outcome}
+use Rattle.model.specs.declared.Row.{Row}
+use Rattle.model.specs.declared.State.{State}
+use Rattle.model.specs.declared.Holding.{Holding}
+use Rattle.model.specs.State.{rowAt, holdingAt}
+use Rattle.model.specs.Words.{isHeld, isPin, outranks}
+use Rattle.model.proofs.PinLaws.{pin-held}
+use Rattle.model.proofs.PriorityLaws.{outranks-trans, outranks-total}
+use Rattle.rules.specs.Calls.{served}
+use Rattle.rules.specs.Listed.{isIdleOrFetching, Listed, WaitedFor, EachFill, HasRow, OnceEach}
+use Rattle.rules.specs.Refusals.{isWaiting}
+use Rattle.rules.specs.Sound.{sound}
+use Rattle.rules.specs.Tries.{Fill, Tried, filledBy, tries, waiters, allTried}
+use Rattle.rules.proofs.Leaves.TryLaws.{by-tries, waiters-rows}
+use Rattle.rules.proofs.Promises.BetterSafe.{LeftAlone, better-safe}
+use Rattle.rules.proofs.Promises.FillLists.{some-right, each-some, each-fill}
+use Rattle.rules.proofs.Promises.ServedRows.{SameOrTaken, Own, own-waits, own-ready, own-fetch, served-others, served-deadline, served-own}
+use Rattle.rules.proofs.Promises.TriedRows.{waits-unmade, still-waits}
+use Rattle.rules.proofs.Stays.StaysTries.{stored-sound}
+
+-- what a served row fills: nothing where it waits, or an entry that holds
+pub by-filled : (P : List Fill → Type 0) (row page : ℕ) (mode : Mode) (o : Outcome) → Own row page mode o
+    → (rowAt (o .state) row .condition ≡ Waiting page mode → P []) → ((f : Fill) → f .row ≡ row → f .page ≡ page → Listed (o .state) f → P (f ∷ [])) → P (filledBy row page (o .answer))
+by-filled P row page mode o (own-waits a c) none one = rw a (none c)
+by-filled P row page mode o (own-ready slot back a c l) none one = rw a (one (record { row = row; slot = slot; page = page; back = back }) refl refl l)
+by-filled P row page mode o (own-fetch due slot back a c l) none one = rw a (one (record { row = row; slot = slot; page = page; back = back }) refl refl l)
+
+-- ---- which rows have entries
+
+abbrev AreRows : List ℕ → Type 0
+AreRows = Each (λ row. row < 32)
+
+abbrev Waited : State → Fill → Type 0
+Waited s f = (f .row < 32) × WaitedFor s f
+
+-- the entries are of rows that waited, and no row has two: one that has an entry waits no longer
+waited-once : (rows : List ℕ) (s : State) → AreRows rows → sound s ≡ true → EachFill (Waited s) (tries rows s .fills) × OnceEach (tries rows s .fills)
+waited-once = by-tries (λ rows s y. AreRows rows → sound s ≡ true → EachFill (Waited s) (y .fills) × OnceEach (y .fills))
+    (λ s h z. (tt, tt))
+    (λ row rows s y w more h z. more (h .1) z)
+    (λ row rows s page mode y w more h z.
+    let k = more (h .1) (stored-sound s z row (h .0) page mode w) in
+    go row s page mode (h .0) z w (y .fills) (k .0) (k .1))
+  where
+    go : (row : ℕ) (s : State) (page : ℕ) (mode : Mode) → row < 32 → sound s ≡ true → rowAt s row .condition ≡ Waiting page mode → (fs : List Fill) → EachFill (Waited (served s row page mode .state)) fs → OnceEach fs
+        → EachFill (Waited s) (filledBy row page (served s row page mode .answer) ++ fs) × OnceEach (filledBy row page (served s row page mode .answer) ++ fs)
+    go row s page mode b z w fs waited once =
+        by-filled (λ xs. EachFill (Waited s) (xs ++ fs) × OnceEach (xs ++ fs)) row page mode (served s row page mode) (served-own s z row b page mode)
+        (λ c. (old, once))
+        (λ f r p l. (((rw r b, (mode, rw (r, p) w)), old), (new f l, once)))
+      where
+        t : State
+        t = served s row page mode .state
+
+        old : EachFill (Waited s) fs
+        old = each-fill (Waited t) (Waited s) (λ f k. (k .0, (k .1 .0, ap (λ (x : Row). x .condition) (sym (still-waits s z row b page mode w (f .row) (k .0) (rw (k .1 .1)))) ∙ k .1 .1))) fs waited
+
+        new : (f : Fill) → Listed t f → HasRow (f .row) fs → ⊥
+        new f l m =
+            let k = each-some (Waited t) (λ g. g .row ≡ f .row) fs waited m in
+            waits-unmade (rowAt t (f .row) .condition) (ap (λ (r : ℕ). isWaiting (rowAt t r .condition)) (sym (k .2)) ∙ rw (k .1 .1 .1)) (l .condition-is)
+
+-- a row that is idle or fetching afterwards has an entry, or was so before
+made-listed : (rows : List ℕ) (s : State) → AreRows rows → sound s ≡ true → (q : ℕ) → q < 32 → isIdleOrFetching (rowAt (tries rows s .state) q .condition) ≡ true
+    → HasRow q (tries rows s .fills) ⊎ (isIdleOrFetching (rowAt s q .condition) ≡ true)
+made-listed = by-tries (λ rows s y. AreRows rows → sound s ≡ true → (q : ℕ) → q < 32 → isIdleOrFetching (rowAt (y .state) q .condition) ≡ true → HasRow q (y .fills) ⊎ (isIdleOrFetching (rowAt s q .condition) ≡ true))
+    (λ s h z q m e. inr e)
+    (λ row rows s y w more h z. more (h .1) z)
+    (λ row rows s page mode y w more h z q m e. go row s page mode (h .0) z (y .fills) q m (more (h .1) (stored-sound s z row (h .0) page mode w) q m e))
+  where
+    go : (row : ℕ) (s : State) (page : ℕ) (mode : Mode) → row < 32 → sound s ≡ true → (fs : List Fill) (q : ℕ) → q < 32 → HasRow q fs ⊎ (isIdleOrFetching (rowAt (served s row page mode .state) q .condition) ≡ true)
+        → HasRow q (filledBy row page (served s row page mode .answer) ++ fs) ⊎ (isIdleOrFetching (rowAt s q .condition) ≡ true)
+    go row s page mode b z fs q m (inl k) = inl (some-right (λ f. f .row ≡ q) (filledBy row page (served s row page mode .answer)) fs k)
+    go row s page mode b z fs q m (inr i) = elim (ℕ-discrete q row) [
+      | yes e ↦ inl (by-filled (λ xs. HasRow q (xs ++ fs)) row page mode (served s row page mode) (served-own s z row b page mode)
+          (λ c. true-false (sym (rw (e, c) at i)))
+          (λ f r p l. inl (r ∙ sym e)))
+      | no n ↦ inr (other (rowAt s q) (rowAt (served s row page mode .state) q) (served-others s z row b page mode q m n) i)
+    ]
+      where
+        other : (x y : Row) → SameOrTaken x y → isIdleOrFetching (y .condition) ≡ true → isIdleOrFetching (x .condition) ≡ true
+        other x y (inl e) i = rw e at i
+        other x y (inr e) i = true-false (sym (rw e at i))
+
+-- ---- no later try takes back what an entry says
+
+left-trans : (s t u : State) (row : ℕ) → LeftAlone s t row → LeftAlone t u row → LeftAlone s u row
+left-trans s t u row x y = record {
+  row-same = y .row-same ∙ x .row-same;
+  holding-same = λ i b. y .holding-same i b ∙ x .holding-same i b;
+  page-same = λ i b h p. y .page-same i b (ap (λ (k : Holding). isHeld (k .pin)) (x .holding-same i b) ∙ h) p ∙ x .page-same i b h p;
+}
+
+still-listed : (s t : State) (f : Fill) → LeftAlone s t (f .row) → Listed s f → Listed t f
+still-listed s t f x l = record {
+  row-is = l .row-is;
+  condition-is = ap (λ (k : Row). isIdleOrFetching (k .condition)) (x .row-same) ∙ l .condition-is;
+  slot-is = l .slot-is;
+  pins-it = ap (λ (k : Holding). isPin (k .pin)) (x .holding-same (f .slot) (l .slot-is)) ∙ l .pins-it;
+  has-it = x .page-same (f .slot) (l .slot-is) (pin-held (holdingAt s (f .slot) (f .row) .pin) (l .pins-it)) (f .page) ∙ l .has-it;
+}
+
+rank-same : (s u : State) (h q : ℕ) → rowAt s h .deadline ≡ rowAt u h .deadline → rowAt s q .deadline ≡ rowAt u q .deadline → outranks s h q ≡ outranks u h q
+unfolding outranks
+rank-same s u h q d e = rw (d, e)
+
+-- tries of rows in the order of u, on a state in which the rows that wait are as in u
+module _ (u : State) where
+  abbrev Old : State → Type 0
+  Old s = (q : ℕ) → q < 32 → isWaiting (rowAt s q .condition) ≡ true → rowAt s q ≡ rowAt u q
+
+  -- a row that outranks each of the rows
+  abbrev Ahead : List ℕ → State → Tried → Type 0
+  Ahead rows s y = (h : ℕ) → h < 32 → rowAt s h .deadline ≡ rowAt u h .deadline → Each (λ q. outranks u h q ≡ true) rows → LeftAlone s (y .state) h
+
+  served-old : (s : State) → sound s ≡ true → (row : ℕ) → row < 32 → (page : ℕ) (mode : Mode) → rowAt s row .condition ≡ Waiting page mode → Old s → Old (served s row page mode .state)
+  served-old s z row b page mode w old q m k =
+      let e = still-waits s z row b page mode w q m k in
+      e ∙ old q m (ap (λ (x : Row). isWaiting (x .condition)) (sym e) ∙ k)
+
+  ranked-hold : (rows : List ℕ) (s : State) → AreRows rows → sound s ≡ true → Old s → Ahead rows s (tries rows s) × (Ranked (outranks u) rows → EachFill (Listed (tries rows s .state)) (tries rows s .fills))
+  ranked-hold = by-tries (λ rows s y. AreRows rows → sound s ≡ true → Old s → Ahead rows s y × (Ranked (outranks u) rows → EachFill (Listed (y .state)) (y .fills)))
+      (λ s b z old. ((λ h m d a. record { row-same = refl; holding-same = λ i k. refl; page-same = λ i k q p. refl }), (λ r. tt)))
+      (λ row rows s y w more b z old.
+      let k = more (b .1) z old in
+      ((λ h m d a. k .0 h m d (a .1)), (λ r. k .1 (r .1))))
+      (λ row rows s page mode y w more b z old.
+      let t : State = served s row page mode .state in
+      let k = more (b .1) (stored-sound s z row (b .0) page mode w) (served-old s z row (b .0) page mode w old) in
+      let own : rowAt s row .deadline ≡ rowAt u row .deadline = ap (λ (x : Row). x .deadline) (old row (b .0) (rw w)) in (
+        (λ h m d a.
+            let x = better-safe s z row (b .0) page mode h m (rank-same s u h row d own ∙ a .0) in
+            left-trans s t (y .state) h x (k .0 h m (ap (λ (c : Row). c .deadline) (x .row-same) ∙ d) (a .1))),
+        (λ r.
+            by-filled (λ xs. EachFill (Listed (y .state)) (xs ++ y .fills)) row page mode (served s row page mode) (served-own s z row (b .0) page mode)
+            (λ c. k .1 (r .1))
+            (λ f e p l. (still-listed t (y .state) f (rw e (k .0 row (b .0) (served-deadline s z row (b .0) page mode ∙ own) (r .0))) l, k .1 (r .1)))),
+      ))
+
+-- ---- of a sound state
+
+-- the waiting rows stand in the order of their priority
+pub ranked : (u : State) → Ranked (outranks u) (waiters u)
+unfolding waiters
+ranked u = sorted-ranked (λ r. isWaiting (rowAt u r .condition)) (outranks u) 32 (outranks-trans u) (λ i j a b p q. outranks-total u i j) 32 (omega arith)
+
+module _ (u : State) (z : sound u ≡ true) where
+  -- each entry holds when all are tried
+  pub fills-hold : EachFill (Listed (allTried u .state)) (allTried u .fills)
+  unfolding allTried
+  fills-hold = ranked-hold u (waiters u) u (waiters-rows u) z (λ q m k. refl) .1 (ranked u)
+
+  -- the row of each entry waited for its page
+  pub fills-waited : EachFill (WaitedFor u) (allTried u .fills)
+  unfolding allTried
+  fills-waited = each-fill (Waited u) (WaitedFor u) (λ f k. k .1) (allTried u .fills) (waited-once (waiters u) u (waiters-rows u) z .0)
+
+  -- no row has two entries
+  pub fills-once : OnceEach (allTried u .fills)
+  unfolding allTried
+  fills-once = waited-once (waiters u) u (waiters-rows u) z .1
+
+  -- each row that waited and is idle or fetching has an entry
+  pub fills-all : (q : ℕ) → q < 32 → isWaiting (rowAt u q .condition) ≡ true → isIdleOrFetching (rowAt (allTried u .state) q .condition) ≡ true → HasRow q (allTried u .fills)
+  unfolding allTried
+  fills-all q m w e = go (made-listed (waiters u) u (waiters-rows u) z q m e)
+    where
+      go : HasRow q (allTried u .fills) ⊎ (isIdleOrFetching (rowAt u q .condition) ≡ true) → HasRow q (allTried u .fills)
+      go (inl h) = h
+      go (inr i) = waits-unmade (rowAt u q .condition) w i

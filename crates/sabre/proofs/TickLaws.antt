@@ -1,0 +1,110 @@
+-- A tick on a lent area: what its steps change, and then the tries, of which there are none where no row waits.
+use mathlib.Core.Path.{_≡_, refl, _∙_, ap}
+use mathlib.Core.Bool.{true, false, cond}
+use mathlib.Core.List.{List, [], _++_}
+use Prim.Native.Nat.{ℕ, zero, suc, _+_, _≤_}
+use native.Mathlib.Omega.{arith}
+use lib.ListN.{take, drop}
+use Rattle.seq.proofs.Tests.{true-false}
+use Rattle.words.specs.Bytes.{zeroWords, spliced}
+use Rattle.words.proofs.WroteLaws.{wrote-none}
+use Rattle.model.specs.declared.Answer.the-variants.{Clock}
+use Rattle.model.specs.declared.Call.{Call}
+use Rattle.model.specs.declared.Call.the-variants.{Tick}
+use Rattle.model.specs.declared.Change.{Change}
+use Rattle.model.specs.declared.Outcome.{Outcome}
+use Rattle.model.specs.declared.Reply.{Reply}
+use Rattle.model.specs.declared.State.{State}
+use Rattle.model.specs.Inner.Changed.{changed, outcomeOf}
+use Rattle.rules.specs.Answers.{word, slotTold}
+use Rattle.rules.specs.Calls.{unless, threeSteps}
+use Rattle.rules.specs.Refusals.{tickRefusal}
+use Rattle.rules.specs.Run.{outcome, fillsOf}
+use Rattle.rules.specs.Sound.{sound}
+use Rattle.rules.specs.Tries.{entries, listBytes, tries, waiters, allTried, ticked}
+use Rattle.rules.proofs.Leaves.RefusalFacts.{tick-taken}
+use Rattle.rules.proofs.Stays.StaysSound.{steps-sound}
+use Rattle.tries.specs.Inner.Queued.{waitersIn}
+use Rattle.tries.proofs.QueueLaws.{waiters-in}
+use Rattle.tries.proofs.EntryLaws.{list-done}
+use Rattle.tries.proofs.TurnLaws.{empty-queue}
+use Rattle.area.specs.Layout.{encoded, decoded}
+use Rattle.sabre.specs.Lent.{isRefused, answerOn, listAfter, status, answerNumbers, unfit}
+use Rattle.sabre.proofs.CallLaws.{Promise, finished}
+
+-- an area that is unfit: the list stays
+pub unfit-list : (a : List ℕ) (c : Call) (l : List ℕ) → unfit a c ≡ true → l ≡ listAfter a c l
+unfolding listAfter answerOn word
+unfit-list a c l u = rw u
+
+-- ---- the tries
+
+-- the waiting rows after a change are those of its rows
+pub changed-waiters : (s : State) (c : Change) → waitersIn (c .rows) ≡ waiters (changed s c)
+unfolding changed
+changed-waiters s c = waiters-in (changed s c)
+
+module _ (s : State) (c : Change) (a b l m : List ℕ) (e : s ≡ decoded a) where
+  abbrev pub Filled : Type 0
+  Filled = (b ≡ encoded (allTried (changed s c) .state) ++ drop 65536 a) × (m ≡ listBytes (allTried (changed s c) .fills) ++ drop 256 l)
+
+  -- no row waits: the change alone
+  pub filled-none : (n : ℕ) (rows : List ℕ) → take n rows ≡ waitersIn (c .rows) → n ≡ 0 → b ≡ encoded (changed (decoded a) c) ++ drop 65536 a → m ≡ spliced l 0 (zeroWords 32) → Filled
+  unfolding entries
+  filled-none n rows w z p q =
+      rw (empty-queue (changed s c) rows n (w ∙ changed-waiters s c) z) (rw e p, list-done l m m [] 0 q (wrote-none m 0) (omega arith))
+
+  pub filled-all : (u t : State) → u ≡ changed s c → t ≡ allTried u .state → b ≡ encoded t ++ drop 65536 a → m ≡ listBytes (allTried u .fills) ++ drop 256 l → Filled
+  filled-all u t f g p q = (rw (← f, ← g) p, rw (← f) q)
+
+-- ---- a tick
+
+module _ (s : State) (z : sound s ≡ true) (room : ℕ) (x : Reply)
+    (e : outcomeOf s x ≡ unless (tickRefusal s room) s (record { state = threeSteps s; answer = Clock (s .clock + 1) })) where
+  answer-is : x .answer ≡ unless (tickRefusal s room) s (record { state = threeSteps s; answer = Clock (s .clock + 1) }) .answer
+  unfolding outcomeOf
+  answer-is = ap (λ (o : Outcome). o .answer) e
+
+  state-is : changed s (x .change) ≡ unless (tickRefusal s room) s (record { state = threeSteps s; answer = Clock (s .clock + 1) }) .state
+  unfolding outcomeOf
+  state-is = ap (λ (o : Outcome). o .state) e
+
+  pub tick-slot : slotTold (x .answer) ≤ 64
+  unfolding slotTold
+  tick-slot = rw answer-is (go (tickRefusal s room))
+    where
+      go : (n : ℕ) → slotTold (unless n s (record { state = threeSteps s; answer = Clock (s .clock + 1) }) .answer) ≤ 64
+      go zero = omega arith
+      go (suc n) = omega arith
+
+  -- an accepted tick is lent enough, and its steps leave a sound state
+  pub tick-fits : (m : ℕ) → room ≤ m → isRefused (x .answer) ≡ false → (sound (changed s (x .change)) ≡ true) × (256 ≤ m)
+  unfolding word
+  tick-fits m h r = go (tickRefusal s room) refl answer-is state-is
+    where
+      go : (n : ℕ) → tickRefusal s room ≡ n → x .answer ≡ unless n s (record { state = threeSteps s; answer = Clock (s .clock + 1) }) .answer
+          → changed s (x .change) ≡ unless n s (record { state = threeSteps s; answer = Clock (s .clock + 1) }) .state → (sound (changed s (x .change)) ≡ true) × (256 ≤ m)
+      go zero k p q = let t = tick-taken s room k in (rw q (steps-sound s z (t .early)), omega (arith, t .roomy))
+      go (suc n) k p q = true-false (rw p at r)
+
+  -- what is promised of a tick
+  pub tick-done : (a l : List ℕ) → s ≡ decoded a → unfit a (Tick room) ≡ false → (r : ℕ) (ns b m : List ℕ) → r ≡ status (x .answer) → ns ≡ answerNumbers (x .answer)
+      → b ≡ cond (isRefused (x .answer)) a (encoded (allTried (changed s (x .change)) .state) ++ drop 65536 a)
+      → m ≡ cond (isRefused (x .answer)) l (listBytes (allTried (changed s (x .change)) .fills) ++ drop 256 l)
+      → Promise a (Tick room) r ns b × (m ≡ listAfter a (Tick room) l)
+  unfolding outcome ticked answerOn listAfter fillsOf word
+  tick-done a l f u r ns b m p q t v = go (tickRefusal s room) refl answer-is state-is
+    where
+      after : ℕ → Outcome
+      after n = unless n s (record { state = allTried (threeSteps s) .state; answer = Clock (s .clock + 1) })
+
+      go : (n : ℕ) → tickRefusal s room ≡ n → x .answer ≡ unless n s (record { state = threeSteps s; answer = Clock (s .clock + 1) }) .answer
+          → changed s (x .change) ≡ unless n s (record { state = threeSteps s; answer = Clock (s .clock + 1) }) .state → Promise a (Tick room) r ns b × (m ≡ listAfter a (Tick room) l)
+      go zero k y w = (
+        finished a (Tick room) (after 0) r ns b u (rw (← f, k)) (rw y at p) (rw y at q) (rw (y, w) at t),
+        rw (u, ← f, k) (rw (y, w) at v),
+      )
+      go (suc n) k y w = (
+        finished a (Tick room) (after (suc n)) r ns b u (rw (← f, k)) (rw y at p) (rw y at q) (rw y at t),
+        rw (u, ← f, k) (rw y at v),
+      )
