@@ -197,6 +197,19 @@ uint32_t sabre_end(uint8_t *area, size_t len, uint32_t level, uint32_t row, uint
  * Answers clock, the value is the new clock; answer[2] and answer[3] are 0. Refusals 1, 21, 17,
  * in this order.
  *
+ * What a waiting row means. After an accepted tick a row waits for its page only if
+ *   - a better row that it sees pins the page in conflict: another row of its level or of a lower
+ *     one, and before it in priority, writes the page, or reads it where the waiting row wants to
+ *     write; or
+ *   - a view of the page at its level answers unseen, and every slot is held by a row of lower
+ *     level or by a better row of its own level, or is pinned by the row itself.
+ * So it waits for rows of lower levels, for better rows of its own level and for its own pins, and
+ * never for a higher level or a worse row. An unpin may end the first. For the second a slot must
+ * lose a holder or get the page, and an unpin does neither. A row that waits for an unseen page and
+ * pins every slot itself waits until it is ended or killed, since a waiting row cannot unpin. The
+ * best live row of all, if it waits, is idle or fetching after one tick, unless that tick makes it
+ * late or it pins every slot itself.
+ *
  * For the server, on each entry, in turn: the same as on ready and fetch of a request. The entry's
  * page is, or is to be, in its slot. If the flag is 2, first write the page to write back from that
  * slot to disk. Then, if another page or none was in that slot, read the page into it; a page that

@@ -1160,6 +1160,7 @@ pub fn play_cases(manager: &Manager) -> Result<(), String> {
 #[cfg(test)]
 mod tests {
     use super::*;
+    use crate::waits;
 
     /// The model alone, on states, against the lines of the documents.
     fn play_model(name: &str) {
@@ -1172,6 +1173,11 @@ mod tests {
             let said = as_said(&outcome, line);
             assert!(said.is_ok(), "{name}, step {}: {said:?}", number + 1);
             assert!(state.broken().is_empty(), "{name}, step {}", number + 1);
+            if outcome.status == 0 && matches!(call, Call::Tick { .. }) {
+                let judged =
+                    waits::judge(&before, outcome.answer[1], &state, &mut Tally::default());
+                assert_eq!(judged, Ok(()), "{name}, step {}", number + 1);
+            }
             assert_eq!(model::read(&state.bytes()), Ok(state.clone()));
             if outcome.status != 0 {
                 assert!(state == before, "{name}, step {}: a refused call changed the state", number + 1);

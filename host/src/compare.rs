@@ -2,15 +2,17 @@
 
 use crate::calls::*;
 use crate::lent::{difference, Lent};
-use crate::model::{self, list_after, State, Tally, EVENTS};
+use crate::model::{self, list_after, Condition, Row, State, Tally, EVENTS};
 use crate::random::Random;
 use crate::scenario::{wild, Scenario, KIND_TICK};
+use crate::waits;
 
 pub const CALLS: u64 = 1_000_000;
 
 const LEVELS: &[u64] = &[0, 1, 2, 3];
 
-/// One call on both sides. The area holds the model's bytes before it, and must after it.
+/// One call on both sides. The area holds the model's bytes before it, and must after it; so what is
+/// judged of an accepted tick is judged of both.
 fn step(
     manager: &Manager,
     lent: &mut Lent,
@@ -19,6 +21,7 @@ fn step(
     call: &Call,
     tally: &mut Tally,
 ) -> Result<Outcome, String> {
+    let before = matches!(call, Call::Tick { .. }).then(|| state.clone());
     let expected = state.call(call, tally);
     let changed = expected.status == 0
         && !matches!(call, Call::Look { .. } | Call::View { .. } | Call::Count { .. });
@@ -26,6 +29,10 @@ fn step(
         *bytes = state.bytes();
     }
     check(manager, lent, bytes, call, &expected)?;
+    match before {
+        Some(before) if changed => waits::judge(&before, expected.answer[1], state, tally)?,
+        _ => {}
+    }
     Ok(expected)
 }
 
@@ -52,6 +59,14 @@ pub fn check(
         return Err(format!("{call:?}, {}: in the list {text}", expected.lines().join("; ")));
     }
     lent.guards().map_err(|text| format!("{call:?}: {text}"))
+}
+
+/// Ends the best live row, if it does not wait and another does. So the best one waits more often.
+fn best_ends(state: &State) -> Option<Call> {
+    let waits = |row: &Row| matches!(row.condition, Condition::Waiting { .. });
+    let best = waits::best_live(state)?;
+    let others = !waits(&state.rows[&best]) && state.rows.values().any(waits);
+    others.then_some(Call::End { level: best.0 as u32, row: best.1 as u32 })
 }
 
 /// A call on a short area or on a damaged one, which must be refused with 1 and alter nothing.
@@ -132,12 +147,15 @@ fn run(
         step(manager, &mut lent, &mut bytes, &mut state, &call, tally)
             .map_err(|text| at_call(made, text))?;
     }
+    // In some runs the best live row ends now and then.
+    let clears = random.percent(25);
     for _ in 0..scenario.length.min(most) {
         made += 1;
         let done = if random.one_in(120) {
             refused_area(manager, random, &scenario, &bytes, &state, tally)
         } else {
-            let call = scenario.call(random, &state, LEVELS);
+            let ends = if clears && random.one_in(8) { best_ends(&state) } else { None };
+            let call = ends.unwrap_or_else(|| scenario.call(random, &state, LEVELS));
             step(manager, &mut lent, &mut bytes, &mut state, &call, tally).map(|_| ())
         };
         done.map_err(|text| at_call(made, text))?;
@@ -187,6 +205,9 @@ pub fn compare(manager: &Manager, calls: u64, seed: u64) -> Result<(), String> {
     let events: Vec<(String, u64)> =
         EVENTS.iter().map(|event| (event.to_string(), tally.of(event))).collect();
     list("steps", &events);
+    let cases: Vec<(String, u64)> =
+        waits::CASES.iter().map(|case| (case.to_string(), tally.of(case))).collect();
+    list("T-05: rows that wait after a tick, and the best live row that waited before it", &cases);
     if missing.is_empty() {
         Ok(())
     } else {

@@ -10,6 +10,7 @@ use crate::model::{
 };
 use crate::random::Random;
 use crate::scenario::{made_up, wild, Scenario, KIND_BORDERS, KIND_TICK};
+use crate::waits;
 use std::collections::BTreeMap;
 
 pub const AREAS: u64 = 120_000;
@@ -329,6 +330,9 @@ fn call_on(
                 if let Err(broken) = model::read(&bytes) {
                     return Err(format!("{call:?}: the model leaves an unsound area: {broken:?}"));
                 }
+                if let Call::Tick { .. } = call {
+                    waits::judge(sound, expected.answer[1], &next, tally)?;
+                }
             }
             expected
         }
@@ -420,6 +424,8 @@ pub fn damage_areas(manager: &Manager, areas: u64, seed: u64) -> Result<(), Stri
         "  ticks: {} refused by 1 with a short list and {} with a long one, {} refused by 21, {} filled something",
         found.ticks[0], found.ticks[1], found.short, found.filled
     );
+    let (waiting, best) = waits::judged(&tally);
+    println!("  T-05 holds of {waiting} rows that wait after a tick and of {best} that waited as the best");
     println!("  how often each clause of soundness was the only one named as broken");
     let mut missing = Vec::new();
     for clause in CLAUSES {
@@ -437,6 +443,9 @@ pub fn damage_areas(manager: &Manager, areas: u64, seed: u64) -> Result<(), Stri
     }
     if found.ticks.contains(&0) || found.short == 0 || found.filled == 0 {
         return Err(format!("damage: seed {seed}: a sort of tick never occurred"));
+    }
+    if waiting == 0 || best == 0 {
+        return Err(format!("damage: seed {seed}: nothing was judged by T-05"));
     }
     Ok(())
 }

@@ -26,7 +26,7 @@ use Rattle.rules.specs.Content.{fields, namesRow, Fits}
 use Rattle.rules.specs.Requests.{Asks, Names, Serves}
 use Rattle.rules.specs.Sound.{sound}
 use Rattle.rules.specs.Arrivals.{AllArrived, PinnedAndArrived}
-use Rattle.rules.specs.Waits.{Outranked, NoSlot}
+use Rattle.rules.specs.Waits.{WaitReason}
 use Rattle.rules.proofs.Promises.WaitFetch as Waits
 use Rattle.rules.proofs.Promises.Arrived as States
 use Rattle.rules.proofs.Promises.MayUse as Uses
@@ -102,17 +102,17 @@ delivery-arrived a c f level number e =
 
 -- ---- wait and fetch
 
--- On any area: wait comes only to a request, and only by steps 1 and g.
+-- On any area: wait comes only to a request, and only by steps 1 and g, for the reasons of T-05.
 pub wait-only : (a : List ℕ) (c : Call) → answerOn a c ≡ Wait
-    → (row : ℕ) × (page : ℕ) × (mode : Mode) × Asks c row page mode × (Outranked (decoded a) row page mode ⊎ NoSlot (decoded a) row page)
+    → (row : ℕ) × (page : ℕ) × (mode : Mode) × Asks c row page mode × WaitReason (decoded a) row page mode
 unfolding word
 wait-only a c e =
     let z = other-sound a c Wait e refl (λ k. true-false (cc)) in
     Waits.wait-only (decoded a) (sound-area a z .sound-state) c (sym (sound-answer a c z) ∙ e)
 
--- In the course of a call on a sound area, by a request and by the tries of a tick: each request that is served is served on a sound state, and waits there only by steps 1 and g.
+-- In the course of a call on a sound area, by a request and by the tries of a tick: each request that is served is served on a sound state, and waits there exactly for these reasons.
 pub course-waits : (a : List ℕ) → soundArea a ≡ true → (c : Call) (u : State) (row page : ℕ) (mode : Mode) → Serves (decoded a) c u row page mode
-    → (sound u ≡ true) × (served u row page mode .answer ≡ Wait → Outranked u row page mode ⊎ NoSlot u row page)
+    → (sound u ≡ true) × (served u row page mode .answer ≡ Wait → WaitReason u row page mode) × (WaitReason u row page mode → served u row page mode .answer ≡ Wait)
 course-waits a z = Waits.course-waits (decoded a) (sound-area a z .sound-state)
 
 -- On any area: a fetch is due after the clock, and the row is fetching until then.

@@ -1,6 +1,6 @@
 -- Deadlines over lent areas. A deadline is an unsigned 32-bit number: no sentence of sound says so, but the bytes of a sound area are exactly those of the state that it names.
 -- Document 02, T-01: a tick makes a live row late exactly when the clock is above its deadline.
-use mathlib.Core.Path.{_≡_, refl, sym, _∙_, ap}
+use mathlib.Core.Path.{_≡_, sym, _∙_, ap}
 use mathlib.Core.Bool.{true}
 use mathlib.Core.List.{List, [], _++_, append-assoc}
 use mathlib.Core.Logic.{_⊎_, inl, inr}
@@ -31,8 +31,8 @@ use Rattle.area.proofs.Pieces.{rowsBytes, slotsBytes, holdingsBytes, zeros-long
 use Rattle.demands.specs.SlotWords.{deadlineWord}
 use Rattle.sabre.specs.Lent.{answerOn, areaAfter, soundArea}
 use Rattle.sabre.proofs.SoundAreas.{sound-area, sound-area-bytes}
-use Rattle.demands.proofs.Areas.{accepted-sound, look-answer, look-named, looked-fetching}
-use Rattle.demands.proofs.Steps.{step-on}
+use Rattle.demands.proofs.Areas.{look-answer, look-named, looked-fetching}
+use Rattle.demands.proofs.Steps.{tick-on}
 
 -- the third of six regions and what stands behind it
 third : (x₀ x₁ x₂ x₃ x₄ x₅ r : List ℕ) → (x₀ ++ (x₁ ++ (x₂ ++ (x₃ ++ (x₄ ++ x₅))))) ++ r ≡ (x₀ ++ x₁) ++ (x₂ ++ (x₃ ++ (x₄ ++ (x₅ ++ r))))
@@ -68,11 +68,11 @@ pub late-exactly : (a : List ℕ) (room clock : ℕ) → answerOn a (Tick room) 
     → isToldLate (answerOn (areaAfter a (Tick room)) (Look level number)) ≡ ltb (deadlineWord a (rowOf level number)) clock
 unfolding word
 late-exactly a room clock e level number l n live =
-    let z = accepted-sound a (Tick room) refl (rw e) in
-    let x = step-on a (Tick room) z (omega arith) in
+    let x = tick-on a room clock e in
+    let z = x .sound-before in
     let b : rowOf level number < 32 = omega arith in
-    rw (look-answer (areaAfter a (Tick room)) level number (x .2) l n, x .1, deadline-named a z (rowOf level number) b)
-    (States.late-exactly (decoded a) (sound-area a z .sound-state) room clock (sym (x .0) ∙ e) (rowOf level number) b live)
+    rw (look-answer (areaAfter a (Tick room)) level number (x .sound-after) l n, x .left, deadline-named a z (rowOf level number) b)
+    (States.late-exactly (decoded a) (x .sound-state) room clock (x .answer) (rowOf level number) b live)
 
 -- a fetch that is due by the clock that a tick tells is delivered where that clock is not above the row's deadline, unless a try of the same tick kills the row
 pub due-delivered : (a : List ℕ) (room clock : ℕ) → answerOn a (Tick room) ≡ Clock clock → (level number due : ℕ) → answerOn a (Look level number) ≡ RowFetching due
@@ -80,14 +80,14 @@ pub due-delivered : (a : List ℕ) (room clock : ℕ) → answerOn a (Tick room)
     → (answerOn (areaAfter a (Tick room)) (Look level number) ≡ RowIdle) ⊎ (answerOn (areaAfter a (Tick room)) (Look level number) ≡ RowKilled Taken)
 unfolding word
 due-delivered a room clock e level number due f d l =
-    let z = accepted-sound a (Tick room) refl (rw e) in
-    let x = step-on a (Tick room) z (omega arith) in
+    let x = tick-on a room clock e in
+    let z = x .sound-before in
     let m = look-named a level number (rw f) in
     let b = m .row-is in
     let p = looked-fetching (rowAt (decoded a) (rowOf level number) .condition) due (sym (look-answer a level number z (m .level-is) (m .number-is)) ∙ f) in
-    rw (look-answer (areaAfter a (Tick room)) level number (x .2) (m .level-is) (m .number-is), x .1)
+    rw (look-answer (areaAfter a (Tick room)) level number (x .sound-after) (m .level-is) (m .number-is), x .left)
     (go (rowAt (outcome (decoded a) (Tick room) .state) (rowOf level number) .condition)
-    (States.due-delivered (decoded a) (sound-area a z .sound-state) room clock (sym (x .0) ∙ e) (rowOf level number) due b p d (rw (deadline-named a z (rowOf level number) b) at l)))
+    (States.due-delivered (decoded a) (x .sound-state) room clock (x .answer) (rowOf level number) due b p d (rw (deadline-named a z (rowOf level number) b) at l)))
   where
     go : (x : Condition) → (x ≡ Idle) ⊎ (x ≡ Killed Taken) → (looked x ≡ RowIdle) ⊎ (looked x ≡ RowKilled Taken)
     go x (inl k) = inl (rw k)
@@ -98,13 +98,13 @@ pub delivered-alone : (a : List ℕ) (room clock : ℕ) → answerOn a (Tick roo
     → due ≤ clock → clock ≤ deadlineWord a (rowOf level number) → fillsOf (decoded a) (Tick room) ≡ [] → answerOn (areaAfter a (Tick room)) (Look level number) ≡ RowIdle
 unfolding word
 delivered-alone a room clock e level number due f d l n =
-    let z = accepted-sound a (Tick room) refl (rw e) in
-    let x = step-on a (Tick room) z (omega arith) in
+    let x = tick-on a room clock e in
+    let z = x .sound-before in
     let m = look-named a level number (rw f) in
     let b = m .row-is in
     let p = looked-fetching (rowAt (decoded a) (rowOf level number) .condition) due (sym (look-answer a level number z (m .level-is) (m .number-is)) ∙ f) in
     rw (
-      look-answer (areaAfter a (Tick room)) level number (x .2) (m .level-is) (m .number-is),
-      x .1,
-      States.delivered-alone (decoded a) (sound-area a z .sound-state) room clock (sym (x .0) ∙ e) (rowOf level number) due b p d (rw (deadline-named a z (rowOf level number) b) at l) n,
+      look-answer (areaAfter a (Tick room)) level number (x .sound-after) (m .level-is) (m .number-is),
+      x .left,
+      States.delivered-alone (decoded a) (x .sound-state) room clock (x .answer) (rowOf level number) due b p d (rw (deadline-named a z (rowOf level number) b) at l) n,
     )

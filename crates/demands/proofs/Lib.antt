@@ -12,6 +12,7 @@ pub mod OneSlot
 pub mod Arrived
 pub mod LetsGo
 pub mod TickList
+pub mod TickWaits
 -- demand 3
 pub mod TwoRuns
 pub mod Blind

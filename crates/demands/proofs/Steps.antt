@@ -3,12 +3,13 @@ use mathlib.Core.Path.{_≡_, refl, sym, _∙_, ap}
 use mathlib.Core.Bool.{Bool, true, false, not}
 use mathlib.Core.List.{List, [], _∷_, _++_}
 use Prim.Native.Nat.{ℕ, zero, suc, _≤_}
+use native.Mathlib.Omega.{arith}
 use borrow.Author.Tests.{le-ltb, le-leb, not-true}
 use lib.ListN.{length, drop}
 use Rattle.seq.proofs.Tests.{true-false, and-true}
 use Rattle.seq.specs.Machine.{lastOf, throughout}
 use Rattle.model.specs.declared.Answer.{Answer}
-use Rattle.model.specs.declared.Answer.the-variants.{Started}
+use Rattle.model.specs.declared.Answer.the-variants.{Started, Clock}
 use Rattle.model.specs.declared.Back.{Back}
 use Rattle.model.specs.declared.Mode.{Mode}
 use Rattle.model.specs.declared.Outcome.{Outcome}
@@ -20,7 +21,7 @@ use Rattle.rules.specs.Answers.{word, isStarted}
 use Rattle.rules.specs.Refusals.{startRefusal, StartTaken}
 use Rattle.rules.specs.Calls.{unless, started, waiting, granted, served}
 use Rattle.model.specs.declared.Call.{Call}
-use Rattle.model.specs.declared.Call.the-variants.{Start}
+use Rattle.model.specs.declared.Call.the-variants.{Start, Tick}
 use Rattle.rules.specs.Run.{outcome}
 use Rattle.rules.specs.Content.{fields, isStart, Fits}
 use Rattle.rules.proofs.Leaves.ContentLaws.{start-is}
@@ -140,6 +141,21 @@ step-on a c z f =
         let s = sound-area a z .sound-state in
         let t = stays-sound (decoded a) c s in
         accepted-area a c e (sound-ok (outcome (decoded a) c .state) t (stays-narrow (decoded a) c s f (decoded-deadline a))) t
+
+-- an accepted tick, on any area
+pub record TickOn (a : List ℕ) (room clock : ℕ) : Type 0 where
+  pub sound-before : soundArea a ≡ true
+  pub sound-state : sound (decoded a) ≡ true
+  pub answer : outcome (decoded a) (Tick room) .answer ≡ Clock clock
+  pub left : decoded (areaAfter a (Tick room)) ≡ outcome (decoded a) (Tick room) .state
+  pub sound-after : soundArea (areaAfter a (Tick room)) ≡ true
+
+pub tick-on : (a : List ℕ) (room clock : ℕ) → answerOn a (Tick room) ≡ Clock clock → TickOn a room clock
+unfolding word
+tick-on a room clock e =
+    let z = accepted-sound a (Tick room) refl (rw e) in
+    let x = step-on a (Tick room) z (omega arith) in
+    record { sound-before = z; sound-state = sound-area a z .sound-state; answer = sym (x .0) ∙ e; left = x .1; sound-after = x .2 }
 
 -- a start on any area that is long enough
 pub start-on : (a : List ℕ) (slots delay : ℕ) → 65536 ≤ length a → 1 ≤ slots → slots ≤ 64 → 1 ≤ delay → delay ≤ 255

@@ -16,7 +16,7 @@ use Rattle.model.specs.declared.State.{State}
 use Rattle.model.specs.State.{rowAt}
 use Rattle.model.specs.Words.{outranks}
 use Rattle.rules.specs.Answers.{word, isClock}
-use Rattle.rules.specs.Listed.{isIdleOrFetching, Listed, WaitedFor, EachFill, HasRow, OnceEach}
+use Rattle.rules.specs.Listed.{isIdleOrFetching, Listed, GrantedFor, WaitedFor, EachFill, HasRow, OnceEach}
 use Rattle.rules.specs.Refusals.{isWaiting}
 use Rattle.rules.specs.Calls.{threeSteps}
 use Rattle.rules.specs.Requests.{TriedOn}
@@ -28,10 +28,8 @@ use Rattle.rules.proofs.Promises.TickFills as States
 use Rattle.tries.proofs.EntryLaws.{entries-length}
 use Rattle.tries.proofs.TurnLaws.{tries-most, waiters-most}
 use Rattle.area.specs.Layout.{decoded}
-use Rattle.sabre.specs.Lent.{answerOn, isRefused, areaAfter, listAfter, soundArea}
-use Rattle.sabre.proofs.SoundAreas.{sound-area}
-use Rattle.demands.proofs.Areas.{accepted-sound}
-use Rattle.demands.proofs.Steps.{step-on}
+use Rattle.sabre.specs.Lent.{answerOn, isRefused, areaAfter, listAfter}
+use Rattle.demands.proofs.Steps.{tick-on}
 
 -- ---- the bytes
 
@@ -79,13 +77,6 @@ tried-in-order a = ranked (threeSteps (decoded a))
 -- ---- the entries of an accepted tick
 
 module _ (a : List ℕ) (room clock : ℕ) (e : answerOn a (Tick room) ≡ Clock clock) where
-  z : soundArea a ≡ true
-  unfolding word
-  z = accepted-sound a (Tick room) refl (rw e)
-
-  accepted : outcome (decoded a) (Tick room) .answer ≡ Clock clock
-  accepted = sym (step-on a (Tick room) z (omega arith) .0) ∙ e
-
   -- the first 256 bytes of the list are those of the entries, and zero after them
   pub list-left : (list : List ℕ) → listAfter a (Tick room) list ≡ listBytes (fillsOf (decoded a) (Tick room)) ++ drop 256 list
   unfolding listAfter word
@@ -93,17 +84,21 @@ module _ (a : List ℕ) (room clock : ℕ) (e : answerOn a (Tick room) ≡ Clock
 
   -- after the tick each entry's row is idle or fetching and pins the slot that the entry names, which has the entry's page
   pub listed-holds : EachFill (Listed (decoded (areaAfter a (Tick room)))) (fillsOf (decoded a) (Tick room))
-  listed-holds = rw (step-on a (Tick room) z (omega arith) .1) (States.listed-holds (decoded a) (sound-area a z .sound-state) room clock accepted)
+  listed-holds = let x = tick-on a room clock e in rw (x .left) (States.listed-holds (decoded a) (x .sound-state) room clock (x .answer))
+
+  -- and its pin is the one that it waited for, or a stronger one
+  pub listed-granted : EachFill (GrantedFor (decoded a) (decoded (areaAfter a (Tick room)))) (fillsOf (decoded a) (Tick room))
+  listed-granted = let x = tick-on a room clock e in rw (x .left) (States.listed-granted (decoded a) (x .sound-state) room clock (x .answer))
 
   -- no row has two entries
   pub listed-once : OnceEach (fillsOf (decoded a) (Tick room))
-  listed-once = States.listed-once (decoded a) (sound-area a z .sound-state) room clock accepted
+  listed-once = let x = tick-on a room clock e in States.listed-once (decoded a) (x .sound-state) room clock (x .answer)
 
   -- each entry's row waited for the entry's page before the tick
   pub listed-waited : EachFill (WaitedFor (decoded a)) (fillsOf (decoded a) (Tick room))
-  listed-waited = States.listed-waited (decoded a) (sound-area a z .sound-state) room clock accepted
+  listed-waited = let x = tick-on a room clock e in States.listed-waited (decoded a) (x .sound-state) room clock (x .answer)
 
   -- every row that the tick took from waiting to idle or fetching has an entry
   pub listed-all : (row : ℕ) → row < 32 → isWaiting (rowAt (decoded a) row .condition) ≡ true → isIdleOrFetching (rowAt (decoded (areaAfter a (Tick room))) row .condition) ≡ true
       → HasRow row (fillsOf (decoded a) (Tick room))
-  listed-all row b w = rw (step-on a (Tick room) z (omega arith) .1) (States.listed-all (decoded a) (sound-area a z .sound-state) room clock accepted row b w)
+  listed-all row b w = let x = tick-on a room clock e in rw (x .left) (States.listed-all (decoded a) (x .sound-state) room clock (x .answer) row b w)

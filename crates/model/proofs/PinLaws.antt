@@ -2,7 +2,7 @@
 use mathlib.Core.Path.{_≡_, refl, sym, _∙_}
 use mathlib.Core.Bool.{Bool, true, false, cond, _&&_, _||_, and-comm, or-comm}
 use lib.Dec.{ltb}
-use Rattle.seq.proofs.Tests.{true-false, not-true-false}
+use Rattle.seq.proofs.Tests.{true-false, not-true-false, not-false-true}
 use Rattle.model.specs.declared.Mode.{Mode}
 use Rattle.model.specs.declared.Mode.the-variants as Mode
 use Rattle.model.specs.declared.Pin.{Pin}
@@ -60,6 +60,9 @@ no-two-pins p q f = go (isPin p) (isPin q) refl refl
 
 pub no-pin : (p q : Pin) → isPin q ≡ false → conflict p q ≡ false
 no-pin p q e = no-two-pins p q (λ _ w. true-false (sym w ∙ e))
+
+pub conflict-pin : (p q : Pin) → conflict p q ≡ true → isPin q ≡ true
+conflict-pin p q e = not-false-true (isPin q) (λ n. true-false (sym e ∙ no-pin p q n))
 
 pub conflict-comm : (p q : Pin) → conflict p q ≡ conflict q p
 unfolding conflict

@@ -5,6 +5,7 @@ use Prim.Native.Nat.{ℕ, _<_, _≤_}
 use native.Mathlib.Omega.{arith}
 use lib.Dec.{ltb}
 use Rattle.seq.specs.Order.{lexLess}
+use Rattle.seq.proofs.Tests.{true-false}
 use Rattle.seq.proofs.OrderLaws.{lex-true, lex-next, less-lex, lex-strict, lex-trans, lex-total, ltb-strict, ltb-trans, ltb-total}
 use Rattle.model.specs.Parties.{levelOf, rankOf, better}
 use Rattle.model.specs.State.{rowAt}
@@ -72,3 +73,15 @@ module _ (s : State) where
   pub level-outranks : (row other : ℕ) → outranks s row other ≡ true → levelOf row ≤ levelOf other
   unfolding outranks
   level-outranks row other = level-better (rank row) (rank other)
+
+  -- no two rows outrank each other, and a row does not outrank itself
+  pub outranks-once : {P : Type 0} (row other : ℕ) → outranks s row other ≡ true → outranks s other row ≡ true → P
+  outranks-once row other p q = true-false (sym (outranks-trans row other row p q) ∙ outranks-strict row)
+
+  pub outranks-other : (row other : ℕ) → outranks s row other ≡ true → row ≡ other → ⊥
+  outranks-other row other p e = true-false (sym (rw e at p) ∙ outranks-strict other)
+
+-- priority is by the deadlines
+pub outranks-same : (s t : State) (row other : ℕ) → rowAt s row .deadline ≡ rowAt t row .deadline → rowAt s other .deadline ≡ rowAt t other .deadline → outranks s row other ≡ outranks t row other
+unfolding outranks
+outranks-same s t row other p q = rw (p, q)

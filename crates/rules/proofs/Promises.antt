@@ -5,6 +5,7 @@ pub mod GrantBooks
 pub mod Granting
 pub mod BetterSafe
 pub mod ServedRows
+pub mod Reasons
 pub mod TriedRows
 pub mod Filled
 pub mod WaitFetch
@@ -17,4 +18,5 @@ pub mod LetsGo
 pub mod Widths
 pub mod Deadlines
 pub mod TickFills
+pub mod TickWaits
 pub mod Borders

@@ -3,13 +3,13 @@ use mathlib.Core.Path.{_≡_}
 use mathlib.Core.Bool.{Bool, true, false}
 use mathlib.Core.List.{List, [], _∷_}
 use mathlib.Core.Logic.{_⊎_}
-use Prim.Native.Nat.{ℕ, _<_}
+use Prim.Native.Nat.{ℕ, _<_, _≤_}
 use Rattle.model.specs.declared.Condition.{Condition}
 use Rattle.model.specs.declared.Condition.the-variants.{Free, Idle, Fetching, Waiting, Killed}
 use Rattle.model.specs.declared.Mode.{Mode}
 use Rattle.model.specs.declared.State.{State}
-use Rattle.model.specs.State.{rowAt, slotAt}
-use Rattle.model.specs.Words.{hasPage, pins}
+use Rattle.model.specs.State.{rowAt, slotAt, holdingAt}
+use Rattle.model.specs.Words.{hasPage, pinOf, strength, pins}
 use Rattle.rules.specs.Tries.{Fill}
 
 -- made ready, which is idle, or fetching
@@ -28,9 +28,17 @@ pub record Listed (t : State) (f : Fill) : Type 0 where
   pub pins-it : pins t (f .slot) (f .row) ≡ true
   pub has-it : hasPage (f .page) (slotAt t (f .slot) .content) ≡ true
 
+-- and its pin is the one that the mode asks for, or a stronger one
+abbrev pub PinnedFor : State → Mode → Fill → Type 0
+PinnedFor t mode f = Listed t f × (strength (pinOf mode) ≤ strength (holdingAt t (f .slot) (f .row) .pin))
+
 -- the row of the entry waited for the entry's page
 abbrev pub WaitedFor : State → Fill → Type 0
 WaitedFor u f = (mode : Mode) × (rowAt u (f .row) .condition ≡ Waiting (f .page) mode)
+
+-- the row of the entry waited on s for the entry's page in a mode, and is granted it on t
+abbrev pub GrantedFor : State → State → Fill → Type 0
+GrantedFor s t f = (mode : Mode) × (rowAt s (f .row) .condition ≡ Waiting (f .page) mode) × PinnedFor t mode f
 
 -- a property of every entry
 abbrev pub EachFill : (Fill → Type 0) → List Fill → Type 0

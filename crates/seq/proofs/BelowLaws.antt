@@ -86,6 +86,15 @@ module _ (p : ℕ → Bool) where
     | no s ↦ rw (fail-all n i (below-suc n i h s) e)
   ]
 
+  pub all-fails : (n : ℕ) → allBelow n p ≡ false → (i : ℕ) × (i < n) × (p i ≡ false)
+  unfolding allBelow
+  all-fails zero e = true-false e
+  all-fails (suc n) e = go (allBelow n p) refl (all-fails n)
+    where
+      go : (b : Bool) → allBelow n p ≡ b → (allBelow n p ≡ false → (i : ℕ) × (i < n) × (p i ≡ false)) → (i : ℕ) × (i < suc n) × (p i ≡ false)
+      go true q r = (n, omega arith, rw q at e)
+      go false q r = let x = r q in (x .0, omega (arith, x .1), x .2)
+
   pub count-more : (n : ℕ) → countBelow (n + 1) p ≡ countBelow n p + cond (p n) 1 0
   unfolding countBelow
   count-more n = rw add-one

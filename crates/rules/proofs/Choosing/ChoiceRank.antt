@@ -1,16 +1,16 @@
 -- The best holder of a slot.
-use mathlib.Core.Path.{_≡_, sym, _∙_}
+use mathlib.Core.Path.{_≡_}
 use mathlib.Core.Bool.{true}
 use Prim.Native.Nat.{ℕ, _<_, _≤_}
 use native.Mathlib.Omega.{arith}
 use native.Mathlib.Decide.{ℕ-discrete, decLt}
 use Rattle.seq.specs.declared.Found.the-variants.{At}
-use Rattle.seq.proofs.Tests.{true-false, not-false-true}
+use Rattle.seq.proofs.Tests.{not-false-true}
 use Rattle.seq.proofs.PickLaws.{pick-is, pick-some, pick-first, first-pick}
 use Rattle.model.specs.declared.State.{State}
 use Rattle.model.specs.Parties.{levelOf}
 use Rattle.model.specs.Words.{holds, outranks, bestHolder}
-use Rattle.model.proofs.PriorityLaws.{outranks-strict, outranks-trans, outranks-total, outranks-level}
+use Rattle.model.proofs.PriorityLaws.{outranks-strict, outranks-trans, outranks-total, outranks-level, outranks-once}
 use Rattle.rules.specs.Choice.{holderLevel}
 
 -- the row holds the slot and outranks its other holders
@@ -44,7 +44,7 @@ module _ (s : State) (i : ℕ) where
   best-level b r e h q = elim (ℕ-discrete r b) [
     | yes m ↦ rw m (omega arith)
     | no m ↦ elim (decLt (levelOf r) (levelOf b)) [
-      | yes l ↦ true-false (sym (outranks-trans s r b r (outranks-level s r b l) (best-is b e .first r h q m)) ∙ outranks-strict s r)
+      | yes l ↦ outranks-once s r b (outranks-level s r b l) (best-is b e .first r h q m)
       | no l ↦ omega arith
     ]
   ]

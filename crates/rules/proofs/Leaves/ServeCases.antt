@@ -49,14 +49,21 @@ module _ (s : State) (row page : ℕ) (mode : Mode) where
       go Nowhere e = absent e (chosen s row) refl
       go (At slot) e = there slot e (seen s (levelOf row) slot) (mustWait s row slot mode) (hitsDormant s row slot) refl refl refl
 
-pub served-clock : (s : State) (row page : ℕ) (mode : Mode) → served s row page mode .state .clock ≡ s .clock
+-- the clock, the number of slots, the borders and the mark that a row has begun are the same
+pub record Fixed (s t : State) : Type 0 where
+  pub clock : t .clock ≡ s .clock
+  pub size : t .size ≡ s .size
+  pub borders : t .borders ≡ s .borders
+  pub begun : t .begun ≡ s .begun
+
+pub served-fixed : (s : State) (row page : ℕ) (mode : Mode) → Fixed s (served s row page mode .state)
 unfolding waiting granted step2 step3 pinnersKilled filled killed released cleared
-served-clock s row page mode = go (served s row page mode) (step s row page mode)
+served-fixed s row page mode = go (served s row page mode) (step s row page mode)
   where
-    go : (o : Outcome) → Step s row page mode o → o .state .clock ≡ s .clock
-    go o (wait-1 slot e v w q) = rw q
-    go o (grant-1 slot e v w q) = rw q
-    go o (grant-2 slot e d q) = rw q
-    go o (grant-3 slot e v q) = rw q
-    go o (wait-g e c q) = rw q
-    go o (fill slot e c q) = rw q
+    go : (o : Outcome) → Step s row page mode o → Fixed s (o .state)
+    go o (wait-1 slot e v w q) = rw q (record { clock = refl; size = refl; borders = refl; begun = refl })
+    go o (grant-1 slot e v w q) = rw q (record { clock = refl; size = refl; borders = refl; begun = refl })
+    go o (grant-2 slot e d q) = rw q (record { clock = refl; size = refl; borders = refl; begun = refl })
+    go o (grant-3 slot e v q) = rw q (record { clock = refl; size = refl; borders = refl; begun = refl })
+    go o (wait-g e c q) = rw q (record { clock = refl; size = refl; borders = refl; begun = refl })
+    go o (fill slot e c q) = rw q (record { clock = refl; size = refl; borders = refl; begun = refl })

@@ -1,49 +1,33 @@
 -- What a call makes of the borders and of the mark that a row has begun: a start makes them anew, a begin sets the mark, borders are set before that, and every other call leaves both.
 use mathlib.Core.Path.{_≡_, refl, sym, _∙_}
 use mathlib.Core.Bool.{true, false}
-use mathlib.Core.List.{List}
 use Prim.Native.Nat.{ℕ}
 use Rattle.seq.proofs.Tests.{true-false}
 use Rattle.model.specs.declared.Call.{Call}
 use Rattle.model.specs.declared.Mode.{Mode}
 use Rattle.model.specs.declared.Outcome.{Outcome}
 use Rattle.model.specs.declared.State.{State}
-use Rattle.model.specs.Changes.{released, killed, cleared}
+use Rattle.model.specs.Changes.{released, killed}
 use Rattle.rules.specs.Answers.{word, isStarted}
-use Rattle.rules.specs.Calls.{unpinnedAt, advanced, deliveredRows, lateKilled, threeSteps, waiting, granted, step2, step3, pinnersKilled, filled, served}
+use Rattle.rules.specs.Calls.{unpinnedAt, advanced, deliveredRows, lateKilled, threeSteps, served}
 use Rattle.rules.specs.Run.{outcome}
 use Rattle.rules.specs.Secrecy.{isKept}
-use Rattle.rules.specs.Tries.{tries, waiters, allTried}
+use Rattle.rules.specs.Tries.{allTried}
 use Rattle.rules.proofs.Leaves.CallEffects.{Effect, unchanged, starts, begins, unpins, ends, ticks, sets, serves, effect}
-use Rattle.rules.proofs.Leaves.ServeCases.{Step, wait-1, grant-1, grant-2, grant-3, wait-g, fill, step}
-use Rattle.rules.proofs.Leaves.TryLaws.{by-tries}
+use Rattle.rules.proofs.Leaves.ServeCases.{served-fixed}
+use Rattle.rules.proofs.Leaves.TryLaws.{tried-fixed}
 
 -- the borders and the mark stay
 abbrev pub Unset : State → State → Type 0
 Unset s t = (t .borders ≡ s .borders) × (t .begun ≡ s .begun)
 
 pub served-unset : (s : State) (row page : ℕ) (mode : Mode) → Unset s (served s row page mode .state)
-unfolding waiting granted step2 step3 pinnersKilled filled killed released cleared
-served-unset s row page mode = go (served s row page mode) (step s row page mode)
-  where
-    go : (o : Outcome) → Step s row page mode o → Unset s (o .state)
-    go o (wait-1 slot e v w q) = rw q (refl, refl)
-    go o (grant-1 slot e v w q) = rw q (refl, refl)
-    go o (grant-2 slot e d q) = rw q (refl, refl)
-    go o (grant-3 slot e v q) = rw q (refl, refl)
-    go o (wait-g e c q) = rw q (refl, refl)
-    go o (fill slot e c q) = rw q (refl, refl)
-
-pub tries-unset : (rows : List ℕ) (s : State) → Unset s (tries rows s .state)
-tries-unset = by-tries (λ rows s y. Unset s (y .state))
-    (λ s. (refl, refl))
-    (λ row rows s y w more. more)
-    (λ row rows s page mode y w more. let x = served-unset s row page mode in (more .0 ∙ x .0, more .1 ∙ x .1))
+served-unset s row page mode = let x = served-fixed s row page mode in (x .borders, x .begun)
 
 -- a tick leaves both
 pub ticked-unset : (s : State) → Unset s (allTried (threeSteps s) .state)
 unfolding allTried lateKilled deliveredRows advanced killed released
-ticked-unset s = tries-unset (waiters (threeSteps s)) (threeSteps s)
+ticked-unset s = let x = tried-fixed (threeSteps s) in (x .borders, x .begun)
 
 -- once a row has begun, both stay until a start
 pub frozen : (s : State) (c : Call) → s .begun ≡ true → isStarted (outcome s c .answer) ≡ false → Unset s (outcome s c .state)

@@ -9,13 +9,14 @@ use Rattle.seq.proofs.EachLaws.{each-at, each-length}
 use Rattle.model.specs.declared.Cause.the-variants.{Late}
 use Rattle.model.specs.declared.Condition.{Condition}
 use Rattle.model.specs.declared.Condition.the-variants.{Free, Idle, Fetching, Waiting, Killed}
+use Rattle.model.specs.declared.Mode.{Mode}
 use Rattle.model.specs.declared.Row.{Row}
 use Rattle.model.specs.declared.State.{State}
 use Rattle.model.specs.State.{freeRow, emptyHolding, rowAt, slotAt, holdingAt}
 use Rattle.model.specs.Words.{isLive}
 use Rattle.model.specs.Changes.{dirtied, killedRow, wroteSlot}
 use Rattle.model.proofs.StateLaws.{Sized}
-use Rattle.model.proofs.ChangeLaws.{killed-row, killed-slot, killed-holding, killed-clock}
+use Rattle.model.proofs.ChangeLaws.{killed-row, killed-slot, killed-holding, killed-clock, killed-size}
 use Rattle.rules.specs.Calls.{delivered, deliveredRow, deliveredRows, isLate, lateKilled, advanced}
 use Rattle.rules.specs.Refusals.{isWaiting}
 
@@ -34,6 +35,11 @@ delivered-live clock (Fetching due) = go (leb due clock)
     go : (b : Bool) → isLive (cond b Idle (Fetching due)) ≡ true
     go true = refl
     go false = refl
+
+-- a row that waits is delivered nothing
+pub delivered-waiting : (clock : ℕ) (x : Row) (page : ℕ) (mode : Mode) → x .condition ≡ Waiting page mode → deliveredRow clock x ≡ x
+unfolding deliveredRow
+delivered-waiting clock x page mode w = let e : delivered clock (x .condition) ≡ x .condition = rw w in λ i. record { condition = e i; deadline = x .deadline }
 
 module _ (s : State) (z : Sized s) where
   pub sized-later : Sized (later s)
@@ -55,6 +61,10 @@ module _ (s : State) (z : Sized s) where
   pub ticked-holding : (slot row : ℕ) → row < 32 → holdingAt (lateKilled (later s)) slot row ≡ cond (isLate (later s) row) emptyHolding (holdingAt s slot row)
   unfolding lateKilled deliveredRows advanced
   ticked-holding slot row b = killed-holding (isLate (later s)) (later s) sized-later Late slot row b
+
+  pub ticked-size : lateKilled (later s) .size ≡ s .size
+  unfolding lateKilled deliveredRows advanced
+  ticked-size = killed-size (isLate (later s)) Late (later s)
 
   pub ticked-clock : lateKilled (later s) .clock ≡ s .clock + 1
   unfolding lateKilled deliveredRows advanced

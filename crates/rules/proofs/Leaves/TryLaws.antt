@@ -16,7 +16,7 @@ use Rattle.rules.specs.Calls.{served}
 use Rattle.rules.specs.Refusals.{isWaiting}
 use Rattle.rules.specs.Requests.{TriedOn}
 use Rattle.rules.specs.Tries.{Tried, triedAs, tryRow, tries, waiters, allTried}
-use Rattle.rules.proofs.Leaves.ServeCases.{served-clock}
+use Rattle.rules.proofs.Leaves.ServeCases.{Fixed, served-fixed}
 
 -- a row is tried where it waits, and else skipped
 pub by-try : {P : Type 0} (s : State) (row : ℕ) (x : Condition) → (isWaiting x ≡ false → tryRow x s row ≡ record { state = s; fills = [] } → P)
@@ -52,7 +52,7 @@ module _ (P : List ℕ → State → Tried → Type 0)
       (λ page mode w e. rw e (serve row rows s page mode (tries rows (served s row page mode .state)) w (by-tries rows (served s row page mode .state))))
 
 -- the waiting rows
-waiters-wait : (s : State) → Each (λ row. (row < 32) × (isWaiting (rowAt s row .condition) ≡ true)) (waiters s)
+pub waiters-wait : (s : State) → Each (λ row. (row < 32) × (isWaiting (rowAt s row .condition) ≡ true)) (waiters s)
 unfolding waiters
 waiters-wait s = sorted-each (λ row. isWaiting (rowAt s row .condition)) _ 32
 
@@ -69,11 +69,18 @@ has-tried [] s row h = absurd h
 has-tried (r ∷ rows) s row (inl e) = (s, inl (refl, e))
 has-tried (r ∷ rows) s row (inr h) = let x = has-tried rows (tryRow (rowAt s r .condition) s r .state) row h in (x .0, inr (x .1))
 
--- the clock stays
-pub tried-clock : (s : State) → allTried s .state .clock ≡ s .clock
+-- the clock, the number of slots, the borders and the mark stay
+pub tries-fixed : (rows : List ℕ) (s : State) → Fixed s (tries rows s .state)
+tries-fixed = by-tries (λ rows s y. Fixed s (y .state))
+    (λ s. record { clock = refl; size = refl; borders = refl; begun = refl })
+    (λ row rows s y w more. more)
+    (λ row rows s page mode y w more.
+    let x = served-fixed s row page mode in
+    record { clock = more .clock ∙ x .clock; size = more .size ∙ x .size; borders = more .borders ∙ x .borders; begun = more .begun ∙ x .begun })
+
+pub tried-fixed : (s : State) → Fixed s (allTried s .state)
 unfolding allTried
-tried-clock s = by-tries (λ rows s y. y .state .clock ≡ s .clock) (λ s. refl) (λ row rows s y w more. more)
-    (λ row rows s page mode y w more. more ∙ served-clock s row page mode) (waiters s) s
+tried-fixed s = tries-fixed (waiters s) s
 
 -- where no row waits nothing is tried
 pub none-tried : (s : State) → ((row : ℕ) → row < 32 → isWaiting (rowAt s row .condition) ≡ false) → allTried s ≡ record { state = s; fills = [] }

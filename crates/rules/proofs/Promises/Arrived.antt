@@ -31,7 +31,7 @@ use Rattle.rules.specs.Arrivals.{AllArrived, PinnedAndArrived}
 use Rattle.rules.proofs.Facts.SoundFacts.{Sound, facts}
 use Rattle.rules.proofs.Leaves.RefusalFacts.{tick-taken}
 use Rattle.rules.proofs.Leaves.TickLaws.{ticked-clock, ticked-idle, unwaiting}
-use Rattle.rules.proofs.Leaves.TryLaws.{tried-clock}
+use Rattle.rules.proofs.Leaves.TryLaws.{tried-fixed}
 use Rattle.rules.proofs.Stays.StaysSound.{steps-sound, stays-sound}
 use Rattle.rules.proofs.Promises.ServedRows.{SameOrTaken}
 use Rattle.rules.proofs.Promises.TriedRows.{tried-others}
@@ -94,6 +94,6 @@ tick-arrived s z room row due b f e =
         → due ≤ unless k s (record { state = allTried u .state; answer = Clock (s .clock + 1) }) .state .clock
     go zero t k =
         let y = steps-sound s z (tick-taken s room t .early) in
-        rw (tried-clock u, ticked-clock s n)
+        rw (tried-fixed u .clock, ticked-clock s n)
         (ticked-idle s n row due b f (stepped (rowAt u row) (rowAt (allTried u .state) row) (tried-others u y row b (unwaiting s n row due b f)) k))
     go (suc j) t k = true-false (cc)

@@ -25,7 +25,7 @@ use Rattle.model.proofs.StateLaws.{Sized}
 use Rattle.model.proofs.PutLaws.{row-other}
 use Rattle.model.proofs.ChangeLaws.{killed-row, killed-holding}
 use Rattle.model.proofs.PinLaws.{not-pinned}
-use Rattle.model.proofs.PriorityLaws.{outranks-strict, level-outranks}
+use Rattle.model.proofs.PriorityLaws.{level-outranks, outranks-other}
 use Rattle.model.proofs.SeenLaws.{not-seen, dormant-unheld}
 use Rattle.rules.specs.Calls.{waiting, granted, conflicts, mustWait, step2, step3, pinnersKilled, writeBack, filled, served}
 use Rattle.rules.specs.Choice.{heldAbove, heldAtOwnLevel, inE, inF, chosen}
@@ -49,9 +49,6 @@ module _ (s : State) (z : Sound s) (row h : ℕ) (m : h < 32) (o : outranks s h 
   -- its level is at most the requester's
   level : levelOf h ≤ levelOf row
   level = level-outranks s h row o
-
-  other-row : h ≡ row → ⊥
-  other-row e = true-false (sym (rw e at o) ∙ outranks-strict s row)
 
   -- step 1: where the requester need not wait, no pin of a better row conflicts
   pub better-spared : (slot : ℕ) (mode : Mode) → mustWait s row slot mode ≡ false → conflicts s row slot mode h ≡ false
@@ -122,15 +119,15 @@ filled-leaves s z slot page level h there m e =
           ∙ x .page-same i b q p;
     }
 
-module _ (s u : State) (z : Sized u) (row slot : ℕ) (r : row < 32) (b : slot < 64) (mode : Mode) (arrival : ℕ) (back : Back) where
-  granted-page : (page i : ℕ) → hasPage page (slotAt (granted u row slot mode arrival back .state) i .content) ≡ hasPage page (slotAt u i .content)
+module _ (u : State) (z : Sized u) (row slot : ℕ) (r : row < 32) (b : slot < 64) (mode : Mode) (arrival : ℕ) (back : Back) where
+  pub granted-page : (page i : ℕ) → hasPage page (slotAt (granted u row slot mode arrival back .state) i .content) ≡ hasPage page (slotAt u i .content)
   granted-page page i = ap (λ (x : Slot). hasPage page (x .content)) (granted-slot u z row slot r b mode arrival back i) ∙ elim (ℕ-discrete i slot) [
     | yes w ↦ rw (eq-eqb i slot w, w) (lowest-page (levelOf row) page (slotAt u slot .content))
     | no w ↦ rw (ne-eqb i slot w)
   ]
 
-  granted-leaves : (h : ℕ) → h < 32 → (h ≡ row → ⊥) → LeftAlone s u h → LeftAlone s (granted u row slot mode arrival back .state) h
-  granted-leaves h m n x = record {
+  granted-leaves : (s : State) (h : ℕ) → h < 32 → (h ≡ row → ⊥) → LeftAlone s u h → LeftAlone s (granted u row slot mode arrival back .state) h
+  granted-leaves s h m n x = record {
     row-same = granted-row u z row slot r b mode arrival back h ∙ rw (ne-eqb h row n) (x .row-same);
     holding-same = λ i k. granted-holding u z row slot r b mode arrival back i h m ∙ rw (ne-eqb h row n, and-false-right (eqb i slot) false refl) (x .holding-same i k);
     page-same = λ i k q p. granted-page p i ∙ x .page-same i k q p;
@@ -154,26 +151,26 @@ module _ (s : State) (sound-state : sound s ≡ true) (row : ℕ) (b : row < 32)
       joined : (some : ℕ → Bool) (slot arrival : ℕ) → slotOf s page ≡ At slot → some h ≡ false → LeftAlone s (granted (killed some Taken s) row slot mode arrival Nothing .state) h
       joined some slot arrival e f =
           let g = killed-ground s z some page slot e in
-          granted-leaves s (killed some Taken s) (g .sized) row slot b (g .slot-is) mode arrival Nothing h m n (killed-leaves some s z h m f)
+          granted-leaves (killed some Taken s) (g .sized) row slot b (g .slot-is) mode arrival Nothing s h m n (killed-leaves some s z h m f)
 
       go : (x : Outcome) → Step s row page mode x → LeftAlone s (x .state) h
       go x (wait-1 slot e v w q) = rw q (wait-leaves s (z .sized) row page mode h n)
       go x (grant-1 slot e v w q) = rw q (joined (conflicts s row slot mode) slot (leastArrival s (levelOf row) slot) e (in-step-1 slot (found-below s z page slot e) w))
       go x (grant-2 slot e d q) =
-          rw q (granted-leaves s s (z .sized) row slot b (found-below s z page slot e) mode (arrivalIn (slotAt s slot .content)) Nothing h m n
+          rw q (granted-leaves s (z .sized) row slot b (found-below s z page slot e) mode (arrivalIn (slotAt s slot .content)) Nothing s h m n
           (record { row-same = refl; holding-same = λ i k. refl; page-same = λ i k w p. refl }))
       go x (grant-3 slot e v q) = rw q (joined (conflicts s row slot mode) slot (s .clock + s .delay) e (in-step-3 slot (found-below s z page slot e) v))
       go x (wait-g e c q) = rw q (wait-leaves s (z .sized) row page mode h n)
       go x (fill slot e c q) =
           let k = unheld slot c in
           let g = filled-ground s z page slot (levelOf row) (k .0) in
-          rw q (granted-leaves s (filled (pinnersKilled s slot) slot page (levelOf row)) (g .sized) row slot b (g .slot-is) mode (s .clock + s .delay)
-          (writeBack (slotAt (pinnersKilled s slot) slot)) h m n (filled-leaves s z slot page (levelOf row) h (k .0) m (k .1)))
+          rw q (granted-leaves (filled (pinnersKilled s slot) slot page (levelOf row)) (g .sized) row slot b (g .slot-is) mode (s .clock + s .delay)
+          (writeBack (slotAt (pinnersKilled s slot) slot)) s h m n (filled-leaves s z slot page (levelOf row) h (k .0) m (k .1)))
 
   -- rows of better priority
   pub better-safe : (h : ℕ) → h < 32 → outranks s h row ≡ true → LeftAlone s (served s row page mode .state) h
   better-safe h m o =
-      left-alone h m (other-row s z row h m o) (λ slot i. better-spared s z row h m o slot mode)
+      left-alone h m (outranks-other s h row o) (λ slot i. better-spared s z row h m o slot mode)
       (λ slot i v. unheld-spared s row slot mode h (not-seen s (levelOf row) slot h v m (level-outranks s h row o))) (chosen-unheld s z row h m o)
 
   -- rows that are free or killed, where the row that is served is live

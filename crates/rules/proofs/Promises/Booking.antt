@@ -41,7 +41,7 @@ use Rattle.rules.proofs.Leaves.PageLaws.{found-below}
 use Rattle.rules.proofs.Leaves.CallEffects.{Effect, unchanged, starts, begins, unpins, ends, ticks, sets, serves}
 use Rattle.rules.proofs.Leaves.GrantLaws.{granted-clock}
 use Rattle.rules.proofs.Leaves.AnswerCases.{by-slot}
-use Rattle.rules.proofs.Leaves.ServeCases.{served-clock}
+use Rattle.rules.proofs.Leaves.ServeCases.{served-fixed}
 use Rattle.rules.proofs.Leaves.TickLaws.{later, ticked-slot, ticked-holding, ticked-clock}
 use Rattle.rules.proofs.Promises.FillLists.{some-left, some-right}
 use Rattle.rules.proofs.Promises.Serving.{Serving, waits, waits-g, joins, fills, serving}
@@ -165,7 +165,7 @@ tried-writes page slot b = by-all-tried (λ s y. (y .state .clock ≡ s .clock) 
     (λ s row p mode y z r w next more.
     let o = served s row p mode in
     let new = filledBy row p (o .answer) in (
-      more .0 ∙ served-clock s row p mode,
+      more .0 ∙ served-fixed s row p mode .clock,
       writes-then s (o .state) (y .state) page slot (more .0)
           (writes-weaker s (o .state) page slot (λ e. some-left (λ f. (f .slot ≡ slot) × (f .back ≡ Page page)) new (y .fills) (entered row p slot page (o .answer) e)) (served-writes s z page slot b row p mode r o (serving s row p mode)))
           (writes-weaker (o .state) (y .state) page slot (λ e. some-right (λ f. (f .slot ≡ slot) × (f .back ≡ Page page)) new (y .fills) e) (more .1)),

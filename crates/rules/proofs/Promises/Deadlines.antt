@@ -90,9 +90,15 @@ module _ (s : State) (sound-state : sound s ≡ true) (room clock : ℕ) (accept
   pub stepped : sound (threeSteps s) ≡ true
   stepped = steps-sound s sound-state (ticked-is .2)
 
-  late-is : (row : ℕ) → row < 32 → isLate (later s) row ≡ isLive (rowAt s row .condition) && ltb (rowAt s row .deadline) (s .clock + 1)
+  pub late-is : (row : ℕ) → row < 32 → isLate (later s) row ≡ isLive (rowAt s row .condition) && ltb (rowAt s row .deadline) (s .clock + 1)
   unfolding isLate deliveredRows advanced deliveredRow
   late-is row b = rw (later-row s z row b, delivered-live (s .clock + 1) (rowAt s row .condition))
+
+  -- a row that is late in the steps stays so
+  pub late-stays : (row : ℕ) → row < 32 → isLate (later s) row ≡ true → rowAt (outcome s (Tick room) .state) row ≡ killedRow Late
+  late-stays row b e =
+      let d : rowAt (threeSteps s) row ≡ killedRow Late = rw e at (ticked-row s z row b) in
+      rw (ticked-is .0) (tried-dead (threeSteps s) stepped row b (rw d) ∙ d)
 
   pub late-exactly : (row : ℕ) → row < 32 → isLive (rowAt s row .condition) ≡ true
       → isToldLate (looked (rowAt (outcome s (Tick room) .state) row .condition)) ≡ ltb (rowAt s row .deadline) clock

@@ -13,15 +13,21 @@ pub some-right : (P : Fill → Type 0) (xs ys : List Fill) → Some P ys → Som
 some-right P [] ys h = h
 some-right P (x ∷ xs) ys h = inr (some-right P xs ys h)
 
+pub some-fill : (P Q : Fill → Type 0) → ((f : Fill) → P f → Q f) → (fs : List Fill) → Some P fs → Some Q fs
+some-fill P Q k [] h = absurd h
+some-fill P Q k (f ∷ fs) (inl h) = inl (k f h)
+some-fill P Q k (f ∷ fs) (inr h) = inr (some-fill P Q k fs h)
+
 pub each-some : (P Q : Fill → Type 0) (fs : List Fill) → EachFill P fs → Some Q fs → (f : Fill) × P f × Q f
 each-some P Q [] h k = absurd k
 each-some P Q (f ∷ fs) h (inl k) = (f, h .0, k)
 each-some P Q (f ∷ fs) h (inr k) = each-some P Q fs (h .1) k
 
+pub some-each : (P Q : Fill → Type 0) (fs : List Fill) → EachFill P fs → Some Q fs → Some (λ f. P f × Q f) fs
+some-each P Q [] h k = absurd k
+some-each P Q (f ∷ fs) h (inl k) = inl (h .0, k)
+some-each P Q (f ∷ fs) h (inr k) = inr (some-each P Q fs (h .1) k)
+
 pub each-fill : (P Q : Fill → Type 0) → ((f : Fill) → P f → Q f) → (fs : List Fill) → EachFill P fs → EachFill Q fs
 each-fill P Q k [] h = tt
 each-fill P Q k (f ∷ fs) h = (k f (h .0), each-fill P Q k fs (h .1))
-
-pub both-fills : (P Q : Fill → Type 0) (fs : List Fill) → EachFill P fs → EachFill Q fs → EachFill (λ f. P f × Q f) fs
-both-fills P Q [] h k = tt
-both-fills P Q (f ∷ fs) h k = ((h .0, k .0), both-fills P Q fs (h .1) (k .1))

@@ -1,12 +1,12 @@
 -- Document 02, T-04, the list of what the tries of a tick filled: its entries hold when the tries are done, it has each row that was made ready or fetching, and no row twice.
 use mathlib.Core.Path.{_≡_, refl, sym, _∙_, ap}
-use mathlib.Core.Bool.{true}
+use mathlib.Core.Bool.{Bool, true, false}
 use mathlib.Core.List.{List, [], _∷_, _++_}
 use mathlib.Core.Logic.{_⊎_, inl, inr}
 use Prim.Native.Nat.{ℕ, _<_}
 use native.Mathlib.Omega.{arith}
 use native.Mathlib.Decide.{ℕ-discrete}
-use Rattle.seq.proofs.Tests.{true-false}
+use Rattle.seq.proofs.Tests.{true-false, not-false-true}
 use Rattle.seq.proofs.SortLaws.{Each}
 use Rattle.seq.proofs.SortOrder.{Ranked, sorted-ranked}
 use Rattle.model.specs.declared.Condition.the-variants.{Waiting}
@@ -16,11 +16,11 @@ use Rattle.model.specs.declared.Row.{Row}
 use Rattle.model.specs.declared.State.{State}
 use Rattle.model.specs.declared.Holding.{Holding}
 use Rattle.model.specs.State.{rowAt, holdingAt}
-use Rattle.model.specs.Words.{isHeld, isPin, outranks}
+use Rattle.model.specs.Words.{isLive, isHeld, isPin, outranks}
 use Rattle.model.proofs.PinLaws.{pin-held}
-use Rattle.model.proofs.PriorityLaws.{outranks-trans, outranks-total}
+use Rattle.model.proofs.PriorityLaws.{outranks-trans, outranks-total, outranks-same}
 use Rattle.rules.specs.Calls.{served}
-use Rattle.rules.specs.Listed.{isIdleOrFetching, Listed, WaitedFor, EachFill, HasRow, OnceEach}
+use Rattle.rules.specs.Listed.{isIdleOrFetching, Listed, PinnedFor, GrantedFor, WaitedFor, EachFill, Some, HasRow, OnceEach}
 use Rattle.rules.specs.Refusals.{isWaiting}
 use Rattle.rules.specs.Sound.{sound}
 use Rattle.rules.specs.Tries.{Fill, Tried, filledBy, tries, waiters, allTried}
@@ -28,19 +28,19 @@ use Rattle.rules.proofs.Leaves.TryLaws.{by-tries, waiters-rows}
 use Rattle.rules.proofs.Promises.BetterSafe.{LeftAlone, better-safe}
 use Rattle.rules.proofs.Promises.FillLists.{some-right, each-some, each-fill}
 use Rattle.rules.proofs.Promises.ServedRows.{SameOrTaken, Own, own-waits, own-ready, own-fetch, served-others, served-deadline, served-own}
-use Rattle.rules.proofs.Promises.TriedRows.{waits-unmade, still-waits}
+use Rattle.rules.proofs.Promises.TriedRows.{waits-unmade, live-after, served-after, still-waits, vain-still}
 use Rattle.rules.proofs.Stays.StaysTries.{stored-sound}
 
 -- what a served row fills: nothing where it waits, or an entry that holds
 pub by-filled : (P : List Fill → Type 0) (row page : ℕ) (mode : Mode) (o : Outcome) → Own row page mode o
-    → (rowAt (o .state) row .condition ≡ Waiting page mode → P []) → ((f : Fill) → f .row ≡ row → f .page ≡ page → Listed (o .state) f → P (f ∷ [])) → P (filledBy row page (o .answer))
+    → (rowAt (o .state) row .condition ≡ Waiting page mode → P []) → ((f : Fill) → f .row ≡ row → f .page ≡ page → PinnedFor (o .state) mode f → P (f ∷ [])) → P (filledBy row page (o .answer))
 by-filled P row page mode o (own-waits a c) none one = rw a (none c)
 by-filled P row page mode o (own-ready slot back a c l) none one = rw a (one (record { row = row; slot = slot; page = page; back = back }) refl refl l)
 by-filled P row page mode o (own-fetch due slot back a c l) none one = rw a (one (record { row = row; slot = slot; page = page; back = back }) refl refl l)
 
 -- ---- which rows have entries
 
-abbrev AreRows : List ℕ → Type 0
+abbrev pub AreRows : List ℕ → Type 0
 AreRows = Each (λ row. row < 32)
 
 abbrev Waited : State → Fill → Type 0
@@ -60,7 +60,7 @@ waited-once = by-tries (λ rows s y. AreRows rows → sound s ≡ true → EachF
     go row s page mode b z w fs waited once =
         by-filled (λ xs. EachFill (Waited s) (xs ++ fs) × OnceEach (xs ++ fs)) row page mode (served s row page mode) (served-own s z row b page mode)
         (λ c. (old, once))
-        (λ f r p l. (((rw r b, (mode, rw (r, p) w)), old), (new f l, once)))
+        (λ f r p l. (((rw r b, (mode, rw (r, p) w)), old), (new f (l .0), once)))
       where
         t : State
         t = served s row page mode .state
@@ -104,35 +104,36 @@ left-trans s t u row x y = record {
   page-same = λ i b h p. y .page-same i b (ap (λ (k : Holding). isHeld (k .pin)) (x .holding-same i b) ∙ h) p ∙ x .page-same i b h p;
 }
 
-still-listed : (s t : State) (f : Fill) → LeftAlone s t (f .row) → Listed s f → Listed t f
-still-listed s t f x l = record {
-  row-is = l .row-is;
-  condition-is = ap (λ (k : Row). isIdleOrFetching (k .condition)) (x .row-same) ∙ l .condition-is;
-  slot-is = l .slot-is;
-  pins-it = ap (λ (k : Holding). isPin (k .pin)) (x .holding-same (f .slot) (l .slot-is)) ∙ l .pins-it;
-  has-it = x .page-same (f .slot) (l .slot-is) (pin-held (holdingAt s (f .slot) (f .row) .pin) (l .pins-it)) (f .page) ∙ l .has-it;
-}
-
-rank-same : (s u : State) (h q : ℕ) → rowAt s h .deadline ≡ rowAt u h .deadline → rowAt s q .deadline ≡ rowAt u q .deadline → outranks s h q ≡ outranks u h q
-unfolding outranks
-rank-same s u h q d e = rw (d, e)
+still-granted : (s t : State) (mode : Mode) (f : Fill) → LeftAlone s t (f .row) → PinnedFor s mode f → PinnedFor t mode f
+still-granted s t mode f x g =
+    let l = g .0 in
+    let e = x .holding-same (f .slot) (l .slot-is) in (
+      record {
+        row-is = l .row-is;
+        condition-is = ap (λ (k : Row). isIdleOrFetching (k .condition)) (x .row-same) ∙ l .condition-is;
+        slot-is = l .slot-is;
+        pins-it = ap (λ (k : Holding). isPin (k .pin)) e ∙ l .pins-it;
+        has-it = x .page-same (f .slot) (l .slot-is) (pin-held (holdingAt s (f .slot) (f .row) .pin) (l .pins-it)) (f .page) ∙ l .has-it;
+      },
+      rw e (g .1),
+    )
 
 -- tries of rows in the order of u, on a state in which the rows that wait are as in u
 module _ (u : State) where
-  abbrev Old : State → Type 0
+  abbrev pub Old : State → Type 0
   Old s = (q : ℕ) → q < 32 → isWaiting (rowAt s q .condition) ≡ true → rowAt s q ≡ rowAt u q
 
   -- a row that outranks each of the rows
-  abbrev Ahead : List ℕ → State → Tried → Type 0
+  abbrev pub Ahead : List ℕ → State → Tried → Type 0
   Ahead rows s y = (h : ℕ) → h < 32 → rowAt s h .deadline ≡ rowAt u h .deadline → Each (λ q. outranks u h q ≡ true) rows → LeftAlone s (y .state) h
 
-  served-old : (s : State) → sound s ≡ true → (row : ℕ) → row < 32 → (page : ℕ) (mode : Mode) → rowAt s row .condition ≡ Waiting page mode → Old s → Old (served s row page mode .state)
+  pub served-old : (s : State) → sound s ≡ true → (row : ℕ) → row < 32 → (page : ℕ) (mode : Mode) → rowAt s row .condition ≡ Waiting page mode → Old s → Old (served s row page mode .state)
   served-old s z row b page mode w old q m k =
       let e = still-waits s z row b page mode w q m k in
       e ∙ old q m (ap (λ (x : Row). isWaiting (x .condition)) (sym e) ∙ k)
 
-  ranked-hold : (rows : List ℕ) (s : State) → AreRows rows → sound s ≡ true → Old s → Ahead rows s (tries rows s) × (Ranked (outranks u) rows → EachFill (Listed (tries rows s .state)) (tries rows s .fills))
-  ranked-hold = by-tries (λ rows s y. AreRows rows → sound s ≡ true → Old s → Ahead rows s y × (Ranked (outranks u) rows → EachFill (Listed (y .state)) (y .fills)))
+  ranked-hold : (rows : List ℕ) (s : State) → AreRows rows → sound s ≡ true → Old s → Ahead rows s (tries rows s) × (Ranked (outranks u) rows → EachFill (GrantedFor u (tries rows s .state)) (tries rows s .fills))
+  ranked-hold = by-tries (λ rows s y. AreRows rows → sound s ≡ true → Old s → Ahead rows s y × (Ranked (outranks u) rows → EachFill (GrantedFor u (y .state)) (y .fills)))
       (λ s b z old. ((λ h m d a. record { row-same = refl; holding-same = λ i k. refl; page-same = λ i k q p. refl }), (λ r. tt)))
       (λ row rows s y w more b z old.
       let k = more (b .1) z old in
@@ -140,15 +141,68 @@ module _ (u : State) where
       (λ row rows s page mode y w more b z old.
       let t : State = served s row page mode .state in
       let k = more (b .1) (stored-sound s z row (b .0) page mode w) (served-old s z row (b .0) page mode w old) in
-      let own : rowAt s row .deadline ≡ rowAt u row .deadline = ap (λ (x : Row). x .deadline) (old row (b .0) (rw w)) in (
+      let own : rowAt s row .deadline ≡ rowAt u row .deadline = ap (λ (x : Row). x .deadline) (old row (b .0) (rw w)) in
+      let waited : rowAt u row .condition ≡ Waiting page mode = ap (λ (x : Row). x .condition) (sym (old row (b .0) (rw w))) ∙ w in (
         (λ h m d a.
-            let x = better-safe s z row (b .0) page mode h m (rank-same s u h row d own ∙ a .0) in
+            let x = better-safe s z row (b .0) page mode h m (outranks-same s u h row d own ∙ a .0) in
             left-trans s t (y .state) h x (k .0 h m (ap (λ (c : Row). c .deadline) (x .row-same) ∙ d) (a .1))),
         (λ r.
-            by-filled (λ xs. EachFill (Listed (y .state)) (xs ++ y .fills)) row page mode (served s row page mode) (served-own s z row (b .0) page mode)
+            by-filled (λ xs. EachFill (GrantedFor u (y .state)) (xs ++ y .fills)) row page mode (served s row page mode) (served-own s z row (b .0) page mode)
             (λ c. k .1 (r .1))
-            (λ f e p l. (still-listed t (y .state) f (rw e (k .0 row (b .0) (served-deadline s z row (b .0) page mode ∙ own) (r .0))) l, k .1 (r .1)))),
+            (λ f e p l. ((mode, rw (e, p) waited, still-granted t (y .state) mode f (rw e (k .0 row (b .0) (served-deadline s z row (b .0) page mode ∙ own) (r .0))) l), k .1 (r .1)))),
       ))
+
+  -- a row that outranks each row that is tried is left alone
+  pub tries-alone : (rows : List ℕ) (s : State) → AreRows rows → sound s ≡ true → Old s → Ahead rows s (tries rows s)
+  tries-alone rows s b z old = ranked-hold rows s b z old .0
+
+  -- ---- a row that a try kills is outranked by the row of an entry, which waited
+
+  abbrev pub Outranker : ℕ → ℕ → Type 0
+  Outranker q row = (row < 32) × (isWaiting (rowAt u row .condition) ≡ true) × (outranks u row q ≡ true)
+
+  -- a row that a served request kills
+  kills-worse : (s : State) → sound s ≡ true → (row : ℕ) → row < 32 → (page : ℕ) (mode : Mode) → rowAt s row .condition ≡ Waiting page mode → (q : ℕ) → q < 32
+      → isLive (rowAt s q .condition) ≡ true → isLive (rowAt (served s row page mode .state) q .condition) ≡ false → outranks s row q ≡ true
+  kills-worse s z row b page mode w q m l d = not-false-true (outranks s row q) (λ n.
+      let o = not-false-true (outranks s q row) (λ k. dead-other (outranks-total s row q n k)) in
+      true-false (sym l ∙ ap (λ (r : Row). isLive (r .condition)) (sym (better-safe s z row b page mode q m o .row-same)) ∙ d))
+    where
+      own-lives : Own row page mode (served s row page mode) → isLive (rowAt (served s row page mode .state) row .condition) ≡ true
+      own-lives (own-waits a c) = rw c
+      own-lives (own-ready slot back a c k) = rw c
+      own-lives (own-fetch due slot back a c k) = rw c
+
+      dead-other : row ≡ q → ⊥
+      dead-other e = true-false (sym (own-lives (served-own s z row b page mode)) ∙ ap (λ (r : ℕ). isLive (rowAt (served s row page mode .state) r .condition)) e ∙ d)
+
+  taken-by : (q : ℕ) → q < 32 → (rows : List ℕ) (s : State) → AreRows rows → sound s ≡ true → Old s → rowAt s q .deadline ≡ rowAt u q .deadline
+      → isLive (rowAt s q .condition) ≡ true → isLive (rowAt (tries rows s .state) q .condition) ≡ false → Some (λ f. Outranker q (f .row)) (tries rows s .fills)
+  taken-by q m = by-tries (λ rows s y. AreRows rows → sound s ≡ true → Old s → rowAt s q .deadline ≡ rowAt u q .deadline → isLive (rowAt s q .condition) ≡ true → isLive (rowAt (y .state) q .condition) ≡ false → Some (λ f. Outranker q (f .row)) (y .fills))
+      (λ s b z old e l d. true-false (sym l ∙ d))
+      (λ row rows s y w more b z old e l d. more (b .1) z old e l d)
+      (λ row rows s page mode y w more b z old e l d.
+      go row s page mode (b .0) z w old e l (y .fills) (isLive (rowAt (served s row page mode .state) q .condition)) refl
+      (λ k f. more (b .1) (stored-sound s z row (b .0) page mode w) (served-old s z row (b .0) page mode w old) f k d))
+    where
+      go : (row : ℕ) (s : State) (page : ℕ) (mode : Mode) → row < 32 → sound s ≡ true → rowAt s row .condition ≡ Waiting page mode → Old s → rowAt s q .deadline ≡ rowAt u q .deadline
+          → isLive (rowAt s q .condition) ≡ true → (fs : List Fill) (x : Bool) → isLive (rowAt (served s row page mode .state) q .condition) ≡ x
+          → (isLive (rowAt (served s row page mode .state) q .condition) ≡ true → rowAt (served s row page mode .state) q .deadline ≡ rowAt u q .deadline → Some (λ f. Outranker q (f .row)) fs)
+          → Some (λ f. Outranker q (f .row)) (filledBy row page (served s row page mode .answer) ++ fs)
+      go row s page mode b z w old e l fs true k more =
+          let d = live-after (rowAt s q) (rowAt (served s row page mode .state) q) (served-after s z row b page mode w q m) k in
+          some-right (λ f. Outranker q (f .row)) (filledBy row page (served s row page mode .answer)) fs (more k (d .1 ∙ e))
+      go row s page mode b z w old e l fs false k more = entry (served-own s z row b page mode)
+        where
+          better : Outranker q row
+          better =
+              let r = old row b (rw w) in
+              (b, ap (λ (x : Row). isWaiting (x .condition)) (sym r) ∙ rw w, outranks-same u s row q (ap (λ (x : Row). x .deadline) (sym r)) (sym e) ∙ kills-worse s z row b page mode w q m l k)
+
+          entry : Own row page mode (served s row page mode) → Some (λ f. Outranker q (f .row)) (filledBy row page (served s row page mode .answer) ++ fs)
+          entry (own-waits a c) = true-false (sym l ∙ ap (λ (x : State). isLive (rowAt x q .condition)) (sym (vain-still s row page mode w a)) ∙ k)
+          entry (own-ready slot back a c i) = rw a (inl better)
+          entry (own-fetch due slot back a c i) = rw a (inl better)
 
 -- ---- of a sound state
 
@@ -158,15 +212,13 @@ unfolding waiters
 ranked u = sorted-ranked (λ r. isWaiting (rowAt u r .condition)) (outranks u) 32 (outranks-trans u) (λ i j a b p q. outranks-total u i j) 32 (omega arith)
 
 module _ (u : State) (z : sound u ≡ true) where
-  -- each entry holds when all are tried
-  pub fills-hold : EachFill (Listed (allTried u .state)) (allTried u .fills)
+  -- the row of each entry waited for its page, and is granted it when all are tried
+  pub fills-granted : EachFill (GrantedFor u (allTried u .state)) (allTried u .fills)
   unfolding allTried
-  fills-hold = ranked-hold u (waiters u) u (waiters-rows u) z (λ q m k. refl) .1 (ranked u)
+  fills-granted = ranked-hold u (waiters u) u (waiters-rows u) z (λ q m k. refl) .1 (ranked u)
 
-  -- the row of each entry waited for its page
-  pub fills-waited : EachFill (WaitedFor u) (allTried u .fills)
-  unfolding allTried
-  fills-waited = each-fill (Waited u) (WaitedFor u) (λ f k. k .1) (allTried u .fills) (waited-once (waiters u) u (waiters-rows u) z .0)
+  pub fills-hold : EachFill (Listed (allTried u .state)) (allTried u .fills)
+  fills-hold = each-fill (GrantedFor u (allTried u .state)) (Listed (allTried u .state)) (λ f k. k .2 .0) (allTried u .fills) fills-granted
 
   -- no row has two entries
   pub fills-once : OnceEach (allTried u .fills)
@@ -181,3 +233,8 @@ module _ (u : State) (z : sound u ≡ true) where
       go : HasRow q (allTried u .fills) ⊎ (isIdleOrFetching (rowAt u q .condition) ≡ true) → HasRow q (allTried u .fills)
       go (inl h) = h
       go (inr i) = waits-unmade (rowAt u q .condition) w i
+
+  -- a row that they kill is outranked by the row of an entry, which waited
+  pub fills-taken : (q : ℕ) → q < 32 → isLive (rowAt u q .condition) ≡ true → isLive (rowAt (allTried u .state) q .condition) ≡ false → Some (λ f. Outranker u q (f .row)) (allTried u .fills)
+  unfolding allTried
+  fills-taken q m = taken-by u q m (waiters u) u (waiters-rows u) z (λ r b k. refl) refl

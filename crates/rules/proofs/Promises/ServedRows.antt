@@ -25,7 +25,7 @@ use Rattle.model.proofs.StateLaws.{Sized}
 use Rattle.model.proofs.PutLaws.{row-same, row-other}
 use Rattle.model.proofs.ChangeLaws.{killed-row}
 use Rattle.rules.specs.Calls.{waiting, granted, pinnersKilled, writeBack, filled, served}
-use Rattle.rules.specs.Listed.{isIdleOrFetching, Listed}
+use Rattle.rules.specs.Listed.{isIdleOrFetching, PinnedFor}
 use Rattle.rules.specs.Sound.{sound}
 use Rattle.rules.proofs.Facts.SoundFacts.{Sound, facts}
 use Rattle.rules.proofs.Leaves.FillLaws.{filled-row, freed}
@@ -77,9 +77,9 @@ strength-pin mode Write h = refl
 pub data Own (row page : ℕ) (mode : Mode) (o : Outcome) : Type 0 where
   own-waits : o .answer ≡ Wait → rowAt (o .state) row .condition ≡ Waiting page mode → Own row page mode o
   own-ready : (slot : ℕ) (back : Back) → o .answer ≡ Ready slot back → rowAt (o .state) row .condition ≡ Idle
-      → Listed (o .state) (record { row = row; slot = slot; page = page; back = back }) → Own row page mode o
+      → PinnedFor (o .state) mode (record { row = row; slot = slot; page = page; back = back }) → Own row page mode o
   own-fetch : (due slot : ℕ) (back : Back) → o .answer ≡ Fetch due slot back → rowAt (o .state) row .condition ≡ Fetching due
-      → Listed (o .state) (record { row = row; slot = slot; page = page; back = back }) → Own row page mode o
+      → PinnedFor (o .state) mode (record { row = row; slot = slot; page = page; back = back }) → Own row page mode o
 
 wait-own : (s : State) → Sized s → (row : ℕ) → row < 32 → (page : ℕ) (mode : Mode) → Own row page mode (waiting s row page mode)
 unfolding waiting
@@ -92,14 +92,18 @@ grant-own s row page mode b o g =
     (λ q k. let i = grant-ready s row page mode b o g (g .slot) (g .back) k .1 in own-ready (g .slot) (g .back) k i (listed (rw i)))
     (λ q k. let i = grant-fetch s row page mode b o g (g .arrival) (g .slot) (g .back) k .1 in own-fetch (g .arrival) (g .slot) (g .back) k i (listed (rw i)))
   where
-    listed : isIdleOrFetching (rowAt (o .state) row .condition) ≡ true → Listed (o .state) (record { row = row; slot = g .slot; page = page; back = g .back })
-    listed i = record {
-      row-is = b;
-      condition-is = i;
-      slot-is = g .ground .slot-is;
-      pins-it = strength-pin mode (holdingAt (o .state) (g .slot) row .pin) (own-pin s row page mode b o g);
-      has-it = own-page s row page mode b o g;
-    }
+    listed : isIdleOrFetching (rowAt (o .state) row .condition) ≡ true → PinnedFor (o .state) mode (record { row = row; slot = g .slot; page = page; back = g .back })
+    listed i =
+        let p = own-pin s row page mode b o g in (
+          record {
+            row-is = b;
+            condition-is = i;
+            slot-is = g .ground .slot-is;
+            pins-it = strength-pin mode (holdingAt (o .state) (g .slot) row .pin) p;
+            has-it = own-page s row page mode b o g;
+          },
+          p,
+        )
 
 -- ---- of a sound state
 

@@ -1,8 +1,7 @@
 -- What the list of an accepted tick says of the states before and after the tick.
 use mathlib.Core.Path.{_≡_, refl, sym, _∙_, ap}
 use mathlib.Core.Bool.{Bool, true, false, cond}
-use mathlib.Core.List.{List, [], _∷_}
-use Prim.Native.Nat.{ℕ, _+_, _<_, _≤_}
+use Prim.Native.Nat.{ℕ, _+_, _<_}
 use lib.Dec.{leb}
 use Rattle.seq.proofs.Tests.{true-false}
 use Rattle.model.specs.declared.Answer.the-variants.{Clock}
@@ -17,17 +16,16 @@ use Rattle.model.specs.State.{rowAt}
 use Rattle.model.specs.Changes.{killedRow}
 use Rattle.rules.specs.Answers.{word}
 use Rattle.rules.specs.Calls.{delivered, deliveredRow, isLate, threeSteps}
-use Rattle.rules.specs.Listed.{isIdleOrFetching, Listed, WaitedFor, EachFill, HasRow, OnceEach}
+use Rattle.rules.specs.Listed.{isIdleOrFetching, Listed, GrantedFor, WaitedFor, EachFill, HasRow, OnceEach}
 use Rattle.rules.specs.Refusals.{isWaiting}
 use Rattle.rules.specs.Run.{outcome, fillsOf}
 use Rattle.rules.specs.Sound.{sound}
-use Rattle.rules.specs.Tries.{Fill, allTried}
+use Rattle.rules.specs.Tries.{allTried}
 use Rattle.rules.proofs.Facts.SoundFacts.{facts}
 use Rattle.rules.proofs.Leaves.TickLaws.{later, ticked-row}
-use Rattle.rules.proofs.Promises.Deadlines.{ticked-is, stepped}
-use Rattle.rules.proofs.Promises.FillLists.{each-fill, both-fills}
-use Rattle.rules.proofs.Promises.Filled.{fills-hold, fills-once, fills-waited, fills-all}
-use Rattle.rules.proofs.Promises.TriedRows.{tried-dead}
+use Rattle.rules.proofs.Promises.Deadlines.{ticked-is, stepped, late-stays}
+use Rattle.rules.proofs.Promises.FillLists.{each-fill}
+use Rattle.rules.proofs.Promises.Filled.{fills-granted, fills-once, fills-all}
 
 -- a row that waits after the steps waited before them
 delivered-waits : (clock : ℕ) (x : Condition) (page : ℕ) (mode : Mode) → delivered clock x ≡ Waiting page mode → x ≡ Waiting page mode
@@ -41,7 +39,7 @@ delivered-waits clock (Fetching due) page mode e = go (leb due clock) e
 delivered-waits clock (Waiting p m) page mode e = e
 delivered-waits clock (Killed cause) page mode e = e
 
-late-waits : (late : Bool) (clock : ℕ) (x : Row) (page : ℕ) (mode : Mode) → cond late (killedRow Late) (deliveredRow clock x) .condition ≡ Waiting page mode → x .condition ≡ Waiting page mode
+pub late-waits : (late : Bool) (clock : ℕ) (x : Row) (page : ℕ) (mode : Mode) → cond late (killedRow Late) (deliveredRow clock x) .condition ≡ Waiting page mode → x .condition ≡ Waiting page mode
 unfolding deliveredRow
 late-waits true clock x page mode e = true-false (cc)
 late-waits false clock x page mode e = delivered-waits clock (x .condition) page mode e
@@ -66,42 +64,43 @@ module _ (s : State) (z : sound s ≡ true) (room clock : ℕ) (accepted : outco
   y : sound u ≡ true
   y = stepped s z room clock accepted
 
-  listed : fillsOf s (Tick room) ≡ allTried u .fills
+  pub listed : fillsOf s (Tick room) ≡ allTried u .fills
   unfolding fillsOf word
   listed = rw accepted
 
   after : outcome s (Tick room) .state ≡ allTried u .state
   after = ticked-is s z room clock accepted .0
 
-  -- after the tick each entry's row is idle or fetching and pins the slot of the entry, which has its page
+  -- each entry's row waited for the entry's page before the tick, and is granted it after the tick
+  pub listed-granted : EachFill (GrantedFor s (outcome s (Tick room) .state)) (fillsOf s (Tick room))
+  listed-granted = rw (listed, after)
+      (each-fill (GrantedFor u (allTried u .state)) (GrantedFor s (allTried u .state))
+      (λ f h. (
+        h .0,
+        late-waits (isLate (later s) (f .row)) (s .clock + 1) (rowAt s (f .row)) (f .page) (h .0)
+            (sym (ap (λ (x : Row). x .condition) (ticked-row s (facts s z .sized) (f .row) (h .2 .0 .row-is))) ∙ h .1),
+        h .2,
+      ))
+      (allTried u .fills) (fills-granted u y))
+
+  -- so it is idle or fetching, and pins the slot of the entry, which has its page
   pub listed-holds : EachFill (Listed (outcome s (Tick room) .state)) (fillsOf s (Tick room))
-  listed-holds = rw (listed, after) (fills-hold u y)
+  listed-holds = each-fill (GrantedFor s (outcome s (Tick room) .state)) (Listed (outcome s (Tick room) .state)) (λ f h. h .2 .0) (fillsOf s (Tick room)) listed-granted
+
+  pub listed-waited : EachFill (WaitedFor s) (fillsOf s (Tick room))
+  listed-waited = each-fill (GrantedFor s (outcome s (Tick room) .state)) (WaitedFor s) (λ f h. (h .0, h .1)) (fillsOf s (Tick room)) listed-granted
 
   -- no row has two entries
   pub listed-once : OnceEach (fillsOf s (Tick room))
   listed-once = rw listed (fills-once u y)
 
-  -- each entry's row waited for the entry's page before the tick
-  pub listed-waited : EachFill (WaitedFor s) (fillsOf s (Tick room))
-  listed-waited = rw listed
-      (each-fill (λ f. WaitedFor u f × Listed (allTried u .state) f) (WaitedFor s)
-      (λ f h. (
-        h .0 .0,
-        late-waits (isLate (later s) (f .row)) (s .clock + 1) (rowAt s (f .row)) (f .page) (h .0 .0)
-            (sym (ap (λ (x : Row). x .condition) (ticked-row s (facts s z .sized) (f .row) (h .1 .row-is))) ∙ h .0 .1),
-      ))
-      (allTried u .fills) (both-fills (WaitedFor u) (Listed (allTried u .state)) (allTried u .fills) (fills-waited u y) (fills-hold u y)))
-
   -- every row that the tick took from waiting to idle or fetching has an entry
   pub listed-all : (row : ℕ) → row < 32 → isWaiting (rowAt s row .condition) ≡ true → isIdleOrFetching (rowAt (outcome s (Tick room) .state) row .condition) ≡ true
       → HasRow row (fillsOf s (Tick room))
-  listed-all row b w i = rw listed (go (isLate (later s) row) refl (rw after at i))
+  listed-all row b w i = rw listed (go (isLate (later s) row) refl)
     where
-      e : rowAt u row ≡ cond (isLate (later s) row) (killedRow Late) (deliveredRow (s .clock + 1) (rowAt s row))
-      e = ticked-row s (facts s z .sized) row b
-
-      go : (late : Bool) → isLate (later s) row ≡ late → isIdleOrFetching (rowAt (allTried u .state) row .condition) ≡ true → HasRow row (allTried u .fills)
-      go true q k =
-          let d : rowAt u row ≡ killedRow Late = rw q at e in
-          true-false (sym (rw (tried-dead u y row b (rw d), d) at k))
-      go false q k = fills-all u y row b (rw e (still-waits (isLate (later s) row) (s .clock + 1) (rowAt s row) w q)) k
+      go : (late : Bool) → isLate (later s) row ≡ late → HasRow row (allTried u .fills)
+      go true q = true-false (sym (rw (late-stays s z room clock accepted row b q) at i))
+      go false q =
+          fills-all u y row b
+          (ap (λ (x : Row). isWaiting (x .condition)) (ticked-row s (facts s z .sized) row b) ∙ still-waits (isLate (later s) row) (s .clock + 1) (rowAt s row) w q) (rw after at i)

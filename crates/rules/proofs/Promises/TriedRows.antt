@@ -46,6 +46,19 @@ waits-unmade (Fetching due) e f = true-false (sym e)
 waits-unmade (Waiting page mode) e f = true-false (sym f)
 waits-unmade (Killed cause) e f = true-false (sym e)
 
+pub waiting-live : (x : Condition) → isWaiting x ≡ true → isLive x ≡ true
+waiting-live Free e = e
+waiting-live Idle e = refl
+waiting-live (Fetching due) e = refl
+waiting-live (Waiting page mode) e = refl
+waiting-live (Killed cause) e = e
+
+-- a row that is live afterwards was live, and has its deadline
+pub live-after : (x y : Row) → AfterTries x y → isLive (y .condition) ≡ true → (isLive (x .condition) ≡ true) × (y .deadline ≡ x .deadline)
+live-after x y (same e) l = (rw (← e) l, ap (λ (r : Row). r .deadline) e)
+live-after x y (taken e) l = true-false (sym (rw e at l))
+live-after x y (made k i d) l = (waiting-live (x .condition) k, d)
+
 after-trans : (x y w : Row) → AfterTries x y → AfterTries y w → AfterTries x w
 after-trans x y w (same e) p = rw (← e) p
 after-trans x y w (taken e) (same f) = taken (f ∙ e)
