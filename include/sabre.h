@@ -55,7 +55,7 @@
  * a call runs on the machine is no part of an answer, and may depend on the whole
  * state.
  *
- * The stack. A tick needs up to 261 KiB of the caller's stack, any other call up to
+ * The stack. A tick needs up to 246 KiB of the caller's stack, any other call up to
  * 160 KiB. Nothing is allocated elsewhere, and no call recurses. `host stack` measures
  * it (host/README.md) and fails at 512 KiB.
  */
@@ -78,7 +78,7 @@ extern "C" {
 #define SABRE_ENTRIES 32
 
 /* The version of the layout of docs/LAYOUT.md, which stands in an area from byte 8 on. */
-#define SABRE_LAYOUT_VERSION 2
+#define SABRE_LAYOUT_VERSION 3
 
 /* answer[0]. Other words may be added at the end. */
 enum sabre_word {
@@ -147,7 +147,8 @@ enum sabre_mode {
 uint32_t sabre_start(uint8_t *area, size_t len, uint32_t slots, uint32_t delay, uint64_t answer[4]);
 
 /*
- * Begins a transaction in a free row.
+ * Begins a transaction in a free row. Of rows of one level with equal deadlines the one that
+ * began earlier has the better priority, whatever their numbers.
  * level     0 (issue desk) to 3 (look-back room)
  * row       0 to 7, a row of that level
  * deadline  at or above the clock; the row may finish at it, and the tick that takes the clock

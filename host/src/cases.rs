@@ -1,12 +1,13 @@
-//! Session S, M1 to M11, the borders, the fills of ticks and the examples of the refusals of documents
-//! 01 and 02 (T-01, T-02, T-04), call by call. 16 is not used, and 18 is the player's.
+//! Session S, M1 to M11, the borders, the fills of ticks, the begin order and the examples of the
+//! refusals of documents 01 and 02 (T-01, T-02, T-04, T-06), call by call. 16 is not used, and 18 is the
+//! player's.
 
 use crate::calls::*;
 use crate::compare::check;
 use crate::lent::{difference, Lent};
 use crate::model::{
-    self, set_word, Cause, Condition, Holding, Mode, Pin, Row, Slot, State, Tally, BEGUN_AT,
-    BORDERS_AT, HEADER_END,
+    self, set_word, word, Cause, Condition, Holding, Mode, Pin, Row, RowId, Slot, State, Tally,
+    BEGUN_AT, BORDERS_AT, HEADER_END, ORDER_AT,
 };
 
 /// A call and the player's lines for it, with `; ` between them; without a bar, no slot and no page to
@@ -158,7 +159,7 @@ fn cases() -> Vec<Case> {
             ],
         ),
         case(
-            "M6 row 3 waits",
+            "M6 row 2 begun first, row 3 waits",
             vec![
                 (start(1, 1), "started 0"),
                 (begin(0, 2, 50), "begun 0"),
@@ -176,7 +177,7 @@ fn cases() -> Vec<Case> {
             ],
         ),
         case(
-            "M6 row 3 is taken",
+            "M6 row 2 begun first, row 3 is taken",
             vec![
                 (start(1, 1), "started 0"),
                 (begin(0, 2, 50), "begun 0"),
@@ -185,6 +186,36 @@ fn cases() -> Vec<Case> {
                 (TICK, "clock 1"),
                 (read(0, 2, 8), "fetch 2 | 0 -"),
                 (look(0, 3), "taken 0"),
+            ],
+        ),
+        case(
+            "M6 row 3 begun first, row 2 waits",
+            vec![
+                (start(1, 1), "started 0"),
+                (begin(0, 3, 50), "begun 0"),
+                (begin(0, 2, 50), "begun 0"),
+                (read(0, 3, 7), "fetch 1 | 0 -"),
+                (TICK, "clock 1"),
+                (read(0, 2, 8), "wait 0"),
+                (look(0, 3), "idle 0"),
+                (look(0, 2), "wait 0"),
+                (TICK, "clock 2"),
+                (look(0, 2), "wait 0"),
+                (end(0, 3), "ended 0"),
+                (TICK, "clock 3; fill 2 | 0 -"),
+                (look(0, 2), "fetch 4"),
+            ],
+        ),
+        case(
+            "M6 row 3 begun first, row 2 is taken",
+            vec![
+                (start(1, 1), "started 0"),
+                (begin(0, 3, 50), "begun 0"),
+                (begin(0, 2, 50), "begun 0"),
+                (read(0, 2, 7), "fetch 1 | 0 -"),
+                (TICK, "clock 1"),
+                (read(0, 3, 8), "fetch 2 | 0 -"),
+                (look(0, 2), "taken 0"),
             ],
         ),
         case(
@@ -814,7 +845,7 @@ fn cases() -> Vec<Case> {
             ],
         ),
         case(
-            "best priority first: level, then deadline, then row number",
+            "best priority first: level, then deadline, then begin order",
             vec![
                 (start(8, 1), "started 0"),
                 (begin(0, 7, 5), "begun 0"),
@@ -832,7 +863,7 @@ fn cases() -> Vec<Case> {
                 (TICK, "clock 1"),
                 (end(0, 7), "ended 0"),
                 // Level 0 does not see the page, which is then due at 3 for all.
-                (TICK, "clock 2; fill 6 | 0 -; fill 9 | 0 -; fill 10 | 0 -; fill 8 | 0 -; fill 24 | 0 -"),
+                (TICK, "clock 2; fill 6 | 0 -; fill 10 | 0 -; fill 9 | 0 -; fill 8 | 0 -; fill 24 | 0 -"),
                 (look(0, 6), "fetch 3"),
                 (look(1, 0), "fetch 3"),
                 (look(3, 0), "fetch 3"),
@@ -904,7 +935,360 @@ fn cases() -> Vec<Case> {
                 (look(0, 2), "idle 0"),
             ],
         ),
+        // Equal deadlines: who began earlier.
+        case(
+            "step 1: a row waits for a larger number that began earlier",
+            vec![
+                (start(2, 1), "started 0"),
+                (begin(0, 5, 50), "begun 0"),
+                (begin(0, 1, 50), "begun 0"),
+                (write(0, 5, 7), "fetch 1 | 0 -"),
+                (TICK, "clock 1"),
+                (read(0, 1, 7), "wait 0"),
+                (TICK, "clock 2"),
+                (look(0, 5), "idle 0"),
+                (look(0, 1), "wait 0"),
+            ],
+        ),
+        case(
+            "step 1: a row kills a smaller number that began later",
+            vec![
+                (start(2, 1), "started 0"),
+                (begin(0, 5, 50), "begun 0"),
+                (begin(0, 1, 50), "begun 0"),
+                (write(0, 1, 7), "fetch 1 | 0 -"),
+                (TICK, "clock 1"),
+                (write(0, 5, 7), "ready 0 | 0 -"),
+                (look(0, 1), "taken 0"),
+            ],
+        ),
+        case(
+            "step 1: a row kills a larger number that began later",
+            vec![
+                (start(2, 1), "started 0"),
+                (begin(0, 1, 50), "begun 0"),
+                (begin(0, 5, 50), "begun 0"),
+                (write(0, 5, 7), "fetch 1 | 0 -"),
+                (TICK, "clock 1"),
+                (write(0, 1, 7), "ready 0 | 0 -"),
+                (look(0, 5), "taken 0"),
+            ],
+        ),
+        case(
+            "choice e: the slot of a smaller number that began later",
+            vec![
+                (start(1, 1), "started 0"),
+                (begin(0, 3, 50), "begun 0"),
+                (begin(0, 2, 50), "begun 0"),
+                (read(0, 2, 7), "fetch 1 | 0 -"),
+                (TICK, "clock 1"),
+                (unpin(0, 2, 7), "unpinned 0"),
+                (read(0, 3, 8), "fetch 2 | 0 -"),
+                (look(0, 2), "idle 0"),
+                (view(0, 7), "unseen 0"),
+            ],
+        ),
+        case(
+            "choice e: not the slot of a larger number that began earlier",
+            vec![
+                (start(1, 1), "started 0"),
+                (begin(0, 3, 50), "begun 0"),
+                (begin(0, 2, 50), "begun 0"),
+                (read(0, 3, 7), "fetch 1 | 0 -"),
+                (TICK, "clock 1"),
+                (unpin(0, 3, 7), "unpinned 0"),
+                (read(0, 2, 8), "wait 0"),
+                (view(0, 7), "active 1"),
+            ],
+        ),
+        which_slot("choice c: the slot of the row begun last, a smaller number", 1, [4, 1], true),
+        which_slot("choice c: the slot of the row begun last, a larger number", 1, [1, 4], true),
+        which_slot("choice d: the slot of the row begun last, a smaller number", 1, [4, 1], false),
+        which_slot("choice d: the slot of the row begun last, a larger number", 1, [1, 4], false),
+        which_slot("choice e: the slot of the row begun last, a smaller number", 0, [4, 1], true),
+        which_slot("choice e: the slot of the row begun last, a larger number", 0, [1, 4], true),
+        which_slot("choice f: the slot of the row begun last, a smaller number", 0, [4, 1], false),
+        which_slot("choice f: the slot of the row begun last, a larger number", 0, [1, 4], false),
+        case(
+            "the best holder of a slot is the one begun first, and keeps it",
+            vec![
+                (start(2, 1), "started 0"),
+                (begin(1, 4, 50), "begun 0"),
+                (begin(1, 2, 50), "begun 0"),
+                (begin(1, 1, 50), "begun 0"),
+                (begin(0, 0, 90), "begun 0"),
+                (read(1, 4, 7), "fetch 1 | 0 -"),
+                (read(1, 2, 8), "fetch 1 | 1 -"),
+                (TICK, "clock 1"),
+                (read(1, 1, 7), "ready 0 | 0 -"),
+                (read(0, 0, 9), "fetch 2 | 1 -"),
+                (look(1, 4), "idle 0"),
+                (look(1, 2), "taken 0"),
+                (look(1, 1), "idle 0"),
+            ],
+        ),
+        case(
+            "the best holder of a slot is the one begun first, not the smallest number",
+            vec![
+                (start(2, 1), "started 0"),
+                (begin(1, 2, 50), "begun 0"),
+                (begin(1, 4, 50), "begun 0"),
+                (begin(1, 1, 50), "begun 0"),
+                (begin(0, 0, 90), "begun 0"),
+                (read(1, 4, 7), "fetch 1 | 0 -"),
+                (read(1, 2, 8), "fetch 1 | 1 -"),
+                (TICK, "clock 1"),
+                (read(1, 1, 7), "ready 0 | 0 -"),
+                (read(0, 0, 9), "fetch 2 | 0 -"),
+                (look(1, 4), "taken 0"),
+                (look(1, 2), "idle 0"),
+                (look(1, 1), "taken 0"),
+            ],
+        ),
+        case(
+            "a tick tries the row begun first, a larger number, and the other waits on",
+            vec![
+                (start(1, 1), "started 0"),
+                (begin(0, 0, 10), "begun 0"),
+                (begin(0, 5, 30), "begun 0"),
+                (begin(0, 1, 30), "begun 0"),
+                (read(0, 0, 7), "fetch 1 | 0 -"),
+                (read(0, 1, 8), "wait 0"),
+                (read(0, 5, 9), "wait 0"),
+                (end(0, 0), "ended 0"),
+                (TICK, "clock 1; fill 5 | 0 -"),
+                (look(0, 5), "fetch 2"),
+                (look(0, 1), "wait 0"),
+            ],
+        ),
+        case(
+            "a row that ends and begins again comes last",
+            vec![
+                (start(1, 1), "started 0"),
+                (begin(0, 2, 50), "begun 0"),
+                (begin(0, 3, 50), "begun 0"),
+                (end(0, 2), "ended 0"),
+                (begin(0, 2, 50), "begun 0"),
+                (read(0, 3, 7), "fetch 1 | 0 -"),
+                (TICK, "clock 1"),
+                (read(0, 2, 8), "wait 0"),
+            ],
+        ),
+        case(
+            "a killed row that ends and begins again comes last",
+            vec![
+                (start(1, 1), "started 0"),
+                (begin(0, 2, 0), "begun 0"),
+                (begin(0, 3, 50), "begun 0"),
+                (TICK, "clock 1"),
+                (look(0, 2), "late 0"),
+                (end(0, 2), "ended 0"),
+                (begin(0, 2, 50), "begun 0"),
+                (read(0, 3, 7), "fetch 2 | 0 -"),
+                (TICK, "clock 2"),
+                (read(0, 2, 8), "wait 0"),
+            ],
+        ),
+        case(
+            "begins and ends of another level do not matter",
+            vec![
+                (start(1, 1), "started 0"),
+                (begin(1, 0, 50), "begun 0"),
+                (begin(0, 3, 50), "begun 0"),
+                (begin(1, 3, 50), "begun 0"),
+                (begin(1, 2, 50), "begun 0"),
+                (end(1, 3), "ended 0"),
+                (begin(0, 2, 50), "begun 0"),
+                (begin(1, 3, 50), "begun 0"),
+                (end(1, 0), "ended 0"),
+                (read(0, 2, 7), "fetch 1 | 0 -"),
+                (TICK, "clock 1"),
+                (read(0, 3, 8), "fetch 2 | 0 -"),
+                (look(0, 2), "taken 0"),
+                (end(0, 3), "ended 0"),
+                (end(0, 2), "ended 0"),
+                // Of level 1 row 2 began before row 3.
+                (read(1, 3, 9), "fetch 2 | 0 -"),
+                (TICK, "clock 2"),
+                (read(1, 2, 10), "fetch 3 | 0 -"),
+                (look(1, 3), "taken 0"),
+            ],
+        ),
     ]
+}
+
+/// Two rows of a level with equal deadlines, begun in this turn, hold a slot each, and row 0 of level 0
+/// takes the slot of the second. Its page is the larger one, and its touch is no earlier.
+fn which_slot(name: &'static str, level: u32, rows: [u32; 2], unpinned: bool) -> Case {
+    let [first, second] = rows;
+    let mut steps = vec![
+        (start(2, 1), "started 0"),
+        (begin(level, first, 50), "begun 0"),
+        (begin(level, second, 50), "begun 0"),
+        (begin(0, 0, 40), "begun 0"),
+        (read(level, first, 7), "fetch 1 | 0 -"),
+        (read(level, second, 8), "fetch 1 | 1 -"),
+        (TICK, "clock 1"),
+    ];
+    if unpinned {
+        steps.extend([(unpin(level, first, 7), "unpinned 0"), (unpin(level, second, 8), "unpinned 0")]);
+    }
+    steps.extend([
+        (read(0, 0, 9), "fetch 2 | 1 -"),
+        (look(level, first), "idle 0"),
+        (look(level, second), if unpinned { "idle 0" } else { "taken 0" }),
+        (view(level, 8), "unseen 0"),
+    ]);
+    Case { name, clock: None, steps }
+}
+
+/// Calls, and after them the places of docs/LAYOUT.md: those rows, of all levels, that have one.
+fn orders() -> Vec<(&'static str, Vec<Call>, Vec<(RowId, u64)>)> {
+    let three = [start(1, 1), begin(0, 5, 9), begin(0, 2, 9), begin(0, 7, 3)];
+    let after = |calls: &[Call]| [&three[..], calls].concat();
+    let eight: Vec<Call> = [3, 0, 7, 1, 6, 2, 5, 4].map(|row| begin(2, row, 50)).to_vec();
+    vec![
+        ("a fresh start", vec![start(64, 1)], vec![]),
+        ("a begin has the last place", three.to_vec(), vec![((0, 2), 2), ((0, 5), 1), ((0, 7), 3)]),
+        (
+            "a refused begin has none",
+            after(&[begin(0, 2, 9), begin(0, 8, 9), begin(4, 1, 9), TICK, begin(0, 1, 0)]),
+            vec![((0, 2), 2), ((0, 5), 1), ((0, 7), 3)],
+        ),
+        ("the first ends", after(&[end(0, 5)]), vec![((0, 2), 1), ((0, 7), 2)]),
+        ("one between ends", after(&[end(0, 2)]), vec![((0, 5), 1), ((0, 7), 2)]),
+        ("the last ends", after(&[end(0, 7)]), vec![((0, 2), 2), ((0, 5), 1)]),
+        ("a refused end", after(&[end(0, 6), end(0, 8)]), vec![((0, 2), 2), ((0, 5), 1), ((0, 7), 3)]),
+        (
+            "one ends and begins again",
+            after(&[end(0, 5), begin(0, 5, 9)]),
+            vec![((0, 2), 1), ((0, 5), 3), ((0, 7), 2)],
+        ),
+        ("all end", after(&[end(0, 2), end(0, 7), end(0, 5)]), vec![]),
+        ("a start", after(&[start(1, 1)]), vec![]),
+        ("a refused start", after(&[start(65, 1)]), vec![((0, 2), 2), ((0, 5), 1), ((0, 7), 3)]),
+        (
+            "a row killed as late keeps its place",
+            vec![start(1, 1), begin(3, 4, 0), begin(3, 1, 9), TICK, begin(3, 0, 9)],
+            vec![((3, 0), 3), ((3, 1), 2), ((3, 4), 1)],
+        ),
+        (
+            "a row killed as late ends",
+            vec![start(1, 1), begin(3, 4, 0), begin(3, 1, 9), TICK, begin(3, 0, 9), end(3, 4)],
+            vec![((3, 0), 2), ((3, 1), 1)],
+        ),
+        (
+            "a row killed as taken keeps its place",
+            vec![start(1, 1), begin(0, 6, 9), begin(0, 3, 5), begin(0, 1, 9), read(0, 6, 7), read(0, 3, 8)],
+            vec![((0, 1), 3), ((0, 3), 2), ((0, 6), 1)],
+        ),
+        (
+            "a row killed as taken ends",
+            vec![
+                start(1, 1),
+                begin(0, 6, 9),
+                begin(0, 3, 5),
+                begin(0, 1, 9),
+                read(0, 6, 7),
+                read(0, 3, 8),
+                end(0, 6),
+            ],
+            vec![((0, 1), 2), ((0, 3), 1)],
+        ),
+        (
+            "fetching and waiting rows, ticks, unpins and questions",
+            after(&[
+                read(0, 5, 7),
+                read(0, 2, 8),
+                TICK,
+                unpin(0, 5, 7),
+                TICK,
+                look(0, 5),
+                view(0, 7),
+                count(0),
+            ]),
+            vec![((0, 2), 2), ((0, 5), 1), ((0, 7), 3)],
+        ),
+        (
+            "two levels",
+            vec![
+                start(1, 1),
+                begin(1, 4, 9),
+                begin(0, 6, 9),
+                begin(1, 0, 9),
+                begin(0, 4, 9),
+                begin(1, 6, 9),
+            ],
+            vec![((0, 4), 2), ((0, 6), 1), ((1, 0), 2), ((1, 4), 1), ((1, 6), 3)],
+        ),
+        (
+            "an end beside another level",
+            vec![
+                start(1, 1),
+                begin(1, 4, 9),
+                begin(0, 4, 9),
+                begin(1, 0, 9),
+                begin(0, 6, 9),
+                end(0, 4),
+                begin(2, 4, 9),
+            ],
+            vec![((0, 6), 1), ((1, 0), 2), ((1, 4), 1), ((2, 4), 1)],
+        ),
+        (
+            "eight of a level",
+            [&[start(1, 1)], &eight[..]].concat(),
+            vec![
+                ((2, 0), 2),
+                ((2, 1), 4),
+                ((2, 2), 6),
+                ((2, 3), 1),
+                ((2, 4), 8),
+                ((2, 5), 7),
+                ((2, 6), 5),
+                ((2, 7), 3),
+            ],
+        ),
+        (
+            "eight of a level, two end and one begins again",
+            [&[start(1, 1)], &eight[..], &[end(2, 0), end(2, 6), begin(2, 6, 60)]].concat(),
+            vec![
+                ((2, 1), 3),
+                ((2, 2), 4),
+                ((2, 3), 1),
+                ((2, 4), 6),
+                ((2, 5), 5),
+                ((2, 6), 7),
+                ((2, 7), 2),
+            ],
+        ),
+    ]
+}
+
+/// The places in these bytes, but those that are 0.
+fn places_in(bytes: &[u8]) -> Vec<(RowId, u64)> {
+    (0..32)
+        .map(|row| ((row / 8, row % 8), word(bytes, 72 + 8 * row as usize)))
+        .filter(|(_, place)| *place != 0)
+        .collect()
+}
+
+/// Makes the calls, and reads the places in the area.
+fn play_order(manager: &Manager, calls: &[Call], places: &[(RowId, u64)]) -> Result<u64, String> {
+    let mut lent = Lent::new(1, SIZE, 0xEE);
+    let mut state = State::fresh(1, 1);
+    for call in calls {
+        lent.renew_list(call);
+        let (got, expected) = (lent.call(manager, call), state.call(call, &mut Tally::default()));
+        if got != expected {
+            return Err(format!("{call:?}: {got:?} instead of {expected:?}"));
+        }
+    }
+    for (whose, found) in [("", places_in(lent.state_bytes())), ("model: ", places_in(&state.bytes()))] {
+        if found != places {
+            return Err(format!("{whose}{found:?} instead of {places:?}"));
+        }
+    }
+    Ok(calls.len() as u64)
 }
 
 /// Calls, and the entries that the last one, a tick, must put into its list, byte by byte.
@@ -1014,12 +1398,17 @@ fn areas() -> Vec<(&'static str, Vec<u8>, bool)> {
     let dormant = |state: &mut State| {
         state.filled.insert(63, Slot { page: 7, arrival: 5, dirty: false, lowest: 0, touch: 5 });
     };
+    let put = |state: &mut State, id: RowId, row: Row| {
+        state.joins(id);
+        state.rows.insert(id, row);
+    };
+    let killed = |cause| Row { condition: Condition::Killed(cause), deadline: 0 };
     // A row of that level that pins page 7, under those borders.
     let pinned = |level, pin, first, second, third| {
         begun(&|state: &mut State| {
             dormant(state);
             state.borders = [first, second, third];
-            state.rows.insert((level, 0), idle(9));
+            put(state, (level, 0), idle(9));
             state.holdings.insert((63, (level, 0)), Holding { pin, arrival: 5, touch: 5 });
         })
         .bytes()
@@ -1029,30 +1418,87 @@ fn areas() -> Vec<(&'static str, Vec<u8>, bool)> {
         begun(&|state: &mut State| {
             state.borders = [first, second, third];
             let condition = Condition::Waiting { page: 7, mode };
-            state.rows.insert((level, 0), Row { condition, deadline: 9 });
+            put(state, (level, 0), Row { condition, deadline: 9 });
         })
         .bytes()
     };
     let deadline = |deadline| {
-        begun(&|state: &mut State| {
-            state.rows.insert((0, 0), idle(deadline));
-        })
-        .bytes()
+        begun(&|state: &mut State| put(state, (0, 0), idle(deadline))).bytes()
     };
     let with = |mut bytes: Vec<u8>, at, value| {
         set_word(&mut bytes, at, value);
         bytes
     };
+    // Idle rows 0, 1 and so on of level 1, with these places.
+    let placed = |places: &[u64]| {
+        let mut state = begun(&|_: &mut State| {});
+        for number in 0..places.len() as u64 {
+            put(&mut state, (1, number), idle(9));
+        }
+        let mut bytes = state.bytes();
+        for (number, place) in places.iter().enumerate() {
+            set_word(&mut bytes, 72 + 8 * (8 + number), *place);
+        }
+        bytes
+    };
+    let one = |row: Row| begun(&|state: &mut State| put(state, (0, 0), row)).bytes();
+    let one_waits = Row { condition: Condition::Waiting { page: 7, mode: Mode::Read }, deadline: 9 };
+    let two_levels = begun(&|state: &mut State| {
+        put(state, (0, 6), idle(9));
+        put(state, (1, 6), idle(9));
+    })
+    .bytes();
+    let after_ends = with(begun(&|_: &mut State| {}).bytes(), ORDER_AT, 1);
     let mut version_1 = with(State::fresh(64, 1).bytes(), 8, 1);
     version_1[BORDERS_AT..HEADER_END].fill(0);
+    let mut version_2 = with(placed(&[2, 1]), 8, 2);
+    version_2[ORDER_AT..HEADER_END].fill(0);
     let none = |_: &mut State| {};
     vec![
         ("a deadline below the clock", deadline(4), false),
         ("a deadline at the clock", deadline(5), true),
         ("version 1 of the layout", version_1.clone(), false),
-        ("the words of version 1 under version 2", with(version_1, 8, 2), true),
+        ("the words of version 1 under version 3", with(version_1, 8, 3), true),
         ("version 1 and borders", with(State::fresh(64, 1).bytes(), 8, 1), false),
-        ("version 3", with(State::fresh(64, 1).bytes(), 8, 3), false),
+        ("version 2 of the layout, nothing begun", with(State::fresh(64, 1).bytes(), 8, 2), false),
+        ("version 2 of the layout, two rows", version_2.clone(), false),
+        ("version 2 and places", with(placed(&[2, 1]), 8, 2), false),
+        ("two rows of version 2 under version 3", with(version_2, 8, 3), false),
+        ("version 4", with(State::fresh(64, 1).bytes(), 8, 4), false),
+        ("order: 1", placed(&[1]), true),
+        ("order: 1 2", placed(&[1, 2]), true),
+        ("order: 2 1", placed(&[2, 1]), true),
+        ("order: 3 1 2", placed(&[3, 1, 2]), true),
+        ("order: 8 7 6 5 4 3 2 1", placed(&[8, 7, 6, 5, 4, 3, 2, 1]), true),
+        ("order: a late row", one(killed(Cause::Late)), true),
+        ("order: a taken row", one(killed(Cause::Taken)), true),
+        ("order: a free row has the next place", with(placed(&[2, 1]), 72 + 8 * 10, 3), false),
+        ("order: a free row has the last of eight", with(placed(&[7, 6, 5, 4, 3, 2, 1]), 72 + 8 * 15, 8), false),
+        ("order: a free row has a taken place", with(placed(&[2, 1]), 72 + 8 * 10, 2), false),
+        ("order: a free row of another level has a place", with(placed(&[2, 1]), 72, 1), false),
+        ("order: every row free and a place", after_ends.clone(), false),
+        ("order: nothing begun and a place", with(after_ends, BEGUN_AT, 0), false),
+        ("order: an idle row has none", placed(&[0]), false),
+        ("order: a waiting row has none", with(one(one_waits), 72, 0), false),
+        ("order: a late row has none", with(one(killed(Cause::Late)), 72, 0), false),
+        ("order: a taken row has none", with(one(killed(Cause::Taken)), 72, 0), false),
+        ("order: one of two has none", placed(&[1, 0]), false),
+        ("order: the last of eight has none", placed(&[1, 2, 3, 4, 5, 6, 7, 0]), false),
+        ("order: place 1 twice", placed(&[1, 1]), false),
+        ("order: place 2 twice", placed(&[2, 1, 2]), false),
+        ("order: place 2 twice, and no third", placed(&[1, 2, 2]), false),
+        ("order: place 1 twice, and no second", placed(&[1, 1, 3]), false),
+        ("order: from 2 on", placed(&[2]), false),
+        ("order: 1 3", placed(&[1, 3]), false),
+        ("order: 3 1", placed(&[3, 1]), false),
+        ("order: place 8 of one row", placed(&[8]), false),
+        ("order: place 9", placed(&[9]), false),
+        ("order: place 9 of the last of eight", placed(&[1, 2, 3, 4, 5, 6, 7, 9]), false),
+        ("order: place 257", placed(&[257]), false),
+        ("order: a place above 32 bits", placed(&[(1 << 32) + 1]), false),
+        ("order: the largest word", placed(&[u64::MAX]), false),
+        ("order: each level from 1", two_levels.clone(), true),
+        ("order: counted over two levels", with(two_levels, 72 + 8 * 14, 2), false),
         ("borders 0 0 0", bordered(0, 0, 0), true),
         ("borders 4096 4096 4096", bordered(4096, 4096, 4096), true),
         ("borders 0 0 4097", bordered(0, 0, 4097), false),
@@ -1063,21 +1509,16 @@ fn areas() -> Vec<(&'static str, Vec<u8>, bool)> {
         ("begun and every row free", begun(&none).bytes(), true),
         ("a begun mark of 2", with(begun(&none).bytes(), BEGUN_AT, 2), false),
         ("a begun mark above 32 bits", with(begun(&none).bytes(), BEGUN_AT, 1 << 32), false),
-        ("a word after the begun mark", with(begun(&none).bytes(), HEADER_END, 1), false),
+        ("a word after the order", with(begun(&none).bytes(), HEADER_END, 1), false),
         ("not begun after ticks", before(&none), true),
         (
             "not begun and an idle row",
-            before(&|state: &mut State| {
-                state.rows.insert((0, 0), idle(9));
-            }),
+            before(&|state: &mut State| put(state, (0, 0), idle(9))),
             false,
         ),
         (
             "not begun and a killed row",
-            before(&|state: &mut State| {
-                let condition = Condition::Killed(Cause::Taken);
-                state.rows.insert((3, 7), Row { condition, deadline: 0 });
-            }),
+            before(&|state: &mut State| put(state, (3, 7), killed(Cause::Taken))),
             false,
         ),
         ("not begun and a filled slot", before(&dormant), false),
@@ -1104,7 +1545,10 @@ fn areas() -> Vec<(&'static str, Vec<u8>, bool)> {
 
 /// Plays every case through a manager and through the model.
 pub fn play_cases(manager: &Manager) -> Result<(), String> {
-    println!("cases: session S, M1 to M11, the borders, fills, the refusals; {}", manager.name);
+    println!(
+        "cases: session S, M1 to M11, the borders, fills, the begin order, the refusals; {}",
+        manager.name
+    );
     let mut made = 0;
     for case in cases() {
         let mut lent = Lent::new(3, SIZE + 5, 0xEE);
@@ -1136,7 +1580,20 @@ pub fn play_cases(manager: &Manager) -> Result<(), String> {
         made += 1;
     }
     for (name, area, sound) in areas() {
-        for call in [look(0, 0), borders(1, 0, 0), borders(1, 2, 3), TICK, tick_with(255)] {
+        let calls = [
+            look(0, 0),
+            borders(1, 0, 0),
+            borders(1, 2, 3),
+            TICK,
+            tick_with(255),
+            begin(1, 7, 50),
+            end(1, 0),
+            read(1, 0, 7),
+            unpin(0, 0, 7),
+            view(3, 7),
+            count(3),
+        ];
+        for call in calls {
             let mut lent = Lent::new(0, SIZE, 0xEE);
             lent.area().copy_from_slice(&area);
             let mut bytes = area.clone();
@@ -1153,7 +1610,11 @@ pub fn play_cases(manager: &Manager) -> Result<(), String> {
         made += play_list(manager, &calls, &entries)
             .map_err(|text| format!("cases: list, {name}: {text}"))?;
     }
-    println!("  {made} calls as documents 01 and 02 (T-01, T-02, T-04) say");
+    for (name, calls, places) in orders() {
+        made += play_order(manager, &calls, &places)
+            .map_err(|text| format!("cases: order, {name}: {text}"))?;
+    }
+    println!("  {made} calls as documents 01 and 02 (T-01, T-02, T-04, T-06) say");
     Ok(())
 }
 
@@ -1198,7 +1659,11 @@ mod tests {
         m3: "M3";
         m4: "M4";
         m5: "M5";
-        m6: "M6 row 3 waits", "M6 row 3 is taken";
+        m6:
+            "M6 row 2 begun first, row 3 waits",
+            "M6 row 2 begun first, row 3 is taken",
+            "M6 row 3 begun first, row 2 waits",
+            "M6 row 3 begun first, row 2 is taken";
         m7: "M7";
         m8: "M8 level 0 fetches", "M8 level 3 is ready";
         m9: "M9";
@@ -1255,10 +1720,123 @@ mod tests {
             "two rows wait for one slot, and the better one has it",
             "a better row's try kills a worse waiting row by its pin, and it is not tried",
             "a better row's try kills a worse waiting row by its slot",
-            "best priority first: level, then deadline, then row number",
+            "best priority first: level, then deadline, then begin order",
             "a wait is ready at once by a seen page, and at level 3 by a dormant one",
             "a row is filled with the page that an earlier fill wrote back",
             "a try in vain leaves the row, and a worse row can be filled after it";
+        equal_deadlines:
+            "step 1: a row waits for a larger number that began earlier",
+            "step 1: a row kills a smaller number that began later",
+            "step 1: a row kills a larger number that began later",
+            "choice e: the slot of a smaller number that began later",
+            "choice e: not the slot of a larger number that began earlier",
+            "choice c: the slot of the row begun last, a smaller number",
+            "choice c: the slot of the row begun last, a larger number",
+            "choice d: the slot of the row begun last, a smaller number",
+            "choice d: the slot of the row begun last, a larger number",
+            "choice e: the slot of the row begun last, a smaller number",
+            "choice e: the slot of the row begun last, a larger number",
+            "choice f: the slot of the row begun last, a smaller number",
+            "choice f: the slot of the row begun last, a larger number",
+            "the best holder of a slot is the one begun first, and keeps it",
+            "the best holder of a slot is the one begun first, not the smallest number",
+            "a tick tries the row begun first, a larger number, and the other waits on",
+            "a row that ends and begins again comes last",
+            "a killed row that ends and begins again comes last",
+            "begins and ends of another level do not matter";
+    }
+
+    /// Those too that stand in no list above.
+    #[test]
+    fn all_cases() {
+        cases().iter().for_each(|case| play_model(case.name));
+    }
+
+    #[test]
+    fn places_row_by_row() {
+        for (name, calls, places) in orders() {
+            let mut state = State::fresh(1, 1);
+            for call in calls {
+                state.call(&call, &mut Tally::default());
+            }
+            assert_eq!(places_in(&state.bytes()), places, "{name}");
+            assert_eq!(model::read(&state.bytes()), Ok(state), "{name}");
+        }
+    }
+
+    /// Each way to break an order is named by itself.
+    #[test]
+    fn broken_orders() {
+        let named = |name: &str| -> Vec<&'static str> {
+            let areas = areas();
+            let (_, bytes, _) = areas.iter().find(|(other, ..)| *other == name).unwrap();
+            model::read(bytes).unwrap_err().into_iter().collect()
+        };
+        for (clause, names) in [
+            (
+                model::ORDER_FREE,
+                &[
+                    "order: a free row has the next place",
+                    "order: a free row has the last of eight",
+                    "order: a free row of another level has a place",
+                    "order: every row free and a place",
+                    "order: nothing begun and a place",
+                ][..],
+            ),
+            (
+                model::ORDER_NONE,
+                &[
+                    "two rows of version 2 under version 3",
+                    "order: an idle row has none",
+                    "order: a waiting row has none",
+                    "order: a late row has none",
+                    "order: a taken row has none",
+                    "order: one of two has none",
+                    "order: the last of eight has none",
+                ],
+            ),
+            (
+                model::PLACE_TWICE,
+                &[
+                    "order: place 1 twice",
+                    "order: place 2 twice",
+                    "order: place 2 twice, and no third",
+                ],
+            ),
+            (
+                model::PLACE_GAP,
+                &[
+                    "order: from 2 on",
+                    "order: 1 3",
+                    "order: 3 1",
+                    "order: place 8 of one row",
+                    "order: counted over two levels",
+                ],
+            ),
+            (
+                model::PLACE_RANGE,
+                &[
+                    "order: place 9",
+                    "order: place 9 of the last of eight",
+                    "order: place 257",
+                    "order: a place above 32 bits",
+                    "order: the largest word",
+                ],
+            ),
+        ] {
+            for name in names {
+                assert_eq!(named(name), [clause], "{name}");
+            }
+        }
+        let both = [model::PLACE_GAP, model::PLACE_TWICE];
+        assert_eq!(named("order: place 1 twice, and no second"), both);
+        let both = [model::ORDER_FREE, model::PLACE_TWICE];
+        assert_eq!(named("order: a free row has a taken place"), both);
+        // A state may name a row again, an area may not.
+        let mut state = State::fresh(1, 1);
+        state.call(&begin(0, 0, 9), &mut Tally::default());
+        state.joins((0, 0));
+        assert_eq!(state.broken().into_iter().collect::<Vec<_>>(), [model::ORDER_AGAIN]);
     }
 
     #[test]
@@ -1277,6 +1855,20 @@ mod tests {
             wanted.resize(length, 0xA5);
             assert_eq!(list, wanted, "{name}");
         }
+    }
+
+    #[test]
+    fn places_are_as_the_layout_says() {
+        let mut state = State::fresh(1, 1);
+        for call in [begin(0, 0, 9), begin(3, 7, 9), begin(0, 1, 9), begin(2, 0, 9)] {
+            state.call(&call, &mut Tally::default());
+        }
+        let bytes = state.bytes();
+        let mut expected = vec![0; 440];
+        for (at, place) in [(72, 1), (80, 2), (200, 1), (320, 1)] {
+            expected[at - 72] = place;
+        }
+        assert_eq!(bytes[72..512], expected);
     }
 
     #[test]
@@ -1322,7 +1914,7 @@ mod tests {
         assert_eq!(&bytes[..8], b"SABREBUF");
         let mut expected = vec![0; 65_536];
         expected[..8].copy_from_slice(b"SABREBUF");
-        expected[8] = 2;
+        expected[8] = 3;
         expected[16] = 64;
         expected[24] = 255;
         expected[41] = 4;

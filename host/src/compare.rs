@@ -2,7 +2,7 @@
 
 use crate::calls::*;
 use crate::lent::{difference, Lent};
-use crate::model::{self, list_after, Condition, Row, State, Tally, EVENTS};
+use crate::model::{self, list_after, Condition, Row, RowId, State, Tally, EVENTS};
 use crate::random::Random;
 use crate::scenario::{wild, Scenario, KIND_TICK};
 use crate::waits;
@@ -11,13 +11,42 @@ pub const CALLS: u64 = 1_000_000;
 
 const LEVELS: &[u64] = &[0, 1, 2, 3];
 
+/// The rows of all levels that are not free, the first begun first, by the calls that were accepted.
+#[derive(Default)]
+struct Begun(Vec<RowId>);
+
+impl Begun {
+    fn note(&mut self, call: &Call) {
+        match *call {
+            Call::Start { .. } => self.0.clear(),
+            Call::Begin { level, row, .. } => self.0.push((level.into(), row.into())),
+            Call::End { level, row } => self.0.retain(|id| *id != (level.into(), row.into())),
+            _ => {}
+        }
+    }
+
+    /// Each level's begin order is that of its own rows.
+    fn judge(&self, state: &State) -> Result<(), String> {
+        for level in 0..4 {
+            let of_level: Vec<u64> =
+                self.0.iter().filter(|row| row.0 == level).map(|row| row.1).collect();
+            if state.order[&level] != of_level {
+                let order = &state.order[&level];
+                return Err(format!("T-06: level {level}: order {order:?}, begun {of_level:?}"));
+            }
+        }
+        Ok(())
+    }
+}
+
 /// One call on both sides. The area holds the model's bytes before it, and must after it; so what is
-/// judged of an accepted tick is judged of both.
+/// judged of an accepted call is judged of both.
 fn step(
     manager: &Manager,
     lent: &mut Lent,
     bytes: &mut Vec<u8>,
     state: &mut State,
+    begun: &mut Begun,
     call: &Call,
     tally: &mut Tally,
 ) -> Result<Outcome, String> {
@@ -33,6 +62,10 @@ fn step(
         Some(before) if changed => waits::judge(&before, expected.answer[1], state, tally)?,
         _ => {}
     }
+    if expected.status == 0 {
+        begun.note(call);
+    }
+    begun.judge(state)?;
     Ok(expected)
 }
 
@@ -137,6 +170,7 @@ fn run(
         check(manager, &mut lent, &bytes, &call, &expected).map_err(|text| at_call(made, text))?;
     }
 
+    let mut begun = Begun::default();
     if random.percent(6) {
         state = scenario.late_start(random);
         bytes = state.bytes();
@@ -144,7 +178,7 @@ fn run(
     } else {
         let call = Call::Start { slots: scenario.slots, delay: scenario.delay };
         made += 1;
-        step(manager, &mut lent, &mut bytes, &mut state, &call, tally)
+        step(manager, &mut lent, &mut bytes, &mut state, &mut begun, &call, tally)
             .map_err(|text| at_call(made, text))?;
     }
     // In some runs the best live row ends now and then.
@@ -156,7 +190,7 @@ fn run(
         } else {
             let ends = if clears && random.one_in(8) { best_ends(&state) } else { None };
             let call = ends.unwrap_or_else(|| scenario.call(random, &state, LEVELS));
-            step(manager, &mut lent, &mut bytes, &mut state, &call, tally).map(|_| ())
+            step(manager, &mut lent, &mut bytes, &mut state, &mut begun, &call, tally).map(|_| ())
         };
         done.map_err(|text| at_call(made, text))?;
         // The model keeps itself sound.
@@ -170,9 +204,20 @@ fn run(
     Ok(made)
 }
 
+/// Prints how often each thing occurred, and adds the names of those that never did.
+pub fn print_counts(title: &str, names: &[(String, u64)], missing: &mut Vec<String>) {
+    println!("  {title}");
+    for (name, times) in names {
+        println!("    {times:>9}  {name}");
+        if *times == 0 {
+            missing.push(name.clone());
+        }
+    }
+}
+
 pub fn compare(manager: &Manager, calls: u64, seed: u64) -> Result<(), String> {
     println!("compare: {calls} calls, seed {seed}, model against {}", manager.name);
-    let mut tally = Tally::default();
+    let mut tally = Tally::with_ties();
     let mut made = 0;
     let mut runs = 0;
     while made < calls {
@@ -182,15 +227,8 @@ pub fn compare(manager: &Manager, calls: u64, seed: u64) -> Result<(), String> {
     }
     println!("  {made} calls in {runs} runs agree in status, answer, area and list");
     let mut missing = Vec::new();
-    let mut list = |title: &str, names: &[(String, u64)]| {
-        println!("  {title}");
-        for (name, times) in names {
-            println!("    {times:>9}  {name}");
-            if *times == 0 {
-                missing.push(name.clone());
-            }
-        }
-    };
+    let mut list =
+        |title: &str, names: &[(String, u64)]| print_counts(title, names, &mut missing);
     let named = |names: &[&str], times: &[u64]| -> Vec<(String, u64)> {
         names.iter().zip(times).map(|(name, times)| (name.to_string(), *times)).collect()
     };
@@ -208,6 +246,7 @@ pub fn compare(manager: &Manager, calls: u64, seed: u64) -> Result<(), String> {
     let cases: Vec<(String, u64)> =
         waits::CASES.iter().map(|case| (case.to_string(), tally.of(case))).collect();
     list("T-05: rows that wait after a tick, and the best live row that waited before it", &cases);
+    missing.extend(tally.ties.unwrap().print());
     if missing.is_empty() {
         Ok(())
     } else {

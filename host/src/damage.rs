@@ -5,8 +5,8 @@ use crate::calls::*;
 use crate::compare::check;
 use crate::lent::Lent;
 use crate::model::{
-    self, holding_at, row_at, set_word, slot_at, word, State, Tally, BEGUN_AT, BORDERS_AT, CLAUSES,
-    HEADER_END, HOLDINGS_AT, ROWS_AT, SLOTS_AT, TAIL_AT,
+    self, holding_at, place_at, row_at, set_word, slot_at, word, State, Tally, BEGUN_AT, BORDERS_AT,
+    CLAUSES, HEADER_END, HOLDINGS_AT, ORDER_AT, ROWS_AT, SLOTS_AT, TAIL_AT,
 };
 use crate::random::Random;
 use crate::scenario::{made_up, wild, Scenario, KIND_BORDERS, KIND_TICK};
@@ -92,14 +92,81 @@ fn near_number(random: &mut Random, old: u64) -> u64 {
     }
 }
 
+/// Changes the places of a level's rows.
+fn damage_order(random: &mut Random, bytes: &mut [u8], state: &State) {
+    let level = some_row(random, state).0;
+    let at = |number: u64| place_at((level, number));
+    let places: Vec<u64> = (0..8).map(|number| word(bytes, at(number))).collect();
+    let last = *places.iter().max().unwrap();
+    let (placed, others): (Vec<u64>, Vec<u64>) =
+        (0..8).partition(|number| places[*number as usize] != 0);
+    let one = if placed.is_empty() { random.below(8) } else { random.pick(&placed) };
+    let other = if placed.is_empty() { random.below(8) } else { random.pick(&placed) };
+    match random.below(10) {
+        // a place for a row that has none, the next one or any
+        0 if !others.is_empty() => {
+            let place = if random.percent(50) { last + 1 } else { random.between(1, 8) };
+            set_word(bytes, at(random.pick(&others)), place);
+        }
+        // none for a row that has one; those after it close up or do not
+        1 => {
+            let left = places[one as usize];
+            set_word(bytes, at(one), 0);
+            if random.percent(50) {
+                for number in placed.iter().filter(|number| places[**number as usize] > left) {
+                    set_word(bytes, at(*number), places[*number as usize] - 1);
+                }
+            }
+        }
+        // the place of another
+        2 => set_word(bytes, at(one), places[other as usize]),
+        // a place left out, those after it one further
+        3 => {
+            let from = places[one as usize];
+            for number in placed.iter().filter(|number| places[**number as usize] >= from) {
+                set_word(bytes, at(*number), places[*number as usize] + 1);
+            }
+        }
+        // a place above 8, or one that is right by its lower bytes alone
+        4 => {
+            let place = places[one as usize];
+            let far = [9, 10, 255, 256 + place, (1 << 32) + place, (1 << 63) + place, u64::MAX];
+            set_word(bytes, at(one), random.pick(&far));
+        }
+        // another order of the same rows
+        5 => swap(bytes, at(one), at(other), 8),
+        6 => {
+            let shuffled = random.shuffled(placed.clone());
+            for (number, from) in placed.iter().zip(shuffled) {
+                set_word(bytes, at(*number), places[from as usize]);
+            }
+        }
+        // the order of another level, or places that go on from it
+        7 => swap(bytes, at(0), place_at((random.below(4), 0)), 64),
+        8 => {
+            let further = random.between(1, 8);
+            for number in &placed {
+                set_word(bytes, at(*number), places[*number as usize] + further);
+            }
+        }
+        _ => {
+            let near = near_number(random, places[one as usize]);
+            set_word(bytes, at(one), near);
+        }
+    }
+}
+
 /// Changes something in the bytes.
 fn damage(random: &mut Random, bytes: &mut [u8], state: &State) {
-    match random.below(27) {
+    match random.below(31) {
         // single bytes anywhere
         0 => bytes[random.below(SIZE as u64) as usize] = random.next() as u8,
         1 => bytes[random.below(SIZE as u64) as usize] ^= 1 << random.below(8),
         // the header
-        2 => bytes[random.below(HEADER_END as u64) as usize] ^= 1 << random.below(8),
+        2 => {
+            let end = random.pick(&[ORDER_AT, HEADER_END]) as u64;
+            bytes[random.below(end) as usize] ^= 1 << random.below(8);
+        }
         3 => {
             let at = random.pick(&[0, 8, 16, 24, 32, 32, 40, 48, 56, 64]);
             let value = if random.percent(50) {
@@ -233,6 +300,7 @@ fn damage(random: &mut Random, bytes: &mut [u8], state: &State) {
             set_word(bytes, BEGUN_AT, 0);
             let (rows, slots) = (random.percent(50), random.percent(50));
             if !rows {
+                bytes[ORDER_AT..HEADER_END].fill(0);
                 bytes[ROWS_AT..SLOTS_AT].fill(0);
             }
             if !slots {
@@ -242,11 +310,13 @@ fn damage(random: &mut Random, bytes: &mut [u8], state: &State) {
                 bytes[HOLDINGS_AT..TAIL_AT].fill(0);
             }
         }
-        // version 1 of the layout, which has no borders and no begun mark
+        // versions 1 and 2 of the layout, which have no order, and version 1 no borders and no begun mark
         25 => {
-            set_word(bytes, 8, 1);
-            bytes[BORDERS_AT..HEADER_END].fill(0);
+            let (version, from) = random.pick(&[(1, BORDERS_AT), (2, ORDER_AT)]);
+            set_word(bytes, 8, version);
+            bytes[from..HEADER_END].fill(0);
         }
+        26..=29 => damage_order(random, bytes, state),
         // a row whose numbers belong to another condition
         _ => {
             let at = row_at(some_row(random, state));

@@ -59,7 +59,7 @@ pub fn lengths(manager: &Manager, seed: u64) -> Result<(), String> {
     let mut made = 0;
 
     // Short areas: refusal 1 for every call, every byte as before.
-    for length in [0, 1, 2, 7, 8, 40, 71, 72, 100, 511, 512, 4_096, 32_768, 65_528, 65_534, 65_535] {
+    for length in [0, 1, 2, 7, 8, 40, 71, 72, 100, 327, 328, 511, 512, 4_096, 32_768, 65_528, 65_534, 65_535] {
         for state in &sound {
             for call in every_call() {
                 for offset in [0, 1] {
@@ -265,7 +265,7 @@ mod fenced {
     pub fn fenced(manager: &Manager, sound: &[State]) -> Result<(), String> {
         let mut field = Field::new();
         let mut made = 0;
-        for length in [0, 1, 39, 71, 100, 511, 4_096, 65_535, SIZE] {
+        for length in [0, 1, 39, 71, 100, 327, 511, 4_096, 65_535, SIZE] {
             for state in sound {
                 for call in every_call() {
                     for last in [false, true] {

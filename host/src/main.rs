@@ -18,6 +18,7 @@ mod scenario;
 mod stack;
 mod states;
 mod stored;
+mod ties;
 mod waits;
 
 use std::io::{Read, Write};
@@ -31,7 +32,7 @@ const SEED: u64 = 1;
 
 const USAGE: &str = "\
 host [all]              every test below with its default size
-host cases              session S, M1 to M11, borders, fills and the refusals
+host cases              session S, M1 to M11, borders, fills, the begin order and the refusals
 host compare [N [SEED]] N random calls, model against manager, and who waits after ticks
 host pairs [N [SEED]]   N pairs of runs that differ in higher calls and in borders
 host damage [N [SEED]]  N damaged areas

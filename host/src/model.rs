@@ -1,7 +1,8 @@
-//! A model of documents 01 and 02 (T-01, T-02, T-04), written from their text with maps and lists. It is
-//! meant to be read beside the documents, not to be fast.
+//! A model of documents 01 and 02 (T-01, T-02, T-04, T-06), written from their text with maps and lists.
+//! It is meant to be read beside the documents, not to be fast.
 
 use crate::calls::*;
+use crate::ties;
 use std::collections::{BTreeMap, BTreeSet};
 
 /// Level and row number.
@@ -69,6 +70,8 @@ pub struct State {
     /// A row has begun since start.
     pub begun: bool,
     pub rows: BTreeMap<RowId, Row>,
+    /// The begin order of each level: the numbers of its rows that are not free, the first begun first.
+    pub order: BTreeMap<u64, Vec<u64>>,
     /// The filled slots.
     pub filled: BTreeMap<u64, Slot>,
     pub holdings: BTreeMap<(u64, RowId), Holding>,
@@ -148,9 +151,15 @@ pub struct Tally {
     pub words: [u64; 20],
     pub refusals: [u64; 22],
     pub events: BTreeMap<&'static str, u64>,
+    /// Nothing where they are not counted, which takes time.
+    pub ties: Option<ties::Ties>,
 }
 
 impl Tally {
+    pub fn with_ties() -> Tally {
+        Tally { ties: Some(ties::Ties::default()), ..Tally::default() }
+    }
+
     pub fn note(&mut self, event: &'static str) {
         *self.events.entry(event).or_insert(0) += 1;
     }
@@ -168,8 +177,8 @@ impl Tally {
     }
 }
 
-/// Everything that the model notes of borders, begins, requests, kills and ticks. A good random run
-/// has them all.
+/// Everything that the model notes of borders, begins, ends, requests, kills and ticks. A good random
+/// run has them all.
 pub const EVENTS: &[&str] = &[
     "borders: set in place of 1,024, 2,048 and 3,072",
     "borders: set in place of others",
@@ -180,6 +189,12 @@ pub const EVENTS: &[&str] = &[
     "borders: refused 20 with every row free",
     "begin: the first, under set borders",
     "begin: the deadline is the clock",
+    "begin: after a row of a larger number of its level",
+    "begin: the last of eight",
+    "end: the first in the order, before others",
+    "end: between others in the order",
+    "end: the last in the order, after others",
+    "end: a killed row before others in the order",
     "request: refused 13 by set borders alone",
     "request: refused 14 by set borders alone",
     "request: let in by set borders alone",
@@ -248,7 +263,8 @@ pub const EVENTS: &[&str] = &[
     "tick: a fill after a try in vain",
 ];
 
-enum Choice {
+#[derive(Clone, Copy, PartialEq, Eq)]
+pub enum Choice {
     Slot(u64, char),
     Nowhere,
 }
@@ -268,6 +284,7 @@ impl State {
             borders: FIRST_BORDERS,
             begun: false,
             rows,
+            order: (0..4).map(|level| (level, Vec::new())).collect(),
             filled: BTreeMap::new(),
             holdings: BTreeMap::new(),
         }
@@ -302,13 +319,28 @@ impl State {
         allowed(self.borders, level, page, mode)
     }
 
-    /// Level, then deadline, then row number; smaller is better.
-    fn priority(&self, row: RowId) -> (u64, u64, u64) {
-        (row.0, self.rows[&row].deadline, row.1)
+    /// How many rows stand before this one in its level's begin order.
+    fn before(&self, row: RowId) -> usize {
+        self.order[&row.0].iter().position(|number| *number == row.1).unwrap()
     }
 
-    fn better(&self, one: RowId, other: RowId) -> bool {
+    /// Level, then deadline, then who began earlier; smaller is better.
+    pub fn priority(&self, row: RowId) -> (u64, u64, usize) {
+        (row.0, self.rows[&row].deadline, self.before(row))
+    }
+
+    pub fn better(&self, one: RowId, other: RowId) -> bool {
         self.priority(one) < self.priority(other)
+    }
+
+    /// The row comes last in its level's begin order.
+    pub fn joins(&mut self, row: RowId) {
+        self.order.get_mut(&row.0).unwrap().push(row.1);
+    }
+
+    /// The row leaves its level's begin order, which closes up.
+    fn leaves(&mut self, row: RowId) {
+        self.order.get_mut(&row.0).unwrap().retain(|number| *number != row.1);
     }
 
     // The refusals of a call on a sound area, all that apply. Numbers 1 and 18 are found elsewhere.
@@ -451,8 +483,10 @@ impl State {
                 if u64::from(deadline) == self.clock {
                     tally.note("begin: the deadline is the clock");
                 }
-                let row = self.rows.get_mut(&id(level, row)).unwrap();
-                *row = Row { condition: Condition::Idle, deadline: deadline.into() };
+                let row = id(level, row);
+                self.note_begin(row, tally);
+                self.rows.insert(row, Row { condition: Condition::Idle, deadline: deadline.into() });
+                self.joins(row);
                 self.begun = true;
                 Outcome::said(BEGUN, 0)
             }
@@ -469,8 +503,11 @@ impl State {
                 Outcome::said(UNPINNED, 0)
             }
             Call::End { level, row } => {
-                self.drop_all(id(level, row), tally);
-                self.rows.insert(id(level, row), Row::FREE);
+                let row = id(level, row);
+                self.note_end(row, tally);
+                self.drop_all(row, tally);
+                self.rows.insert(row, Row::FREE);
+                self.leaves(row);
                 Outcome::said(ENDED, 0)
             }
             Call::Tick { .. } => self.tick(tally),
@@ -483,6 +520,32 @@ impl State {
                 self.borders = [first, second, third].map(u64::from);
                 Outcome::said(BORDERS, 0)
             }
+        }
+    }
+
+    /// Notes what a begin has to do with the begin order, before it is made.
+    fn note_begin(&self, row: RowId, tally: &mut Tally) {
+        let order = &self.order[&row.0];
+        if order.iter().any(|number| *number > row.1) {
+            tally.note("begin: after a row of a larger number of its level");
+        }
+        if order.len() == 7 {
+            tally.note("begin: the last of eight");
+        }
+    }
+
+    /// Notes what an end has to do with the begin order, before it is made.
+    fn note_end(&self, row: RowId, tally: &mut Tally) {
+        let before = self.before(row);
+        let after = self.order[&row.0].len() - before - 1;
+        match (before, after) {
+            (0, 0) => {}
+            (0, _) => tally.note("end: the first in the order, before others"),
+            (_, 0) => tally.note("end: the last in the order, after others"),
+            _ => tally.note("end: between others in the order"),
+        }
+        if after > 0 && matches!(self.rows[&row].condition, Condition::Killed(_)) {
+            tally.note("end: a killed row before others in the order");
         }
     }
 
@@ -518,14 +581,16 @@ impl State {
                 }
             }
         }
+        // After the three steps each waiting row is tried a single time, best priority first.
+        let turns = self.waiting_rows();
+        ties::note_turns(self, &turns, tally);
         let mut outcome = Outcome::said(CLOCK, clock);
-        outcome.fills = self.try_waiting(tally);
+        outcome.fills = self.try_in_turn(&turns, tally);
         outcome
     }
 
-    /// After the three steps of a tick each waiting row is tried a single time, best priority first,
-    /// skipping rows killed on the way.
-    fn try_waiting(&mut self, tally: &mut Tally) -> Vec<Fill> {
+    /// The waiting rows, best priority first.
+    pub fn waiting_rows(&self) -> Vec<RowId> {
         let mut waiting: Vec<RowId> = self
             .rows
             .iter()
@@ -533,9 +598,14 @@ impl State {
             .map(|(id, _)| *id)
             .collect();
         waiting.sort_by_key(|id| self.priority(*id));
+        waiting
+    }
+
+    /// Tries the waiting rows, skipping those killed on the way.
+    pub fn try_in_turn(&mut self, waiting: &[RowId], tally: &mut Tally) -> Vec<Fill> {
         let mut fills: Vec<Fill> = Vec::new();
         let mut in_vain = false;
-        for id in waiting {
+        for id in waiting.iter().copied() {
             let Condition::Waiting { page, mode } = self.rows[&id].condition else {
                 tally.note("tick: a waiting row killed on the way");
                 continue;
@@ -677,6 +747,7 @@ impl State {
             .collect();
         let arrival;
         if !seen.is_empty() {
+            ties::note_step_1(self, me, &conflicting, tally);
             if conflicting.iter().any(|row| row.0 <= level && self.better(*row, me)) {
                 tally.note("step 1: wait");
                 return self.wait(me, page, mode);
@@ -746,7 +817,9 @@ impl State {
 
     /// Step 3 for a page in no slot.
     fn request_elsewhere(&mut self, me: RowId, page: u64, mode: Mode, tally: &mut Tally) -> Outcome {
-        let (slot, step) = match self.choose(me, tally) {
+        let choice = self.choose(me, tally);
+        ties::note_choice(self, me, choice, tally);
+        let (slot, step) = match choice {
             Choice::Slot(slot, step) => (slot, step),
             Choice::Nowhere => return self.wait(me, page, mode),
         };
@@ -788,7 +861,7 @@ impl State {
 
     // Choosing a slot.
 
-    fn choose(&self, me: RowId, tally: &mut Tally) -> Choice {
+    pub fn choose(&self, me: RowId, tally: &mut Tally) -> Choice {
         let level = me.0;
 
         // a. empty, lowest slot number
@@ -857,7 +930,7 @@ impl State {
         Choice::Nowhere
     }
 
-    fn best_holder(&self, slot: u64) -> RowId {
+    pub fn best_holder(&self, slot: u64) -> RowId {
         let holders = self.holders(slot);
         holders.iter().map(|(row, _)| *row).min_by_key(|row| self.priority(*row)).unwrap()
     }
@@ -891,9 +964,14 @@ impl State {
         slots.into_iter().min().unwrap()
     }
 
+    fn worst_held(&self, slots: Vec<u64>, step: char, tally: &mut Tally) -> u64 {
+        ties::note_slots(self, &slots, step, tally);
+        self.worst_of(slots, step, tally)
+    }
+
     /// Of several in c to f: the worst best holder, then the earliest latest touch by holders of
     /// that best holder's level, then the smaller page.
-    fn worst_held(&self, mut slots: Vec<u64>, step: char, tally: &mut Tally) -> u64 {
+    pub fn worst_of(&self, mut slots: Vec<u64>, step: char, tally: &mut Tally) -> u64 {
         if slots.len() == 1 {
             return slots[0];
         }
@@ -940,14 +1018,20 @@ impl State {
 
 // The bytes of docs/LAYOUT.md.
 
-pub const LAYOUT_VERSION: u64 = 2;
+pub const LAYOUT_VERSION: u64 = 3;
 pub const BORDERS_AT: usize = 40;
 pub const BEGUN_AT: usize = 64;
-pub const HEADER_END: usize = 72;
+pub const ORDER_AT: usize = 72;
+pub const HEADER_END: usize = 328;
 pub const ROWS_AT: usize = 512;
 pub const SLOTS_AT: usize = 2_560;
 pub const HOLDINGS_AT: usize = 6_656;
 pub const TAIL_AT: usize = 55_808;
+
+/// Where the place of a row in its level's begin order stands.
+pub fn place_at(row: RowId) -> usize {
+    ORDER_AT + 8 * (8 * row.0 + row.1) as usize
+}
 
 pub fn row_at(row: RowId) -> usize {
     ROWS_AT + 64 * (8 * row.0 + row.1) as usize
@@ -989,6 +1073,11 @@ impl State {
             set_word(&mut bytes, BORDERS_AT + 8 * at, *border);
         }
         set_word(&mut bytes, BEGUN_AT, self.begun as u64);
+        for (level, order) in &self.order {
+            for (place, number) in (1..).zip(order) {
+                set_word(&mut bytes, place_at((*level, *number)), place);
+            }
+        }
         for (id, row) in &self.rows {
             let at = row_at(*id);
             let (condition, number, mode) = match row.condition {
@@ -1033,7 +1122,7 @@ impl State {
 pub const LENGTH: &str = "length";
 pub const MARK: &str = "mark";
 pub const VERSION: &str = "version";
-pub const UNUSED_HEADER: &str = "unused bytes after the begun mark";
+pub const UNUSED_HEADER: &str = "unused bytes after the order";
 pub const UNUSED_ROW: &str = "unused bytes of a row";
 pub const UNUSED_SLOT: &str = "unused bytes of a slot";
 pub const UNUSED_TAIL: &str = "unused bytes at the end";
@@ -1042,6 +1131,7 @@ pub const DELAY_RANGE: &str = "delay 1 to 255";
 pub const CLOCK_RANGE: &str = "clock at most 4,000,000,000";
 pub const BORDER_RANGE: &str = "borders at most 4,096";
 pub const BEGUN_RANGE: &str = "the begun mark";
+pub const PLACE_RANGE: &str = "order: a place above 8";
 pub const CONDITION_RANGE: &str = "a row's condition";
 pub const DUE_RANGE: &str = "a due tick is a 32-bit number";
 pub const DEADLINE_RANGE: &str = "a deadline is a 32-bit number";
@@ -1057,6 +1147,11 @@ pub const SLOT_ZERO: &str = "an empty slot is zero";
 pub const PIN_RANGE: &str = "a holding's pin";
 pub const HOLDING_ZERO: &str = "an empty holding is zero";
 pub const BORDERS_FALL: &str = "the borders do not fall";
+pub const ORDER_FREE: &str = "order: a free row has a place";
+pub const ORDER_NONE: &str = "order: a row that is not free has none";
+pub const ORDER_AGAIN: &str = "order: a row is named again";
+pub const PLACE_TWICE: &str = "order: one place twice";
+pub const PLACE_GAP: &str = "order: a gap";
 pub const ROWS_BEFORE: &str = "before a begin every row is free";
 pub const SLOTS_BEFORE: &str = "before a begin every slot is empty";
 pub const PAST_EMPTY: &str = "slots past the number started with are empty";
@@ -1078,16 +1173,17 @@ pub const FETCH_OTHERS: &str = "a fetching row's other holdings have arrived";
 pub const ARRIVED: &str = "holdings of idle and waiting rows have arrived";
 pub const WAIT_ALLOWED: &str = "a waiting row's mode is allowed for its page";
 
-/// All clauses but the length. `DUE_RANGE` is left out: a fetching row's due tick is the arrival
-/// of a holding, so a due tick out of range always breaks another clause too.
+/// All clauses but the length. Two are left out. A fetching row's due tick is the arrival of a holding,
+/// so one that breaks `DUE_RANGE` always breaks another clause too. In the bytes a row has one place, so
+/// no area breaks `ORDER_AGAIN`.
 pub const CLAUSES: &[&str] = &[
     MARK, VERSION, UNUSED_HEADER, UNUSED_ROW, UNUSED_SLOT, UNUSED_TAIL, SLOTS_RANGE, DELAY_RANGE,
-    CLOCK_RANGE, BORDER_RANGE, BEGUN_RANGE, CONDITION_RANGE, DEADLINE_RANGE, WAIT_PAGE_RANGE,
-    WAIT_MODE_RANGE, ROW_ZERO, ROW_SPARE, FILLED_RANGE, PAGE_RANGE, DIRTY_RANGE, LOWEST_RANGE,
-    SLOT_ZERO, PIN_RANGE, HOLDING_ZERO, BORDERS_FALL, ROWS_BEFORE, SLOTS_BEFORE, PAST_EMPTY,
-    ONE_SLOT, LIVE_HOLDER, FILLED_HOLDING, ACCESS, CONFLICT, ARRIVAL_LEAST, ARRIVAL_MOST,
-    TOUCH_MOST, SLOT_TOUCH, HOLDER_LEVEL, SLOT_ARRIVAL, DEADLINE, FETCH_DUE, FETCH_PIN,
-    FETCH_OTHERS, ARRIVED, WAIT_ALLOWED,
+    CLOCK_RANGE, BORDER_RANGE, BEGUN_RANGE, PLACE_RANGE, CONDITION_RANGE, DEADLINE_RANGE,
+    WAIT_PAGE_RANGE, WAIT_MODE_RANGE, ROW_ZERO, ROW_SPARE, FILLED_RANGE, PAGE_RANGE, DIRTY_RANGE,
+    LOWEST_RANGE, SLOT_ZERO, PIN_RANGE, HOLDING_ZERO, BORDERS_FALL, ORDER_FREE, ORDER_NONE,
+    PLACE_TWICE, PLACE_GAP, ROWS_BEFORE, SLOTS_BEFORE, PAST_EMPTY, ONE_SLOT, LIVE_HOLDER,
+    FILLED_HOLDING, ACCESS, CONFLICT, ARRIVAL_LEAST, ARRIVAL_MOST, TOUCH_MOST, SLOT_TOUCH,
+    HOLDER_LEVEL, SLOT_ARRIVAL, DEADLINE, FETCH_DUE, FETCH_PIN, FETCH_OTHERS, ARRIVED, WAIT_ALLOWED,
 ];
 
 type Broken = BTreeSet<&'static str>;
@@ -1130,6 +1226,15 @@ fn name(bytes: &[u8]) -> Result<State, Broken> {
     }
     if word(bytes, BEGUN_AT) > 1 {
         broken.insert(BEGUN_RANGE);
+    }
+    for (level, order) in &mut state.order {
+        let places = places(bytes, *level);
+        if places.iter().any(|place| *place > 8) {
+            broken.insert(PLACE_RANGE);
+        }
+        // By rising place; 0 is none.
+        order.extend((0..8).filter(|number| places[*number as usize] != 0));
+        order.sort_by_key(|number| places[*number as usize]);
     }
     for (id, row) in &mut state.rows {
         let at = row_at(*id);
@@ -1226,7 +1331,26 @@ fn name(bytes: &[u8]) -> Result<State, Broken> {
     }
 }
 
-/// Names each place whose bytes are not those of the state.
+/// The places of a level's rows, as they stand in the bytes.
+fn places(bytes: &[u8], level: u64) -> [u64; 8] {
+    std::array::from_fn(|number| word(bytes, place_at((level, number as u64))))
+}
+
+/// Why a level's places are not those of an order, from 1 up, each once. 0 is none.
+fn strange_places(places: [u64; 8]) -> Broken {
+    let mut broken = Broken::new();
+    for (number, place) in places.iter().enumerate().filter(|(_, place)| **place != 0) {
+        if places[..number].contains(place) {
+            broken.insert(PLACE_TWICE);
+        }
+        if *place > 1 && !places.contains(&(place - 1)) {
+            broken.insert(PLACE_GAP);
+        }
+    }
+    broken
+}
+
+/// Names each part whose bytes are not those of the state.
 fn strange_bytes(bytes: &[u8], state: &State) -> Broken {
     let right = state.bytes();
     let mut broken = Broken::new();
@@ -1241,6 +1365,10 @@ fn strange_bytes(bytes: &[u8], state: &State) -> Broken {
             MARK
         } else if at < 16 {
             VERSION
+        } else if (ORDER_AT..HEADER_END).contains(&at) {
+            let level = (at - ORDER_AT) as u64 / 64;
+            broken.extend(strange_places(places(bytes, level)));
+            continue;
         } else if at < ROWS_AT {
             UNUSED_HEADER
         } else if at < SLOTS_AT {
@@ -1277,6 +1405,13 @@ impl State {
             }
         };
         need(BORDERS_FALL, !fall(self.borders));
+        for (id, row) in &self.rows {
+            let times = self.order[&id.0].iter().filter(|number| **number == id.1).count();
+            let free = row.condition == Condition::Free;
+            need(ORDER_FREE, !free || times == 0);
+            need(ORDER_NONE, free || times > 0);
+            need(ORDER_AGAIN, times < 2);
+        }
         need(ROWS_BEFORE, self.begun || self.every_row_free());
         need(SLOTS_BEFORE, self.begun || self.filled.is_empty());
         let last_arrival = self.clock + self.delay;

@@ -1,11 +1,12 @@
 //! Demand 3 over pairs of runs: the calls of levels up to L and the ticks, with the lengths of their
 //! lists, are the same in both, the calls of higher levels and the borders set are not. Where both runs
 //! end with the same borders, what levels up to L are told must be the same. What the ticks put into
-//! the lists is the server's, and is not compared.
+//! the lists is the server's, and is not compared. Begins and ends above L differ, too, and the begin
+//! orders of levels up to L must be the same in both areas (T-06).
 
 use crate::calls::*;
-use crate::lent::Lent;
-use crate::model::{Condition, State, Tally};
+use crate::lent::{difference as difference_of, Lent};
+use crate::model::{place_at, Condition, State, Tally};
 use crate::random::Random;
 use crate::scenario::Scenario;
 
@@ -53,7 +54,12 @@ struct Side<'a> {
     short: u64,
     /// Calls that are not kept, borders apart: all, and those accepted.
     higher: [u64; 2],
+    /// Begins and ends among those accepted.
+    higher_rows: [u64; 2],
     borders: [u64; 2],
+    /// Kept requests in which the begin order decided, and those in which row numbers would have
+    /// decided otherwise.
+    by_order: [u64; 2],
 }
 
 impl<'a> Side<'a> {
@@ -73,7 +79,9 @@ impl<'a> Side<'a> {
             filled: [0; 2],
             short: 0,
             higher: [0; 2],
+            higher_rows: [0; 2],
             borders: [0; 2],
+            by_order: [0; 2],
         }
     }
 
@@ -87,16 +95,26 @@ impl<'a> Side<'a> {
     }
 
     fn make(&mut self, call: &Call) {
-        self.state.call(call, &mut Tally::default());
+        let counted = kept(call, self.most) && matches!(call, Call::Request { .. });
+        let mut tally = if counted { Tally::with_ties() } else { Tally::default() };
+        self.state.call(call, &mut tally);
         if !kept(call, self.most) {
             let outcome = self.ask(*call);
+            let accepted = (outcome.status == 0) as u64;
             let calls = match call {
                 Call::Borders { .. } => &mut self.borders,
                 _ => &mut self.higher,
             };
             calls[0] += 1;
-            calls[1] += (outcome.status == 0) as u64;
+            calls[1] += accepted;
+            self.higher_rows[0] += accepted * matches!(call, Call::Begin { .. }) as u64;
+            self.higher_rows[1] += accepted * matches!(call, Call::End { .. }) as u64;
             return;
+        }
+        if let Some(ties) = tally.ties {
+            for (times, ties) in self.by_order.iter_mut().zip(ties.sum()) {
+                *times += (ties > 0) as u64;
+            }
         }
         let tick = matches!(call, Call::Tick { .. });
         let mut fetching_or_waiting = Vec::new();
@@ -173,6 +191,17 @@ impl<'a> Side<'a> {
     }
 }
 
+/// Whether two live rows of one level up to L have one deadline.
+fn equals(state: &State, most: u64) -> bool {
+    let live: Vec<(u64, u64)> = state
+        .rows
+        .iter()
+        .filter(|(id, row)| id.0 <= most && row.live())
+        .map(|(id, row)| (id.0, row.deadline))
+        .collect();
+    live.iter().enumerate().any(|(at, one)| live[..at].contains(one))
+}
+
 /// A call that is not kept: by a higher level, by a level above 3, a refused start, or borders.
 fn higher_call(random: &mut Random, scenario: &Scenario, state: &State, most: u64) -> Call {
     let levels: Vec<u64> = if most == 3 { vec![4, 5] } else { (most + 1..4).collect() };
@@ -196,8 +225,14 @@ fn higher_call(random: &mut Random, scenario: &Scenario, state: &State, most: u6
 }
 
 /// In what the two runs differed after a kept call.
-const DIFFERENCES: [&str; 5] =
-    ["areas", "slots of pages", "borders", "whether a row has begun", "the last tick's fills"];
+const DIFFERENCES: [&str; 6] = [
+    "areas",
+    "slots of pages",
+    "borders",
+    "whether a row has begun",
+    "the last tick's fills",
+    "the begin order of a higher level",
+];
 
 #[derive(Default)]
 struct Found {
@@ -207,14 +242,18 @@ struct Found {
     apart_told: u64,
     kept: u64,
     higher: [u64; 2],
+    higher_rows: [u64; 2],
     borders: [u64; 2],
+    by_order: [u64; 2],
+    /// Kept calls after which two live rows of a level up to L had one deadline.
+    equal: u64,
     deliveries: u64,
     waits: u64,
     killed: u64,
     after: u64,
     /// Kept calls after which the runs differed, as `DIFFERENCES` has them, and pairs with such.
-    differed: [u64; 5],
-    pairs_differed: [u64; 5],
+    differed: [u64; DIFFERENCES.len()],
+    pairs_differed: [u64; DIFFERENCES.len()],
     filled: [u64; 2],
     short: u64,
 }
@@ -240,7 +279,8 @@ fn pair(manager: &Manager, seed: u64, number: u64, found: &mut Found) -> Result<
     let opening = random.pick(&[0, 0, 10, 40]);
     let mut kept_calls = 0;
     let mut made = 0;
-    let mut differed = [0; 5];
+    let mut differed = [0; DIFFERENCES.len()];
+    let mut equal = 0;
     let mut difference = None;
     let mut told = Vec::new();
     let length = random.between(40, 220);
@@ -301,6 +341,15 @@ fn pair(manager: &Manager, seed: u64, number: u64, found: &mut Found) -> Result<
                 }
             }
             told.extend(one);
+            let own = place_at((0, 0))..place_at((most, 7)) + 8;
+            let (one, other) = (&first.lent.state_bytes()[own.clone()], &second.lent.state_bytes()[own]);
+            if one != other {
+                return Err(format!(
+                    "seed {seed}, pair {number}, level {most}, step {made}, kept call {kept_calls}: the begin orders up to the level are not the same: {}",
+                    difference_of(one, other)
+                ));
+            }
+            equal += equals(&first.state, most) as u64;
             let places = |state: &State| -> Vec<Option<u64>> {
                 scenario.pages.iter().map(|page| state.slot_of((*page).into())).collect()
             };
@@ -310,6 +359,7 @@ fn pair(manager: &Manager, seed: u64, number: u64, found: &mut Found) -> Result<
                 first.state.borders != second.state.borders,
                 first.state.begun != second.state.begun,
                 first.fills != second.fills,
+                first.state.order != second.state.order,
             ];
             for (times, now) in differed.iter_mut().zip(now) {
                 *times += now as u64;
@@ -325,10 +375,13 @@ fn pair(manager: &Manager, seed: u64, number: u64, found: &mut Found) -> Result<
     }
     found.compared += 1;
     found.kept += kept_calls;
+    found.equal += equal;
     for side in [&first, &second] {
         for at in 0..2 {
             found.higher[at] += side.higher[at];
+            found.higher_rows[at] += side.higher_rows[at];
             found.borders[at] += side.borders[at];
+            found.by_order[at] += side.by_order[at];
             found.filled[at] += side.filled[at];
         }
         found.short += side.short;
@@ -372,6 +425,14 @@ pub fn pairs(manager: &Manager, number: u64, seed: u64) -> Result<(), String> {
         "  {} waits turned to fetch by a tick and {} to idle; {} ticks refused by 21",
         found.filled[0], found.filled[1], found.short
     );
+    println!(
+        "  {} begins and {} ends of higher levels accepted; {} kept calls left live rows of equal level and deadline",
+        found.higher_rows[0], found.higher_rows[1], found.equal
+    );
+    println!(
+        "  the begin order decided in {} kept requests, in {} of them otherwise than row numbers",
+        found.by_order[0], found.by_order[1]
+    );
     for (at, name) in DIFFERENCES.iter().enumerate() {
         println!(
             "  after {} kept calls, in {} pairs, the two runs differed in {name}",
@@ -383,6 +444,9 @@ pub fn pairs(manager: &Manager, number: u64, seed: u64) -> Result<(), String> {
         || found.waits == 0
         || found.filled.contains(&0)
         || found.short == 0
+        || found.higher_rows.contains(&0)
+        || found.by_order.contains(&0)
+        || found.equal < found.kept / 10
         || found.pairs_differed.iter().any(|pairs| *pairs < number / 20);
     if number >= 100 && little {
         return Err(format!("pairs: seed {seed}: the runs say nothing"));

@@ -1,6 +1,7 @@
 //! The player of documents 01 and 02 (T-02, T-04), played by the model, and random records for it.
 
 use crate::calls::*;
+use crate::compare::print_counts;
 use crate::model::{self, State, Tally};
 use crate::random::Random;
 use crate::scenario::Scenario;
@@ -64,8 +65,12 @@ fn lines(input: &[u8], mut started: bool, mut call: impl FnMut(&Call) -> Outcome
 
 /// What the player prints for these bytes on its input.
 pub fn play(input: &[u8]) -> String {
+    play_counted(input, &mut Tally::default())
+}
+
+fn play_counted(input: &[u8], tally: &mut Tally) -> String {
     let mut state = State::fresh(1, 1);
-    lines(input, false, |call| state.call(call, &mut Tally::default()))
+    lines(input, false, |call| state.call(call, tally))
 }
 
 /// What it would print with this area, which counts as started or not.
@@ -166,13 +171,36 @@ pub fn random_records(number: u64, seed: u64) -> Vec<u8> {
 
 pub fn record(number: u64, seed: u64, file: &str) -> Result<(), String> {
     let bytes = random_records(number, seed);
-    let output = play(&bytes);
+    let mut tally = Tally::with_ties();
+    let output = play_counted(&bytes, &mut tally);
+    let fills: Vec<&str> = output.lines().filter(|line| line.contains(" fill ")).collect();
+    let backs = fills.iter().filter(|line| !line.ends_with(" -")).count();
+    let counted = format!("{} fills, {backs} of them with a page to write back", fills.len());
     let expected = format!("{file}.out");
     let fault = |name: &str, fault: std::io::Error| format!("record: {name}: {fault}");
     std::fs::write(file, &bytes).map_err(|error| fault(file, error))?;
-    std::fs::write(&expected, output).map_err(|error| fault(&expected, error))?;
+    std::fs::write(&expected, &output).map_err(|error| fault(&expected, error))?;
     println!("record: {number} records, seed {seed}, in {file}; what the player prints in {expected}");
-    Ok(())
+    println!("  {counted}");
+    let mut missing = Vec::new();
+    let words: Vec<(String, u64)> =
+        WORDS.iter().zip(tally.words).map(|(word, times)| (word.to_string(), times)).collect();
+    print_counts("words", &words, &mut missing);
+    // The player's area is sound and long enough, its lists are, and the clock does not come to its end.
+    let refusals: Vec<(String, u64)> = (2..=15)
+        .chain([19, 20])
+        .map(|number| (format!("refusal {number}"), tally.refusals[number]))
+        .collect();
+    print_counts("refusals", &refusals, &mut missing);
+    missing.extend(tally.ties.unwrap().print());
+    if fills.is_empty() || backs == 0 {
+        missing.push("fills with and without a page to write back".to_string());
+    }
+    if missing.is_empty() {
+        Ok(())
+    } else {
+        Err(format!("record: seed {seed}: these never occurred: {}", missing.join("; ")))
+    }
 }
 
 #[cfg(test)]
@@ -347,11 +375,11 @@ mod tests {
 
     #[test]
     fn records_play_through() {
-        let bytes = random_records(2000, 5);
-        assert_eq!(bytes.len(), 2000 * RECORD);
+        let bytes = random_records(4000, 5);
+        assert_eq!(bytes.len(), 4000 * RECORD);
         let output = play(&bytes);
         let fills = output.lines().filter(|line| line.contains(" fill ")).count();
-        assert_eq!(output.lines().count(), 2001 + fills);
+        assert_eq!(output.lines().count(), 4001 + fills);
         assert!(fills > 0);
         assert!(!output.contains("refused 18"));
         for answer in [" borders 0 ", " refused 19 ", " refused 20 "] {

@@ -42,6 +42,14 @@ impl Random {
         list[self.below(list.len() as u64) as usize]
     }
 
+    /// The same things in any order.
+    pub fn shuffled<T>(&mut self, mut list: Vec<T>) -> Vec<T> {
+        for last in (1..list.len()).rev() {
+            list.swap(last, self.below(last as u64 + 1) as usize);
+        }
+        list
+    }
+
     pub fn fill(&mut self, bytes: &mut [u8]) {
         for byte in bytes {
             *byte = self.next() as u8;

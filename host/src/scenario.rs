@@ -20,6 +20,8 @@ pub fn wild(random: &mut Random) -> u32 {
 }
 
 /// Places in `KINDS`.
+const KIND_UNPIN: usize = 3;
+const KIND_END: usize = 4;
 pub const KIND_TICK: usize = 5;
 pub const KIND_BORDERS: usize = 9;
 
@@ -75,10 +77,15 @@ pub struct Scenario {
     rows: u64,
     /// Deadlines lie this far ahead.
     span: u64,
+    /// Among 100 begins, those with the deadline of a live row of the same level, if there is one.
+    equal: u64,
     /// Writes among 100 requests.
     writes: u64,
     /// Weights of the calls, in the order of `KINDS`.
     weights: [u64; 10],
+    /// For so many ticks most calls but unpins are those of one level, the highest first, and rows of
+    /// lower levels end; 0 if not. So higher levels come to hold slots that lower ones then take.
+    focus: u64,
     /// Calls that set borders, among 100 calls while every row is free, as before a begin.
     early: u64,
     /// One number in so many is wild; 0 for none.
@@ -135,7 +142,7 @@ impl Scenario {
             if busy == 0 { 1 } else { 4 },
             1,
         ];
-        Scenario {
+        let scenario = Scenario {
             slots: slots as u32,
             delay,
             borders,
@@ -147,11 +154,31 @@ impl Scenario {
             } else {
                 random.pick(&[4, 12, 40, 200, 1000])
             },
+            equal: random.pick(&[0, 30, 60, 90]),
             writes: random.pick(&[5, 30, 50]),
             weights,
+            focus: if full { 0 } else { random.pick(&[0, 0, 2, 5, 12]) },
             early: random.pick(&[0, 20, 50, 80]),
             wild: random.pick(&[0, 30, 100]),
+        };
+        if (2..=8).contains(&slots) && random.percent(60) {
+            scenario.of_rivals(random)
+        } else {
+            scenario
         }
+    }
+
+    /// The same with many live rows of equal deadline at a level, which often let go of their pins.
+    fn of_rivals(mut self, random: &mut Random) -> Scenario {
+        self.delay = random.pick(&[1, 1, 2]);
+        self.rows = random.pick(&[3, 5, 8]);
+        self.span = random.pick(&[40, 200, 1000]);
+        self.equal = 95;
+        self.weights[KIND_UNPIN] = random.pick(&[10, 40, 80]);
+        self.weights[KIND_END] = random.pick(&[3, 8]);
+        self.weights[KIND_TICK] = 12;
+        self.focus = random.pick(&[0, 3, 6, 12]);
+        self
     }
 
     fn wild_here(&self, random: &mut Random) -> bool {
@@ -166,7 +193,17 @@ impl Scenario {
         }
     }
 
-    fn deadline(&self, random: &mut Random, clock: u64) -> u64 {
+    fn deadline(&self, random: &mut Random, state: &State, level: u64) -> u64 {
+        let clock = state.clock;
+        let equals: Vec<u64> = state
+            .rows
+            .iter()
+            .filter(|(id, row)| id.0 == level && row.live())
+            .map(|(_, row)| row.deadline)
+            .collect();
+        if !equals.is_empty() && random.percent(self.equal) {
+            return random.pick(&equals);
+        }
         let deadline = match random.below(20) {
             0 => clock.saturating_sub(random.between(1, 3)),
             1..=7 => (clock / self.span + 1) * self.span + self.span / 2,
@@ -227,6 +264,25 @@ impl Scenario {
         while at >= self.weights[kind] {
             at -= self.weights[kind];
             kind += 1;
+        }
+        let mut levels = levels;
+        let level;
+        if self.focus != 0 {
+            let last = levels.len() as u64 - 1;
+            level = levels[(last - state.clock / self.focus % (last + 1)) as usize];
+            let lower: Vec<RowId> = state
+                .rows
+                .iter()
+                .filter(|(id, row)| levels.contains(&id.0) && id.0 < level && **row != Row::FREE)
+                .map(|(id, _)| *id)
+                .collect();
+            if !lower.is_empty() && random.percent(15) {
+                let (level, row) = random.pick(&lower);
+                return Call::End { level: level as u32, row: row as u32 };
+            }
+            if kind != KIND_UNPIN && random.percent(85) {
+                levels = std::slice::from_ref(&level);
+            }
         }
         if random.percent(90) {
             kind = self.useful(random, kind, state, levels);
@@ -291,7 +347,7 @@ impl Scenario {
             }
             1 => {
                 let (level, row) = self.row(random, state, levels, 90, free);
-                let deadline = self.deadline(random, state.clock);
+                let deadline = self.deadline(random, state, level);
                 Call::Begin {
                     level: self.tame(random, level),
                     row: self.tame(random, row),
@@ -508,6 +564,11 @@ pub fn made_up(random: &mut Random) -> State {
             let touch = slot.touch - random.below(slot.touch.min(3) + 1);
             state.holdings.insert((number, id), Holding { pin, arrival, touch });
         }
+    }
+    let begun: Vec<RowId> =
+        state.rows.iter().filter(|(_, row)| **row != Row::FREE).map(|(id, _)| *id).collect();
+    for id in random.shuffled(begun) {
+        state.joins(id);
     }
     state
 }

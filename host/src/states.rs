@@ -2,7 +2,17 @@
 //! the measure of the stack.
 
 use crate::calls::*;
-use crate::model::{self, Condition, Holding, Mode, Pin, Row, Slot, State, Tally};
+use crate::model::{self, Condition, Holding, Mode, Pin, Row, RowId, Slot, State, Tally};
+
+/// The rows of each level that are not free began in the falling order of their numbers.
+fn ordered(mut state: State) -> State {
+    let begun: Vec<RowId> =
+        state.rows.iter().filter(|(_, row)| **row != Row::FREE).map(|(id, _)| *id).collect();
+    for id in begun.into_iter().rev() {
+        state.joins(id);
+    }
+    state
+}
 
 /// A state with so many filled slots and live rows. Slots are held by rows of several levels, the
 /// last slots by high levels alone; every eighth slot has a write pin, others have read pins.
@@ -72,13 +82,14 @@ fn filled(slots: u64, filled: u64, rows: u64) -> State {
             state.rows.get_mut(&fetching).unwrap().condition = Condition::Fetching { due: clock + 2 };
         }
     }
-    state
+    ordered(state)
 }
 
 pub fn states() -> Vec<(&'static str, State)> {
     let mut empty = State::fresh(64, 3);
     empty.begun = true;
     empty.rows.insert((0, 0), Row { condition: Condition::Idle, deadline: 5000 });
+    let empty = ordered(empty);
     let list = vec![("empty", empty), ("half", filled(64, 32, 4)), ("full", filled(64, 64, 8))];
     for (name, state) in &list {
         let broken = state.broken();
@@ -204,7 +215,7 @@ fn all_wait(dormant: bool) -> State {
             }
         }
     }
-    state
+    ordered(state)
 }
 
 /// States in which a sort occurs that these lack: a dormant slot, a last tick for all, no begin yet,

@@ -104,7 +104,7 @@ mod tests {
     /// A fresh area, the same without its last byte, zeros that are not started, zeros that are.
     fn file() -> Vec<u8> {
         let mark = u64::from_le_bytes(*b"SABREBUF");
-        let fresh = [(0, mark), (8, 2), (16, 2), (24, 1), (40, 1024), (48, 2048), (56, 3072)];
+        let fresh = [(0, mark), (8, 3), (16, 2), (24, 1), (40, 1024), (48, 2048), (56, 3072)];
         let play = |length| [(PLAY_STARTED as u64, length)];
         let whole = SIZE as u64;
         let mut pairs = [&fresh[..], &play(whole), &fresh, &play(whole - 1)].concat();

@@ -32,7 +32,13 @@ pub const CASES: &[&str] = &[
     BEST_PINS_ALL,
 ];
 
-/// The better row has the lower level, at one level the earlier deadline, then the smaller number.
+/// Of two rows of a level, the one that its begin order names first began earlier.
+fn began_earlier(state: &State, one: RowId, other: RowId) -> bool {
+    let mut order = state.order[&one.0].iter();
+    order.find(|number| **number == one.1 || **number == other.1) == Some(&one.1)
+}
+
+/// The better row has the lower level, at one level the earlier deadline, then the earlier begin.
 fn outranks(state: &State, one: RowId, other: RowId) -> bool {
     let (first, second) = (state.rows[&one].deadline, state.rows[&other].deadline);
     if one.0 != other.0 {
@@ -40,7 +46,7 @@ fn outranks(state: &State, one: RowId, other: RowId) -> bool {
     } else if first != second {
         first < second
     } else {
-        one.1 < other.1
+        one != other && began_earlier(state, one, other)
     }
 }
 
@@ -215,8 +221,11 @@ mod tests {
         state
     }
 
-    /// An idle row with these holdings.
+    /// An idle row with these holdings, begun after those of its level that are there.
     fn idle(mut state: State, id: RowId, deadline: u64, held: &[(u64, Pin)]) -> State {
+        if state.rows[&id] == Row::FREE {
+            state.joins(id);
+        }
         state.rows.insert(id, Row { condition: Condition::Idle, deadline });
         for (slot, pin) in held {
             state.holdings.insert((*slot, id), Holding { pin: *pin, arrival: 1, touch: 1 });
@@ -235,6 +244,14 @@ mod tests {
     ) -> State {
         let mut state = idle(state, id, deadline, held);
         state.rows.get_mut(&id).unwrap().condition = Condition::Waiting { page, mode };
+        state
+    }
+
+    /// The same, with the row begun before the others of its level.
+    fn begun_first(mut state: State, id: RowId) -> State {
+        let order = state.order.get_mut(&id.0).unwrap();
+        order.retain(|number| *number != id.1);
+        order.insert(0, id.1);
         state
     }
 
@@ -261,7 +278,8 @@ mod tests {
         format!("slot {slot} is not kept")
     }
 
-    // A better row pins the page. Row 1 of level 0 waits for page 7, which is in slot 0 of 2.
+    // A better row pins the page. Row 1 of level 0 waits for page 7, which is in slot 0 of 2. The other
+    // row began first.
 
     fn behind(other: RowId, deadline: u64, pin: Pin, mode: Mode) -> State {
         waiting(idle(state(2, &[7]), other, deadline, &[(0, pin)]), (0, 1), 20, &[], 7, mode)
@@ -274,6 +292,7 @@ mod tests {
         assert_eq!(noted(&behind((0, 0), 10, Pin::Write, Mode::Write)), [PINNED_BESIDE]);
         assert_eq!(noted(&behind((0, 7), 19, Pin::Write, Mode::Write)), [PINNED_BESIDE]);
         assert_eq!(noted(&behind((0, 0), 20, Pin::Write, Mode::Write)), [PINNED_BESIDE]);
+        assert_eq!(noted(&behind((0, 7), 20, Pin::Write, Mode::Write)), [PINNED_BESIDE]);
     }
 
     #[test]
@@ -293,7 +312,20 @@ mod tests {
     #[test]
     fn a_worse_pinner() {
         assert!(reported(&behind((0, 0), 21, Pin::Write, Mode::Write)).contains(SEES));
-        assert!(reported(&behind((0, 2), 20, Pin::Write, Mode::Write)).contains(SEES));
+        for number in [0, 2] {
+            let later = begun_first(behind((0, number), 20, Pin::Write, Mode::Write), (0, 1));
+            assert!(reported(&later).contains(SEES));
+        }
+    }
+
+    #[test]
+    fn killed_rows_and_other_levels_stand_beside_the_order() {
+        // Row 5 began before both and is killed; row 0 of level 1 began before all.
+        let mut state = behind((0, 7), 20, Pin::Write, Mode::Write);
+        state.rows.insert((0, 5), Row { condition: LATE, deadline: 0 });
+        let state = begun_first(idle(state, (1, 0), 20, &[]), (0, 5));
+        assert_eq!(noted(&state), [PINNED_BESIDE]);
+        assert!(reported(&begun_first(state, (0, 1))).contains(SEES));
     }
 
     #[test]
@@ -368,8 +400,11 @@ mod tests {
         for pin in [Pin::None, Pin::Read] {
             let later = kept(LOWER, ((1, 0), 21, pin), Some(Pin::Read));
             assert!(reported(&later).contains(&not_kept(1)));
-            let larger = kept(LOWER, ((1, 2), 20, pin), Some(Pin::Read));
-            assert!(reported(&larger).contains(&not_kept(1)));
+            for number in [0, 2] {
+                let earlier = kept(LOWER, ((1, number), 20, pin), Some(Pin::Read));
+                assert!(noted(&earlier).contains(&KEPT_BESIDE));
+                assert!(reported(&begun_first(earlier, (1, 1))).contains(&not_kept(1)));
+            }
         }
     }
 
@@ -479,14 +514,16 @@ mod tests {
         // a better row lives
         let second = idle(before(), (0, 7), 19, &[]);
         assert!(best_noted(&second, 6, &left).is_empty());
-        let second = idle(before(), (0, 0), 20, &[]);
-        assert!(best_noted(&second, 6, &left).is_empty());
+        let second = idle(before(), (0, 7), 20, &[]);
+        assert!(best_noted(&begun_first(second, (0, 7)), 6, &left).is_empty());
+        // one of equal deadline that began later is not better
+        best_reported(&idle(before(), (0, 0), 20, &[]), 6, &left);
         // the best row is idle
         let served = idle(before(), (0, 1), 20, &[]);
         assert!(best_noted(&served, 6, &left).is_empty());
         // rows that are not live have no rank
         let mut killed = before();
         killed.rows.insert((0, 0), Row { condition: LATE, deadline: 0 });
-        best_reported(&killed, 6, &left);
+        best_reported(&begun_first(killed, (0, 0)), 6, &left);
     }
 }

@@ -20,67 +20,76 @@ use Rattle.model.specs.declared.Slot.{Slot}
 use Rattle.model.specs.declared.Holding.{Holding}
 use Rattle.model.specs.declared.Borders.{Borders}
 use Rattle.model.specs.declared.Setting.{Setting}
-use Rattle.model.specs.declared.Setting.the-variants.{Left, Begun, Set}
+use Rattle.model.specs.declared.Setting.the-variants.{Left, Begun, Ended, Set}
 use Rattle.model.specs.declared.State.{State}
 use Rattle.model.specs.declared.Change.{Change}
-use Rattle.model.specs.State.{freeRow, emptySlot, emptyHolding, withClock, withRows, withSlots}
-use Rattle.model.specs.Inner.Changed.{marked, holdingAfter, bordersAfter, changed, withSetting}
-use Rattle.area.specs.Layout.{mark, version, bit, headerWords, rowWords, slotWords, holdingWords, encoded}
-use Rattle.area.specs.Inner.Writes.{settingPut, rowDropped, rowsDropped}
+use Rattle.model.specs.State.{freeRow, emptySlot, emptyHolding, withClock, withRows, withSlots, withPlaces}
+use Rattle.model.specs.Inner.Changed.{marked, holdingAfter, bordersAfter, placesAfter, changed, withSetting}
+use Rattle.area.specs.Layout.{mark, version, bit, headerWords, placesBytes, rowWords, slotWords, holdingWords, placesFrom, encoded}
+use Rattle.area.specs.Inner.Writes.{placesPut, orderPut, settingPut, rowDropped, rowsDropped}
 use Rattle.area.proofs.Elements.{header-wide, holding-wide}
-use Rattle.area.proofs.Pieces.{rowsBytes, slotsBytes, rows-long, slots-long, zeros-long}
+use Rattle.area.proofs.Pieces.{rowsBytes, slotsBytes, places-long, rows-long, slots-long, zeros-long}
 
--- ---- one of six regions written over
+-- ---- one of seven regions written over
 
-module _ (x₀ x₁ x₂ x₃ x₄ x₅ r : List ℕ) where
+module _ (x₀ x₁ x₂ x₃ x₄ x₅ x₆ r : List ℕ) where
   -- the middle of the first
   first-over : (p x q y : List ℕ) (n : ℕ) → x₀ ≡ p ++ (x ++ q) → length p ≡ n → length x ≡ length y
-      → spliced ((x₀ ++ (x₁ ++ (x₂ ++ (x₃ ++ (x₄ ++ x₅))))) ++ r) n y ≡ ((p ++ (y ++ q)) ++ (x₁ ++ (x₂ ++ (x₃ ++ (x₄ ++ x₅))))) ++ r
+      → spliced ((x₀ ++ (x₁ ++ (x₂ ++ (x₃ ++ (x₄ ++ (x₅ ++ x₆)))))) ++ r) n y ≡ ((p ++ (y ++ q)) ++ (x₁ ++ (x₂ ++ (x₃ ++ (x₄ ++ (x₅ ++ x₆)))))) ++ r
   first-over p x q y n e l m =
-      let t = q ++ (x₁ ++ (x₂ ++ (x₃ ++ (x₄ ++ x₅))) ++ r) in
-      let a : (x₀ ++ (x₁ ++ (x₂ ++ (x₃ ++ (x₄ ++ x₅))))) ++ r ≡ p ++ (x ++ t) = rw e (simp append-assoc) in
-      let b : ((p ++ (y ++ q)) ++ (x₁ ++ (x₂ ++ (x₃ ++ (x₄ ++ x₅))))) ++ r ≡ p ++ (y ++ t) = simp append-assoc in
+      let t = q ++ (x₁ ++ (x₂ ++ (x₃ ++ (x₄ ++ (x₅ ++ x₆)))) ++ r) in
+      let a : (x₀ ++ (x₁ ++ (x₂ ++ (x₃ ++ (x₄ ++ (x₅ ++ x₆)))))) ++ r ≡ p ++ (x ++ t) = rw e (simp append-assoc) in
+      let b : ((p ++ (y ++ q)) ++ (x₁ ++ (x₂ ++ (x₃ ++ (x₄ ++ (x₅ ++ x₆)))))) ++ r ≡ p ++ (y ++ t) = simp append-assoc in
       ap (λ (w : List ℕ). spliced w n y) a ∙ spliced-middle p x t y n l m ∙ sym b
 
-  module _ (e₀ : length x₀ ≡ 72) (e₁ : length x₁ ≡ 440) where
-    third-over : (y : List ℕ) → length x₂ ≡ length y
-        → spliced ((x₀ ++ (x₁ ++ (x₂ ++ (x₃ ++ (x₄ ++ x₅))))) ++ r) 512 y ≡ (x₀ ++ (x₁ ++ (y ++ (x₃ ++ (x₄ ++ x₅))))) ++ r
-    third-over y m =
-        let p = x₀ ++ x₁ in
-        let t = x₃ ++ (x₄ ++ x₅) ++ r in
-        let a : (x₀ ++ (x₁ ++ (x₂ ++ (x₃ ++ (x₄ ++ x₅))))) ++ r ≡ p ++ (x₂ ++ t) = simp append-assoc in
-        let b : (x₀ ++ (x₁ ++ (y ++ (x₃ ++ (x₄ ++ x₅))))) ++ r ≡ p ++ (y ++ t) = simp append-assoc in
-        ap (λ (w : List ℕ). spliced w 512 y) a ∙ spliced-middle p x₂ t y 512 (simp length-append (omega arith)) m ∙ sym b
+  module _ (e₀ : length x₀ ≡ 72) where
+    second-over : (y : List ℕ) → length x₁ ≡ length y
+        → spliced ((x₀ ++ (x₁ ++ (x₂ ++ (x₃ ++ (x₄ ++ (x₅ ++ x₆)))))) ++ r) 72 y ≡ (x₀ ++ (y ++ (x₂ ++ (x₃ ++ (x₄ ++ (x₅ ++ x₆)))))) ++ r
+    second-over y m =
+        let t = x₂ ++ (x₃ ++ (x₄ ++ (x₅ ++ x₆))) ++ r in
+        let a : (x₀ ++ (x₁ ++ (x₂ ++ (x₃ ++ (x₄ ++ (x₅ ++ x₆)))))) ++ r ≡ x₀ ++ (x₁ ++ t) = simp append-assoc in
+        let b : (x₀ ++ (y ++ (x₂ ++ (x₃ ++ (x₄ ++ (x₅ ++ x₆)))))) ++ r ≡ x₀ ++ (y ++ t) = simp append-assoc in
+        ap (λ (w : List ℕ). spliced w 72 y) a ∙ spliced-middle x₀ x₁ t y 72 e₀ m ∙ sym b
 
-    module _ (e₂ : length x₂ ≡ 2048) where
+    module _ (e₁ : length x₁ ≡ 256) (e₂ : length x₂ ≡ 184) where
       fourth-over : (y : List ℕ) → length x₃ ≡ length y
-          → spliced ((x₀ ++ (x₁ ++ (x₂ ++ (x₃ ++ (x₄ ++ x₅))))) ++ r) 2560 y ≡ (x₀ ++ (x₁ ++ (x₂ ++ (y ++ (x₄ ++ x₅))))) ++ r
+          → spliced ((x₀ ++ (x₁ ++ (x₂ ++ (x₃ ++ (x₄ ++ (x₅ ++ x₆)))))) ++ r) 512 y ≡ (x₀ ++ (x₁ ++ (x₂ ++ (y ++ (x₄ ++ (x₅ ++ x₆)))))) ++ r
       fourth-over y m =
           let p = x₀ ++ (x₁ ++ x₂) in
-          let t = x₄ ++ x₅ ++ r in
-          let a : (x₀ ++ (x₁ ++ (x₂ ++ (x₃ ++ (x₄ ++ x₅))))) ++ r ≡ p ++ (x₃ ++ t) = simp append-assoc in
-          let b : (x₀ ++ (x₁ ++ (x₂ ++ (y ++ (x₄ ++ x₅))))) ++ r ≡ p ++ (y ++ t) = simp append-assoc in
-          ap (λ (w : List ℕ). spliced w 2560 y) a ∙ spliced-middle p x₃ t y 2560 (simp length-append (omega arith)) m ∙ sym b
+          let t = x₄ ++ (x₅ ++ x₆) ++ r in
+          let a : (x₀ ++ (x₁ ++ (x₂ ++ (x₃ ++ (x₄ ++ (x₅ ++ x₆)))))) ++ r ≡ p ++ (x₃ ++ t) = simp append-assoc in
+          let b : (x₀ ++ (x₁ ++ (x₂ ++ (y ++ (x₄ ++ (x₅ ++ x₆)))))) ++ r ≡ p ++ (y ++ t) = simp append-assoc in
+          ap (λ (w : List ℕ). spliced w 512 y) a ∙ spliced-middle p x₃ t y 512 (simp length-append (omega arith)) m ∙ sym b
 
-      -- the middle of the fifth
-      fifth-over : length x₃ ≡ 4096 → (p x q y : List ℕ) (n : ℕ) → x₄ ≡ p ++ (x ++ q) → length p ≡ n → length x ≡ length y
-          → spliced ((x₀ ++ (x₁ ++ (x₂ ++ (x₃ ++ (x₄ ++ x₅))))) ++ r) (6656 + n) y ≡ (x₀ ++ (x₁ ++ (x₂ ++ (x₃ ++ ((p ++ (y ++ q)) ++ x₅))))) ++ r
-      fifth-over e₃ p x q y n e l m =
-          let f = x₀ ++ (x₁ ++ (x₂ ++ (x₃ ++ p))) in
-          let t = q ++ (x₅ ++ r) in
-          let a : (x₀ ++ (x₁ ++ (x₂ ++ (x₃ ++ (x₄ ++ x₅))))) ++ r ≡ f ++ (x ++ t) = rw e (simp append-assoc) in
-          let b : (x₀ ++ (x₁ ++ (x₂ ++ (x₃ ++ ((p ++ (y ++ q)) ++ x₅))))) ++ r ≡ f ++ (y ++ t) = simp append-assoc in
-          ap (λ (w : List ℕ). spliced w (6656 + n) y) a ∙ spliced-middle f x t y (6656 + n) (simp length-append (omega arith)) m ∙ sym b
+      module _ (e₃ : length x₃ ≡ 2048) where
+        fifth-over : (y : List ℕ) → length x₄ ≡ length y
+            → spliced ((x₀ ++ (x₁ ++ (x₂ ++ (x₃ ++ (x₄ ++ (x₅ ++ x₆)))))) ++ r) 2560 y ≡ (x₀ ++ (x₁ ++ (x₂ ++ (x₃ ++ (y ++ (x₅ ++ x₆)))))) ++ r
+        fifth-over y m =
+            let p = x₀ ++ (x₁ ++ (x₂ ++ x₃)) in
+            let t = x₅ ++ x₆ ++ r in
+            let a : (x₀ ++ (x₁ ++ (x₂ ++ (x₃ ++ (x₄ ++ (x₅ ++ x₆)))))) ++ r ≡ p ++ (x₄ ++ t) = simp append-assoc in
+            let b : (x₀ ++ (x₁ ++ (x₂ ++ (x₃ ++ (y ++ (x₅ ++ x₆)))))) ++ r ≡ p ++ (y ++ t) = simp append-assoc in
+            ap (λ (w : List ℕ). spliced w 2560 y) a ∙ spliced-middle p x₄ t y 2560 (simp length-append (omega arith)) m ∙ sym b
+
+        -- the middle of the sixth
+        sixth-over : length x₄ ≡ 4096 → (p x q y : List ℕ) (n : ℕ) → x₅ ≡ p ++ (x ++ q) → length p ≡ n → length x ≡ length y
+            → spliced ((x₀ ++ (x₁ ++ (x₂ ++ (x₃ ++ (x₄ ++ (x₅ ++ x₆)))))) ++ r) (6656 + n) y ≡ (x₀ ++ (x₁ ++ (x₂ ++ (x₃ ++ (x₄ ++ ((p ++ (y ++ q)) ++ x₆)))))) ++ r
+        sixth-over e₄ p x q y n e l m =
+            let f = x₀ ++ (x₁ ++ (x₂ ++ (x₃ ++ (x₄ ++ p)))) in
+            let t = q ++ (x₆ ++ r) in
+            let a : (x₀ ++ (x₁ ++ (x₂ ++ (x₃ ++ (x₄ ++ (x₅ ++ x₆)))))) ++ r ≡ f ++ (x ++ t) = rw e (simp append-assoc) in
+            let b : (x₀ ++ (x₁ ++ (x₂ ++ (x₃ ++ (x₄ ++ ((p ++ (y ++ q)) ++ x₆)))))) ++ r ≡ f ++ (y ++ t) = simp append-assoc in
+            ap (λ (w : List ℕ). spliced w (6656 + n) y) a ∙ spliced-middle f x t y (6656 + n) (simp length-append (omega arith)) m ∙ sym b
 
 -- ---- the bytes of a state, its holdings given place by place
 
 abbrev pub laid : State → (ℕ → Holding) → List ℕ
 laid s x =
-    wordBytes (headerWords s) ++ (zeroWords 55 ++ (rowsBytes s ++ (slotsBytes s ++ (joined 2048 (λ k. wordBytes (holdingWords (x k))) ++ zeroWords 1216))))
+    wordBytes (headerWords s) ++ (placesBytes (s .places) ++ (zeroWords 23 ++ (rowsBytes s ++ (slotsBytes s ++ (joined 2048 (λ k. wordBytes (holdingWords (x k))) ++ zeroWords 1216)))))
 
 pub laid-same : (s : State) (x y : ℕ → Holding) → ((k : ℕ) → k < 2048 → x k ≡ y k) → laid s x ≡ laid s y
 laid-same s x y h =
-    ap (λ (b : List ℕ). wordBytes (headerWords s) ++ (zeroWords 55 ++ (rowsBytes s ++ (slotsBytes s ++ (b ++ zeroWords 1216)))))
+    ap (λ (b : List ℕ). wordBytes (headerWords s) ++ (placesBytes (s .places) ++ (zeroWords 23 ++ (rowsBytes s ++ (slotsBytes s ++ (b ++ zeroWords 1216))))))
     (joined-same 2048 (λ k. wordBytes (holdingWords (x k))) (λ k. wordBytes (holdingWords (y k))) (λ k b. ap (λ (z : Holding). wordBytes (holdingWords z)) (h k b)))
 
 held-wide : (x : ℕ → Holding) (k : ℕ) → length (wordBytes (holdingWords (x k))) ≡ 24
@@ -89,7 +98,7 @@ held-wide x k = length-words (holdingWords (x k)) ∙ holding-wide (x k)
 -- a state with another clock, other borders and another mark that a row has begun
 abbrev withHeader : State → ℕ → Borders → Bool → State
 withHeader s clock b begun =
-    record { size = s .size; delay = s .delay; clock = clock; rows = s .rows; slots = s .slots; holdings = s .holdings; borders = b; begun = begun }
+    record { size = s .size; delay = s .delay; clock = clock; rows = s .rows; slots = s .slots; holdings = s .holdings; borders = b; begun = begun; places = s .places }
 
 module _ (s : State) (x : ℕ → Holding) (r : List ℕ) where
   -- words v written over as many words u in the middle of the header
@@ -100,10 +109,10 @@ module _ (s : State) (x : ℕ → Holding) (r : List ℕ) where
       let h : (w : List ℕ) → wordBytes (p ++ (w ++ q)) ≡ wordBytes p ++ (wordBytes w ++ wordBytes q) =
       λ w. words-append p (w ++ q) ∙ ap (λ (z : List ℕ). wordBytes p ++ z) (words-append w q) in
       let holdings = joined 2048 (λ k. wordBytes (holdingWords (x k))) in
-      first-over (wordBytes (headerWords s)) (zeroWords 55) (rowsBytes s) (slotsBytes s) holdings (zeroWords 1216) r
+      first-over (wordBytes (headerWords s)) (placesBytes (s .places)) (zeroWords 23) (rowsBytes s) (slotsBytes s) holdings (zeroWords 1216) r
       (wordBytes p) (wordBytes u) (wordBytes q) (wordBytes v) n (ap wordBytes e ∙ h u) (length-words p ∙ l)
       (length-words u ∙ ap (λ (k : ℕ). k * 8) m ∙ sym (length-words v))
-      ∙ ap (λ (w : List ℕ). (w ++ (zeroWords 55 ++ (rowsBytes s ++ (slotsBytes s ++ (holdings ++ zeroWords 1216))))) ++ r) (sym (ap wordBytes f ∙ h v))
+      ∙ ap (λ (w : List ℕ). (w ++ (placesBytes (s .places) ++ (zeroWords 23 ++ (rowsBytes s ++ (slotsBytes s ++ (holdings ++ zeroWords 1216)))))) ++ r) (sym (ap wordBytes f ∙ h v))
 
   pub clock-put : (clock : ℕ) → spliced (laid s x ++ r) 32 (wordBytes (clock ∷ [])) ≡ laid (withClock s clock) x ++ r
   unfolding headerWords
@@ -112,10 +121,28 @@ module _ (s : State) (x : ℕ → Holding) (r : List ℕ) where
       header-put clock b (s .begun) (mark ∷ version ∷ s .size ∷ s .delay ∷ []) (s .clock ∷ []) (clock ∷ []) (b .first ∷ b .second ∷ b .third ∷ bit (s .begun) ∷ []) 32
       refl refl refl refl
 
-  pub setting-put : (t : Setting) → settingPut t (laid s x ++ r) ≡ laid (withSetting s t) x ++ r
+  places-put : placesFrom (laid s x ++ r) ≡ s .places → (t : Setting) → placesPut t (laid s x ++ r) ≡ laid (withPlaces s (placesAfter t (s .places))) x ++ r
+  unfolding placesPut headerWords
+  places-put e t =
+      let new = placesBytes (placesAfter t (s .places)) in
+      ap (λ (l : List ℕ). spliced (laid s x ++ r) 72 (placesBytes (placesAfter t l))) e
+      ∙ second-over (wordBytes (headerWords s)) (placesBytes (s .places)) (zeroWords 23) (rowsBytes s) (slotsBytes s) (joined 2048 (λ k. wordBytes (holdingWords (x k)))) (zeroWords 1216) r
+      (header-wide s) new (places-long (s .places) ∙ sym (places-long (placesAfter t (s .places))))
+
+  -- the places where the bytes name those of the state
+  pub order-put : placesFrom (laid s x ++ r) ≡ s .places → (t : Setting) → orderPut t (laid s x ++ r) ≡ laid (withPlaces s (placesAfter t (s .places))) x ++ r
+  unfolding orderPut placesPut headerWords
+  order-put e Left = refl
+  order-put e (Begun row place) = places-put e (Begun row place)
+  order-put e (Ended row) = places-put e (Ended row)
+  order-put e (Set first second third) = refl
+
+  -- the borders and the mark that a row has begun
+  pub setting-put : (t : Setting) → settingPut t (laid s x ++ r) ≡ laid (withPlaces (withSetting s t) (s .places)) x ++ r
   unfolding settingPut headerWords
   setting-put Left = refl
-  setting-put Begun =
+  setting-put (Ended row) = refl
+  setting-put (Begun row place) =
       let b = s .borders in
       header-put (s .clock) b true (mark ∷ version ∷ s .size ∷ s .delay ∷ s .clock ∷ b .first ∷ b .second ∷ b .third ∷ []) (bit (s .begun) ∷ []) (1 ∷ []) [] 64
       refl refl refl refl
@@ -128,14 +155,14 @@ module _ (s : State) (x : ℕ → Holding) (r : List ℕ) where
   pub rows-put : (rows : List Row) → spliced (laid s x ++ r) 512 (rowsBytes (withRows s rows)) ≡ laid (withRows s rows) x ++ r
   unfolding headerWords
   rows-put rows =
-      third-over (wordBytes (headerWords s)) (zeroWords 55) (rowsBytes s) (slotsBytes s) (joined 2048 (λ k. wordBytes (holdingWords (x k)))) (zeroWords 1216) r
-      (header-wide s) (zeros-long 55) (rowsBytes (withRows s rows)) (rows-long s ∙ sym (rows-long (withRows s rows)))
+      fourth-over (wordBytes (headerWords s)) (placesBytes (s .places)) (zeroWords 23) (rowsBytes s) (slotsBytes s) (joined 2048 (λ k. wordBytes (holdingWords (x k)))) (zeroWords 1216) r
+      (header-wide s) (places-long (s .places)) (zeros-long 23) (rowsBytes (withRows s rows)) (rows-long s ∙ sym (rows-long (withRows s rows)))
 
   pub slots-put : (slots : List Slot) → spliced (laid s x ++ r) 2560 (slotsBytes (withSlots s slots)) ≡ laid (withSlots s slots) x ++ r
   unfolding headerWords
   slots-put slots =
-      fourth-over (wordBytes (headerWords s)) (zeroWords 55) (rowsBytes s) (slotsBytes s) (joined 2048 (λ k. wordBytes (holdingWords (x k)))) (zeroWords 1216) r
-      (header-wide s) (zeros-long 55) (rows-long s) (slotsBytes (withSlots s slots)) (slots-long s ∙ sym (slots-long (withSlots s slots)))
+      fifth-over (wordBytes (headerWords s)) (placesBytes (s .places)) (zeroWords 23) (rowsBytes s) (slotsBytes s) (joined 2048 (λ k. wordBytes (holdingWords (x k)))) (zeroWords 1216) r
+      (header-wide s) (places-long (s .places)) (zeros-long 23) (rows-long s) (slotsBytes (withSlots s slots)) (slots-long s ∙ sym (slots-long (withSlots s slots)))
 
   -- m holdings from place i on
   pub held-put : (y : ℕ → Holding) (i m l : ℕ) → i + m + l ≡ 2048 → ((k : ℕ) → k < i → x k ≡ y k) → ((k : ℕ) → i + m ≤ k → x k ≡ y k)
@@ -148,12 +175,12 @@ module _ (s : State) (x : ℕ → Holding) (r : List ℕ) where
       let back : joined l (λ j. f x (i + m + j)) ≡ joined l (λ j. f y (i + m + j)) =
       joined-same l (λ j. f x (i + m + j)) (λ j. f y (i + m + j)) (λ j b. ap (λ (z : Holding). wordBytes (holdingWords z)) (high (i + m + j) (omega arith))) in
       let whole : joined i (f x) ++ (joined m (λ j. f y (i + j)) ++ joined l (λ j. f x (i + m + j))) ≡ joined 2048 (f y) = rw (front, back) (sym (split y)) in
-      fifth-over (wordBytes (headerWords s)) (zeroWords 55) (rowsBytes s) (slotsBytes s) (joined 2048 (f x)) (zeroWords 1216) r
-      (header-wide s) (zeros-long 55) (rows-long s) (slots-long s)
+      sixth-over (wordBytes (headerWords s)) (placesBytes (s .places)) (zeroWords 23) (rowsBytes s) (slotsBytes s) (joined 2048 (f x)) (zeroWords 1216) r
+      (header-wide s) (places-long (s .places)) (zeros-long 23) (rows-long s) (slots-long s)
       (joined i (f x)) (joined m (λ j. f x (i + j))) (joined l (λ j. f x (i + m + j))) (joined m (λ j. f y (i + j))) (i * 24) (split x)
       (length-joined 24 (f x) (held-wide x) i)
       (length-joined 24 (λ j. f x (i + j)) (λ j. held-wide x (i + j)) m ∙ sym (length-joined 24 (λ j. f y (i + j)) (λ j. held-wide y (i + j)) m))
-      ∙ ap (λ (b : List ℕ). (wordBytes (headerWords s) ++ (zeroWords 55 ++ (rowsBytes s ++ (slotsBytes s ++ (b ++ zeroWords 1216))))) ++ r) whole
+      ∙ ap (λ (b : List ℕ). (wordBytes (headerWords s) ++ (placesBytes (s .places) ++ (zeroWords 23 ++ (rowsBytes s ++ (slotsBytes s ++ (b ++ zeroWords 1216)))))) ++ r) whole
 
 -- ---- the holdings of rows dropped
 
@@ -268,8 +295,9 @@ module _ (s : State) (r : List ℕ) where
 
 -- ---- all writes of a change
 
-module _ (s : State) (long : length (s .holdings) ≡ 2048) (c : Change) (r a a1 a2 a3 a4 a5 : List ℕ) (e : encoded s ++ r ≡ a)
-    (e1 : a1 ≡ spliced a 32 (wordBytes (c .clock ∷ [])))
+module _ (s : State) (long : length (s .holdings) ≡ 2048) (c : Change) (r a a0 a1 a2 a3 a4 a5 : List ℕ) (e : encoded s ++ r ≡ a) (named : placesFrom a ≡ s .places)
+    (e0 : a0 ≡ orderPut (c .setting) a)
+    (e1 : a1 ≡ spliced a0 32 (wordBytes (c .clock ∷ [])))
     (e2 : a2 ≡ settingPut (c .setting) a1)
     (e3 : a3 ≡ spliced a2 512 (joined 32 (λ i. wordBytes (rowWords (getD (c .rows) i freeRow)))))
     (e4 : a4 ≡ spliced a3 2560 (joined 64 (λ i. wordBytes (slotWords (getD (c .slots) i emptySlot)))))
@@ -284,11 +312,13 @@ module _ (s : State) (long : length (s .holdings) ≡ 2048) (c : Change) (r a a1
   dropped : a5 ≡ laid (changed s c) old ++ r
   unfolding encoded changed headerWords
   dropped =
-      let s1 = withClock s (c .clock) in
-      let s2 = withSetting s1 (c .setting) in
+      let s0 = withPlaces s (placesAfter (c .setting) (s .places)) in
+      let s1 = withClock s0 (c .clock) in
+      let s2 = withPlaces (withSetting s1 (c .setting)) (s0 .places) in
       let s3 = withRows s2 (c .rows) in
       let s4 = withSlots s3 (c .slots) in
-      let d1 : a1 ≡ laid s1 was ++ r = e1 ∙ ap (λ (w : List ℕ). spliced w 32 (wordBytes (c .clock ∷ []))) (sym e) ∙ clock-put s was r (c .clock) in
+      let d0 : a0 ≡ laid s0 was ++ r = e0 ∙ ap (orderPut (c .setting)) (sym e) ∙ order-put s was r (ap placesFrom e ∙ named) (c .setting) in
+      let d1 : a1 ≡ laid s1 was ++ r = e1 ∙ ap (λ (w : List ℕ). spliced w 32 (wordBytes (c .clock ∷ []))) d0 ∙ clock-put s0 was r (c .clock) in
       let d2 : a2 ≡ laid s2 was ++ r = e2 ∙ ap (settingPut (c .setting)) d1 ∙ setting-put s1 was r (c .setting) in
       let d3 : a3 ≡ laid s3 was ++ r = e3 ∙ ap (λ (w : List ℕ). spliced w 512 (rowsBytes s3)) d2 ∙ rows-put s2 was r (c .rows) in
       let d4 : a4 ≡ laid s4 was ++ r = e4 ∙ ap (λ (w : List ℕ). spliced w 2560 (slotsBytes s4)) d3 ∙ slots-put s3 was r (c .slots) in

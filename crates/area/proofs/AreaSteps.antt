@@ -14,10 +14,10 @@ use Rattle.words.proofs.SpliceLaws.{spliced-more}
 use Rattle.model.specs.declared.Borders.{Borders}
 use Rattle.model.specs.declared.State.{State}
 use Rattle.model.specs.State.{emptyHoldings, fresh}
-use Rattle.area.specs.Layout.{mark, version, bit, low, bordersFrom, headerWords, decoded, encoded, exact}
+use Rattle.area.specs.Layout.{mark, version, bit, low, bordersFrom, placesFrom, headerWords, placesBytes, decoded, encoded, exact}
 use Rattle.area.specs.Inner.Exact.{exactRows, exactSlots, exactHoldings}
 use Rattle.area.proofs.Elements.{header-wide}
-use Rattle.area.proofs.Pieces.{rowsBytes, slotsBytes, holdingsBytes, rows-long, slots-long, holdings-long, zeros-long, exact-pieces}
+use Rattle.area.proofs.Pieces.{rowsBytes, slotsBytes, holdingsBytes, places-long, rows-long, slots-long, holdings-long, zeros-long, exact-pieces}
 
 and-true-last : (z : Bool) → z && true ≡ z
 and-true-last true = refl
@@ -39,12 +39,12 @@ reordered true true true x y z = rw (and-true-last z) (and-assoc x y z)
 reordered true true false x y z = rw (and-false-last z, and-false-last y, and-false-last x)
 
 pub exact-tests : (a : List ℕ) (f x y z p q g : Bool) → AllUnder 256 a → 65536 ≤ length a
-    → f ≡ hasWords a 0 (headerWords (decoded a)) && (hasWords a 72 (replicate 55 0) && hasWords a 55808 (replicate 1216 0))
+    → f ≡ hasWords a 0 (headerWords (decoded a)) && (hasWords a 328 (replicate 23 0) && hasWords a 55808 (replicate 1216 0))
     → x ≡ exactRows a → y ≡ exactSlots a → z ≡ exactHoldings a → p ≡ x && y → q ≡ f && p → g ≡ q && z → g ≡ exact a
 unfolding exactRows exactSlots exactHoldings
 exact-tests a f x y z p q g u l ef ex ey ez ep eq eg =
     let h = hasWords a 0 (headerWords (decoded a)) in
-    let w = hasWords a 72 (replicate 55 0) in
+    let w = hasWords a 328 (replicate 23 0) in
     let v = hasWords a 55808 (replicate 1216 0) in
     let m : g ≡ ((h && (w && v)) && (exactRows a && exactSlots a)) && exactHoldings a = rw (← ef, ← ex, ← ey, ← ez, ← ep, ← eq) eg in
     m ∙ reordered h w v (exactRows a) (exactSlots a) (exactHoldings a) ∙ sym (exact-pieces a u l)
@@ -61,25 +61,25 @@ fresh-holdings s size delay e = λ i. e i .holdings
 -- the state that decode builds
 pub decode-state : (a : List ℕ) (s : State) → s .size ≡ wordAt a 16 → s .delay ≡ low (wordAt a 24) → s .clock ≡ low (wordAt a 32)
     → s .rows ≡ decoded a .rows → s .slots ≡ decoded a .slots → s .holdings ≡ decoded a .holdings
-    → s .borders ≡ bordersFrom a → s .begun ≡ not (eqb (wordAt a 64) 0) → s ≡ decoded a
+    → s .borders ≡ bordersFrom a → s .begun ≡ not (eqb (wordAt a 64) 0) → s .places ≡ placesFrom a → s ≡ decoded a
 unfolding decoded
-decode-state a s e1 e2 e3 e4 e5 e6 e7 e8 =
-    λ i. record { size = e1 i; delay = e2 i; clock = e3 i; rows = e4 i; slots = e5 i; holdings = e6 i; borders = e7 i; begun = e8 i }
+decode-state a s e1 e2 e3 e4 e5 e6 e7 e8 e9 =
+    λ i. record { size = e1 i; delay = e2 i; clock = e3 i; rows = e4 i; slots = e5 i; holdings = e6 i; borders = e7 i; begun = e8 i; places = e9 i }
 
 -- the header of the state that an area names
 pub framed : (a : List ℕ) (size delay clock : ℕ) (b : Borders) (begun f : Bool) → size ≡ wordAt a 16 → delay ≡ low (wordAt a 24) → clock ≡ low (wordAt a 32)
     → b ≡ bordersFrom a → begun ≡ not (eqb (wordAt a 64) 0)
-    → f ≡ hasWords a 0 (mark ∷ version ∷ size ∷ delay ∷ clock ∷ b .first ∷ b .second ∷ b .third ∷ bit begun ∷ []) && (hasWords a 72 (replicate 55 0) && hasWords a 55808 (replicate 1216 0))
-    → f ≡ hasWords a 0 (headerWords (decoded a)) && (hasWords a 72 (replicate 55 0) && hasWords a 55808 (replicate 1216 0))
+    → f ≡ hasWords a 0 (mark ∷ version ∷ size ∷ delay ∷ clock ∷ b .first ∷ b .second ∷ b .third ∷ bit begun ∷ []) && (hasWords a 328 (replicate 23 0) && hasWords a 55808 (replicate 1216 0))
+    → f ≡ hasWords a 0 (headerWords (decoded a)) && (hasWords a 328 (replicate 23 0) && hasWords a 55808 (replicate 1216 0))
 unfolding headerWords decoded
 framed a size delay clock b begun f e1 e2 e3 e4 e5 e = rw (← e1, ← e2, ← e3, ← e4, ← e5) e
 
--- six lists written one after another from the front
-pub six : (a a1 a2 a3 a4 a5 a6 p1 p2 p3 p4 p5 p6 : List ℕ) (n1 n2 n3 n4 n5 n6 : ℕ)
-    → length p1 ≡ n1 → n1 + length p2 ≡ n2 → n2 + length p3 ≡ n3 → n3 + length p4 ≡ n4 → n4 + length p5 ≡ n5 → n5 + length p6 ≡ n6 → n6 ≤ length a
-    → a1 ≡ spliced a 0 p1 → a2 ≡ spliced a1 n1 p2 → a3 ≡ spliced a2 n2 p3 → a4 ≡ spliced a3 n3 p4 → a5 ≡ spliced a4 n4 p5 → a6 ≡ spliced a5 n5 p6
-    → a6 ≡ (p1 ++ (p2 ++ (p3 ++ (p4 ++ (p5 ++ p6))))) ++ drop n6 a
-six a a1 a2 a3 a4 a5 a6 p1 p2 p3 p4 p5 p6 n1 n2 n3 n4 n5 n6 l1 l2 l3 l4 l5 l6 h e1 e2 e3 e4 e5 e6 =
+-- seven lists written one after another from the front
+pub seven : (a a1 a2 a3 a4 a5 a6 a7 p1 p2 p3 p4 p5 p6 p7 : List ℕ) (n1 n2 n3 n4 n5 n6 n7 : ℕ)
+    → length p1 ≡ n1 → n1 + length p2 ≡ n2 → n2 + length p3 ≡ n3 → n3 + length p4 ≡ n4 → n4 + length p5 ≡ n5 → n5 + length p6 ≡ n6 → n6 + length p7 ≡ n7 → n7 ≤ length a
+    → a1 ≡ spliced a 0 p1 → a2 ≡ spliced a1 n1 p2 → a3 ≡ spliced a2 n2 p3 → a4 ≡ spliced a3 n3 p4 → a5 ≡ spliced a4 n4 p5 → a6 ≡ spliced a5 n5 p6 → a7 ≡ spliced a6 n6 p7
+    → a7 ≡ (p1 ++ (p2 ++ (p3 ++ (p4 ++ (p5 ++ (p6 ++ p7)))))) ++ drop n7 a
+seven a a1 a2 a3 a4 a5 a6 a7 p1 p2 p3 p4 p5 p6 p7 n1 n2 n3 n4 n5 n6 n7 l1 l2 l3 l4 l5 l6 l7 h e1 e2 e3 e4 e5 e6 e7 =
     let more : (x xs ys y : List ℕ) (n : ℕ) → length xs ≡ n → n ≤ length a → x ≡ spliced a 0 xs → y ≡ spliced x n ys → y ≡ spliced a 0 (xs ++ ys) =
     λ x xs ys y n l b e f. f ∙ ap (λ (z : List ℕ). spliced z n ys) e ∙ spliced-more a 0 xs ys n (omega arith) b in
     let m2 : length (p1 ++ p2) ≡ n2 = length-append p1 p2 ∙ omega arith in
@@ -87,22 +87,24 @@ six a a1 a2 a3 a4 a5 a6 p1 p2 p3 p4 p5 p6 n1 n2 n3 n4 n5 n6 l1 l2 l3 l4 l5 l6 h 
     let m4 : length (p1 ++ p2 ++ p3 ++ p4) ≡ n4 = length-append (p1 ++ p2 ++ p3) p4 ∙ omega arith in
     let m5 : length (p1 ++ p2 ++ p3 ++ p4 ++ p5) ≡ n5 = length-append (p1 ++ p2 ++ p3 ++ p4) p5 ∙ omega arith in
     let m6 : length (p1 ++ p2 ++ p3 ++ p4 ++ p5 ++ p6) ≡ n6 = length-append (p1 ++ p2 ++ p3 ++ p4 ++ p5) p6 ∙ omega arith in
+    let m7 : length (p1 ++ p2 ++ p3 ++ p4 ++ p5 ++ p6 ++ p7) ≡ n7 = length-append (p1 ++ p2 ++ p3 ++ p4 ++ p5 ++ p6) p7 ∙ omega arith in
     let f2 = more a1 p1 p2 a2 n1 l1 (omega arith) e1 e2 in
     let f3 = more a2 (p1 ++ p2) p3 a3 n2 m2 (omega arith) f2 e3 in
     let f4 = more a3 (p1 ++ p2 ++ p3) p4 a4 n3 m3 (omega arith) f3 e4 in
     let f5 = more a4 (p1 ++ p2 ++ p3 ++ p4) p5 a5 n4 m4 (omega arith) f4 e5 in
     let f6 = more a5 (p1 ++ p2 ++ p3 ++ p4 ++ p5) p6 a6 n5 m5 (omega arith) f5 e6 in
-    let joined : p1 ++ p2 ++ p3 ++ p4 ++ p5 ++ p6 ≡ p1 ++ (p2 ++ (p3 ++ (p4 ++ (p5 ++ p6)))) = simp append-assoc in
-    let d : 0 + length (p1 ++ p2 ++ p3 ++ p4 ++ p5 ++ p6) ≡ n6 = omega (arith, m6) in
-    f6 ∙ ap (λ (m : ℕ). p1 ++ p2 ++ p3 ++ p4 ++ p5 ++ p6 ++ drop m a) d ∙ ap (λ (z : List ℕ). z ++ drop n6 a) joined
+    let f7 = more a6 (p1 ++ p2 ++ p3 ++ p4 ++ p5 ++ p6) p7 a7 n6 m6 (omega arith) f6 e7 in
+    let joined : p1 ++ p2 ++ p3 ++ p4 ++ p5 ++ p6 ++ p7 ≡ p1 ++ (p2 ++ (p3 ++ (p4 ++ (p5 ++ (p6 ++ p7))))) = simp append-assoc in
+    let d : 0 + length (p1 ++ p2 ++ p3 ++ p4 ++ p5 ++ p6 ++ p7) ≡ n7 = omega (arith, m7) in
+    f7 ∙ ap (λ (m : ℕ). p1 ++ p2 ++ p3 ++ p4 ++ p5 ++ p6 ++ p7 ++ drop m a) d ∙ ap (λ (z : List ℕ). z ++ drop n7 a) joined
 
-pub encode-steps : (s : State) (a a1 a2 a3 a4 a5 a6 hw : List ℕ) → 65536 ≤ length a → hw ≡ headerWords s
-    → a1 ≡ spliced a 0 (wordBytes hw) → a2 ≡ spliced a1 72 (zeroWords 55) → a3 ≡ spliced a2 512 (rowsBytes s)
-    → a4 ≡ spliced a3 2560 (slotsBytes s) → a5 ≡ spliced a4 6656 (holdingsBytes s) → a6 ≡ spliced a5 55808 (zeroWords 1216)
-    → a6 ≡ encoded s ++ drop 65536 a
+pub encode-steps : (s : State) (a a1 a2 a3 a4 a5 a6 a7 hw : List ℕ) → 65536 ≤ length a → hw ≡ headerWords s
+    → a1 ≡ spliced a 0 (wordBytes hw) → a2 ≡ spliced a1 72 (placesBytes (s .places)) → a3 ≡ spliced a2 328 (zeroWords 23) → a4 ≡ spliced a3 512 (rowsBytes s)
+    → a5 ≡ spliced a4 2560 (slotsBytes s) → a6 ≡ spliced a5 6656 (holdingsBytes s) → a7 ≡ spliced a6 55808 (zeroWords 1216)
+    → a7 ≡ encoded s ++ drop 65536 a
 unfolding encoded headerWords
-encode-steps s a a1 a2 a3 a4 a5 a6 hw h e e1 e2 e3 e4 e5 e6 =
-    six a a1 a2 a3 a4 a5 a6 (wordBytes (headerWords s)) (zeroWords 55) (rowsBytes s) (slotsBytes s) (holdingsBytes s) (zeroWords 1216)
-    72 512 2560 6656 55808 65536
-    (header-wide s) (omega (arith, zeros-long 55)) (omega (arith, rows-long s)) (omega (arith, slots-long s)) (omega (arith, holdings-long s)) (omega (arith, zeros-long 1216)) h
-    (e1 ∙ ap (λ (w : List ℕ). spliced a 0 (wordBytes w)) e) e2 e3 e4 e5 e6
+encode-steps s a a1 a2 a3 a4 a5 a6 a7 hw h e e1 e2 e3 e4 e5 e6 e7 =
+    seven a a1 a2 a3 a4 a5 a6 a7 (wordBytes (headerWords s)) (placesBytes (s .places)) (zeroWords 23) (rowsBytes s) (slotsBytes s) (holdingsBytes s) (zeroWords 1216)
+    72 328 512 2560 6656 55808 65536
+    (header-wide s) (omega (arith, places-long (s .places))) (omega (arith, zeros-long 23)) (omega (arith, rows-long s)) (omega (arith, slots-long s)) (omega (arith, holdings-long s)) (omega (arith, zeros-long 1216)) h
+    (e1 ∙ ap (λ (w : List ℕ). spliced a 0 (wordBytes w)) e) e2 e3 e4 e5 e6 e7

@@ -1,7 +1,7 @@
--- The words of the header, of a row, of a slot and of a holding: their number, their ranges, and that they read back.
+-- The words of the header, of a place, of a row, of a slot and of a holding: their number, their ranges, and that they read back.
 use mathlib.Core.Path.{_≡_, refl, ap, _∙_}
 use mathlib.Core.Bool.{Bool, true, false, cond, not}
-use mathlib.Core.List.{List, [], _++_}
+use mathlib.Core.List.{List, [], _∷_, _++_}
 use Prim.Native.Nat.{ℕ, _+_, _*_, _^_, _<_}
 use native.Mathlib.Nat.{add-zero}
 use native.Mathlib.Omega.{arith}
@@ -27,17 +27,20 @@ use Rattle.model.specs.declared.Slot.{Slot}
 use Rattle.model.specs.declared.Holding.{Holding}
 use Rattle.model.specs.declared.State.{State}
 use Rattle.model.specs.Parties.{modeOf, modeNumber}
-use Rattle.model.specs.State.{freeRow, emptySlot, emptyHolding, emptyHoldings, rowAt, slotAt}
+use Rattle.model.specs.State.{freeRow, emptySlot, emptyHolding, emptyHoldings, rowAt, slotAt, placeAt}
 use Rattle.model.specs.Words.{isFilled, pageIn, arrivalIn, dirtyIn, lowestIn, strength}
 use Rattle.model.proofs.StateLaws.{Sized}
 use Rattle.model.proofs.Ranges.{ConditionOk, ContentOk, RowOk, SlotOk, HoldingOk, BordersOk, StateOk}
-use Rattle.area.specs.Layout.{headerWords, conditionNumber, awaited, waitingMode, rowWords, bit, slotWords, holdingWords, low, conditionOf, pinNumbered, contentOf, rowFrom, slotFrom, holdingFrom, bordersFrom, freeRows, emptySlots, decoded}
+use Rattle.area.specs.Layout.{headerWords, conditionNumber, awaited, waitingMode, rowWords, bit, slotWords, holdingWords, low, conditionOf, pinNumbered, contentOf, rowFrom, slotFrom, holdingFrom, bordersFrom, freeRows, emptySlots, noPlaces, placesFrom, decoded}
 
 -- ---- how long they are
 
 pub header-wide : (s : State) → length (wordBytes (headerWords s)) ≡ 72
 unfolding headerWords
 header-wide s = length-words (headerWords s)
+
+pub place-wide : (place : ℕ) → length (place ∷ []) * 8 ≡ 8
+place-wide place = refl
 
 pub row-wide : (x : Row) → length (rowWords x) * 8 ≡ 64
 unfolding rowWords
@@ -88,6 +91,9 @@ header-small s k =
     let b = k .borders in
     under-each (2 ^ 64) (lit< tt) (headerWords s)
     (lit< tt, (lit< tt, (k .size, (omega (arith, k .delay), (omega (arith, k .clock), (omega (arith, b .first), (omega (arith, b .second), (omega (arith, b .third), (bit-small (s .begun), tt)))))))))
+
+pub place-small : (place : ℕ) → place < 2 ^ 64 → AllUnder (2 ^ 64) (place ∷ [])
+place-small place h = under-each (2 ^ 64) (lit< tt) (place ∷ []) (h, tt)
 
 pub row-small : (x : Row) → RowOk x → AllUnder (2 ^ 64) (rowWords x)
 unfolding rowWords
@@ -179,12 +185,17 @@ pub decoded-holding : (a : List ℕ) (k : ℕ) → k < 2048 → getD (decoded a 
 unfolding decoded freeRows emptySlots emptyHoldings
 decoded-holding a k h = build-at (λ i. holdingFrom a (6656 + i * 24)) 2048 emptyHolding k emptyHolding h
 
+pub decoded-place : (a : List ℕ) (row : ℕ) → row < 32 → placeAt (decoded a) row ≡ wordAt a (72 + row * 8)
+unfolding decoded placesFrom noPlaces
+decoded-place a row h = build-at (λ i. wordAt a (72 + i * 8)) 32 0 row 0 h
+
 pub decoded-sized : (a : List ℕ) → Sized (decoded a)
-unfolding decoded freeRows emptySlots emptyHoldings
+unfolding decoded freeRows emptySlots emptyHoldings placesFrom noPlaces
 decoded-sized a = record {
   rows = each-length (λ row _. rowFrom a (512 + row * 64)) _ ∙ length-replicate 32 freeRow;
   slots = each-length (λ slot _. slotFrom a (2560 + slot * 64)) _ ∙ length-replicate 64 emptySlot;
   holdings = each-length (λ k _. holdingFrom a (6656 + k * 24)) _ ∙ length-replicate 2048 emptyHolding;
+  places = each-length (λ row _. wordAt a (72 + row * 8)) _ ∙ length-replicate {A = ℕ} 32 0;
 }
 
 pub decoded-row-ok : (a : List ℕ) (row : ℕ) → RowOk (rowAt (decoded a) row)
@@ -198,6 +209,10 @@ decoded-slot-ok a u = at-each-place SlotOk emptySlot (record { content = tt; tou
 pub decoded-holding-ok : (a : List ℕ) (k : ℕ) → HoldingOk (getD (decoded a .holdings) k emptyHolding)
 decoded-holding-ok a = at-each-place HoldingOk emptyHolding (record { arrival = lit< tt; touch = lit< tt }) (decoded a .holdings)
     (λ i b. rw (decoded-holding a i (rw (decoded-sized a .holdings) at b)) (holding-from-ok a (6656 + i * 24)))
+
+pub decoded-place-ok : (a : List ℕ) → AllUnder 256 a → (row : ℕ) → placeAt (decoded a) row < 2 ^ 64
+decoded-place-ok a u = at-each-place (λ (place : ℕ). place < 2 ^ 64) 0 (lit< tt) (decoded a .places)
+    (λ i b. rw (decoded-place a i (rw (decoded-sized a .places) at b)) (word-under a (72 + i * 8) u))
 
 -- every deadline that an area names, whatever its bytes
 pub decoded-deadline : (a : List ℕ) (row : ℕ) → rowAt (decoded a) row .deadline < 2 ^ 32
@@ -215,6 +230,7 @@ decoded-ok a u = record {
   slot = decoded-slot-ok a u;
   holding = decoded-holding-ok a;
   borders = borders-from-ok a;
+  place = decoded-place-ok a u;
 }
 
 -- ---- what is written reads back
@@ -250,6 +266,9 @@ pin-back Write = refl
 
 -- with p before them and r after them
 module _ (p r : List ℕ) (at : ℕ) (e : length p ≡ at) where
+  pub place-back : (place : ℕ) → place < 2 ^ 64 → wordAt (p ++ (wordBytes (place ∷ []) ++ r)) at ≡ place
+  place-back place h = rw add-zero at (word-in p (place ∷ []) r at 0 e (lit< tt) (place-small place h))
+
   pub row-back : (x : Row) → RowOk x → rowFrom (p ++ (wordBytes (rowWords x) ++ r)) at ≡ x
   unfolding rowFrom rowWords
   row-back x k =

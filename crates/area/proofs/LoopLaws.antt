@@ -10,11 +10,15 @@ use lib.ListN.{length, set, length-replicate}
 use Rattle.seq.specs.Each.{each, eachBelow}
 use Rattle.seq.proofs.EachLaws.{each-below-more, each-below-all}
 use Rattle.model.specs.State.{freeRow, emptySlot, emptyHolding, emptyHoldings}
-use Rattle.area.specs.Layout.{freeRows, emptySlots}
+use Rattle.area.specs.Layout.{freeRows, emptySlots, noPlaces}
 use Rattle.area.specs.Inner.Writes.{rowDropped, rowsDropped}
 use Rattle.words.specs.Bytes.{hasWords, spliced, joined, zeroWords}
 use Rattle.words.proofs.SpliceLaws.{spliced-more}
 use Rattle.words.proofs.JoinLaws.{length-joined}
+
+pub no-places-long : length noPlaces ≡ 32
+unfolding noPlaces
+no-places-long = length-replicate {A = ℕ} 32 0
 
 pub free-rows-long : length freeRows ≡ 32
 unfolding freeRows

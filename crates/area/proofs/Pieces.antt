@@ -1,21 +1,23 @@
 -- The exact bytes of an area, tested region by region.
 use mathlib.Core.Path.{_≡_, refl, sym, ap, _∙_}
-use mathlib.Core.Bool.{Bool, _&&_}
-use mathlib.Core.List.{List, [], _++_}
+use mathlib.Core.Bool.{Bool, true, _&&_}
+use mathlib.Core.List.{List, [], _∷_, _++_}
 use Prim.Native.Nat.{ℕ, _+_, _*_, _≤_}
+use native.Mathlib.Nat.{add-zero}
 use native.Mathlib.Omega.{arith}
+use borrow.Author.Tests.{eq-eqb}
 use lib.ListN.{length, getD, take, replicate, length-replicate}
 use Rattle.seq.specs.Below.{allBelow}
-use Rattle.seq.proofs.BelowLaws.{all-same}
-use Rattle.words.specs.Bytes.{part, joined, wordBytes, zeroWords, hasWords, same}
+use Rattle.seq.proofs.BelowLaws.{each-all, all-same}
+use Rattle.words.specs.Bytes.{part, joined, wordAt, wordBytes, zeroWords, hasWords, same}
 use Rattle.words.proofs.ByteLaws.{AllUnder, length-words}
 use Rattle.words.proofs.JoinLaws.{length-joined}
 use Rattle.words.proofs.SameLaws.{same-cut, has-words, has-zeros, has-pieces}
 use Rattle.model.specs.declared.Holding.{Holding}
 use Rattle.model.specs.declared.State.{State}
-use Rattle.model.specs.State.{emptyHolding, rowAt, slotAt}
-use Rattle.area.specs.Layout.{headerWords, rowWords, slotWords, holdingWords, encoded, rowFrom, slotFrom, holdingFrom, decoded, exact}
-use Rattle.area.proofs.Elements.{header-wide, row-wide, slot-wide, holding-wide, header-small, row-small, slot-small, holding-small, decoded-row, decoded-slot, decoded-holding, decoded-row-ok, decoded-slot-ok, decoded-holding-ok, decoded-ok}
+use Rattle.model.specs.State.{emptyHolding, rowAt, slotAt, placeAt}
+use Rattle.area.specs.Layout.{headerWords, placesBytes, rowWords, slotWords, holdingWords, encoded, rowFrom, slotFrom, holdingFrom, decoded, exact}
+use Rattle.area.proofs.Elements.{header-wide, place-wide, row-wide, slot-wide, holding-wide, header-small, place-small, row-small, slot-small, holding-small, decoded-place, decoded-row, decoded-slot, decoded-holding, decoded-place-ok, decoded-row-ok, decoded-slot-ok, decoded-holding-ok, decoded-ok}
 
 -- the regions of a state's bytes
 abbrev pub rowsBytes : State → List ℕ
@@ -26,6 +28,9 @@ slotsBytes s = joined 64 (λ slot. wordBytes (slotWords (slotAt s slot)))
 
 abbrev pub holdingsBytes : State → List ℕ
 holdingsBytes s = joined 2048 (λ k. wordBytes (holdingWords (getD (s .holdings) k emptyHolding)))
+
+pub places-long : (places : List ℕ) → length (placesBytes places) ≡ 256
+places-long places = length-joined 8 (λ row. wordBytes (getD places row 0 ∷ [])) (λ row. length-words (getD places row 0 ∷ [])) 32
 
 pub rows-long : (s : State) → length (rowsBytes s) ≡ 2048
 rows-long s = length-joined 64 (λ row. wordBytes (rowWords (rowAt s row))) (λ row. length-words (rowWords (rowAt s row)) ∙ row-wide (rowAt s row)) 32
@@ -49,21 +54,31 @@ cut : (a x y : List ℕ) (at m n : ℕ) {b : Bool} → at + m ≤ length a → l
     → same (part a at (m + n)) (x ++ y) ≡ same (part a at m) x && b
 cut a x y at m n h e f = same-cut a x y at m n h e ∙ rw f
 
-cut-six : (a x₀ x₁ x₂ x₃ x₄ x₅ : List ℕ) → 65536 ≤ length a
-    → length x₀ ≡ 72 → length x₁ ≡ 440 → length x₂ ≡ 2048 → length x₃ ≡ 4096 → length x₄ ≡ 49152
-    → same (take 65536 a) (x₀ ++ (x₁ ++ (x₂ ++ (x₃ ++ (x₄ ++ x₅)))))
-    ≡ same (part a 0 72) x₀ && (same (part a 72 440) x₁ && (same (part a 512 2048) x₂ && (same (part a 2560 4096) x₃ && (same (part a 6656 49152) x₄ && same (part a 55808 9728) x₅))))
-cut-six a x₀ x₁ x₂ x₃ x₄ x₅ h e₀ e₁ e₂ e₃ e₄ =
-    cut a x₀ (x₁ ++ (x₂ ++ (x₃ ++ (x₄ ++ x₅)))) 0 72 65464 (omega arith) e₀
-    (cut a x₁ (x₂ ++ (x₃ ++ (x₄ ++ x₅))) 72 440 65024 (omega arith) e₁
-    (cut a x₂ (x₃ ++ (x₄ ++ x₅)) 512 2048 62976 (omega arith) e₂
-    (cut a x₃ (x₄ ++ x₅) 2560 4096 58880 (omega arith) e₃
-    (cut a x₄ x₅ 6656 49152 9728 (omega arith) e₄ refl))))
+cut-seven : (a x₀ x₁ x₂ x₃ x₄ x₅ x₆ : List ℕ) → 65536 ≤ length a
+    → length x₀ ≡ 72 → length x₁ ≡ 256 → length x₂ ≡ 184 → length x₃ ≡ 2048 → length x₄ ≡ 4096 → length x₅ ≡ 49152
+    → same (take 65536 a) (x₀ ++ (x₁ ++ (x₂ ++ (x₃ ++ (x₄ ++ (x₅ ++ x₆))))))
+    ≡ same (part a 0 72) x₀ && (same (part a 72 256) x₁ && (same (part a 328 184) x₂ && (same (part a 512 2048) x₃ && (same (part a 2560 4096) x₄ && (same (part a 6656 49152) x₅ && same (part a 55808 9728) x₆)))))
+cut-seven a x₀ x₁ x₂ x₃ x₄ x₅ x₆ h e₀ e₁ e₂ e₃ e₄ e₅ =
+    cut a x₀ (x₁ ++ (x₂ ++ (x₃ ++ (x₄ ++ (x₅ ++ x₆))))) 0 72 65464 (omega arith) e₀
+    (cut a x₁ (x₂ ++ (x₃ ++ (x₄ ++ (x₅ ++ x₆)))) 72 256 65208 (omega arith) e₁
+    (cut a x₂ (x₃ ++ (x₄ ++ (x₅ ++ x₆))) 328 184 65024 (omega arith) e₂
+    (cut a x₃ (x₄ ++ (x₅ ++ x₆)) 512 2048 62976 (omega arith) e₃
+    (cut a x₄ (x₅ ++ x₆) 2560 4096 58880 (omega arith) e₄
+    (cut a x₅ x₆ 6656 49152 9728 (omega arith) e₅ refl)))))
 
 module _ (a : List ℕ) (bytes : AllUnder 256 a) (long : 65536 ≤ length a) where
   header-piece : hasWords a 0 (headerWords (decoded a)) ≡ same (part a 0 72) (wordBytes (headerWords (decoded a)))
   unfolding headerWords
   header-piece = has-words a (headerWords (decoded a)) 0 bytes (header-small (decoded a) (decoded-ok a bytes)) (omega arith)
+
+  -- any word may stand for a place
+  places-piece : same (part a 72 256) (placesBytes (decoded a .places)) ≡ true
+  unfolding hasWords allBelow
+  places-piece =
+      has-pieces a bytes 8 (λ row. placeAt (decoded a) row ∷ []) (λ row. place-wide (placeAt (decoded a) row)) 72 32
+      (λ row _. place-small (placeAt (decoded a) row) (decoded-place-ok a bytes row)) (omega arith)
+      ∙ each-all (λ row. hasWords a (72 + row * 8) (placeAt (decoded a) row ∷ [])) 32
+      (λ row b. rw (add-zero (72 + row * 8)) (eq-eqb (wordAt a (72 + row * 8)) (placeAt (decoded a) row) (sym (decoded-place a row b))))
 
   rows-piece : same (part a 512 2048) (rowsBytes (decoded a)) ≡ allBelow 32 (λ row. hasWords a (512 + row * 64) (rowWords (rowFrom a (512 + row * 64))))
   rows-piece =
@@ -88,7 +103,7 @@ module _ (a : List ℕ) (bytes : AllUnder 256 a) (long : 65536 ≤ length a) whe
       (λ k b. rw (decoded-holding a k b))
 
   pub exact-pieces : exact a
-      ≡ hasWords a 0 (headerWords (decoded a)) && (hasWords a 72 (replicate 55 0)
+      ≡ hasWords a 0 (headerWords (decoded a)) && (hasWords a 328 (replicate 23 0)
       && (allBelow 32 (λ row. hasWords a (512 + row * 64) (rowWords (rowFrom a (512 + row * 64))))
       && (allBelow 64 (λ slot. hasWords a (2560 + slot * 64) (slotWords (slotFrom a (2560 + slot * 64))))
       && (allBelow 2048 (λ k. hasWords a (6656 + k * 24) (holdingWords (holdingFrom a (6656 + k * 24))))
@@ -96,7 +111,7 @@ module _ (a : List ℕ) (bytes : AllUnder 256 a) (long : 65536 ≤ length a) whe
   unfolding exact encoded
   exact-pieces =
       let s = decoded a in
-      cut-six a (wordBytes (headerWords s)) (zeroWords 55) (rowsBytes s) (slotsBytes s) (holdingsBytes s) (zeroWords 1216) long
-      (header-wide s) (zeros-long 55) (rows-long s) (slots-long s) (holdings-long s)
-      ∙ and-same (sym header-piece) (and-same (sym (has-zeros a 72 55 bytes (omega arith)))
-      (and-same rows-piece (and-same slots-piece (and-same holdings-piece (sym (has-zeros a 55808 1216 bytes (omega arith)))))))
+      cut-seven a (wordBytes (headerWords s)) (placesBytes (s .places)) (zeroWords 23) (rowsBytes s) (slotsBytes s) (holdingsBytes s) (zeroWords 1216) long
+      (header-wide s) (places-long (s .places)) (zeros-long 23) (rows-long s) (slots-long s) (holdings-long s)
+      ∙ and-same (sym header-piece) (and-same places-piece (and-same (sym (has-zeros a 328 23 bytes (omega arith)))
+      (and-same rows-piece (and-same slots-piece (and-same holdings-piece (sym (has-zeros a 55808 1216 bytes (omega arith))))))))

@@ -1,7 +1,7 @@
 -- A state's bytes name that state again, and an area that is exact is the bytes of the state that it names.
 use mathlib.Core.Path.{_≡_, sym, ap, _∙_}
 use mathlib.Core.Bool.{true, not}
-use mathlib.Core.List.{List, [], _++_, append-assoc}
+use mathlib.Core.List.{List, [], _∷_, _++_, append-assoc}
 use Prim.Native.Nat.{ℕ, _+_, _*_, _<_, _≤_}
 use native.Mathlib.Omega.{arith}
 use lib.Dec.{eqb, lit<}
@@ -16,52 +16,65 @@ use Rattle.words.proofs.JoinLaws.{under-joined, piece-back}
 use Rattle.words.proofs.SameLaws.{same-true, true-same}
 use Rattle.model.specs.declared.Holding.{Holding}
 use Rattle.model.specs.declared.State.{State}
-use Rattle.model.specs.State.{freeRow, emptySlot, emptyHolding, emptyHoldings, rowAt, slotAt}
+use Rattle.model.specs.State.{freeRow, emptySlot, emptyHolding, emptyHoldings, rowAt, slotAt, placeAt}
 use Rattle.model.proofs.Ranges.{StateOk}
-use Rattle.area.specs.Layout.{headerWords, rowWords, slotWords, holdingWords, encoded, bit, low, rowFrom, slotFrom, holdingFrom, bordersFrom, freeRows, emptySlots, decoded, exact}
-use Rattle.area.proofs.Elements.{header-wide, row-wide, slot-wide, holding-wide, low-same, bit-back, row-back, slot-back, holding-back, header-back}
-use Rattle.area.proofs.Pieces.{rowsBytes, slotsBytes, holdingsBytes, rows-long, slots-long, holdings-long, zeros-long}
+use Rattle.area.specs.Layout.{headerWords, placesBytes, rowWords, slotWords, holdingWords, encoded, bit, low, rowFrom, slotFrom, holdingFrom, bordersFrom, freeRows, emptySlots, noPlaces, placesFrom, decoded, exact}
+use Rattle.area.proofs.Elements.{header-wide, place-wide, row-wide, slot-wide, holding-wide, low-same, bit-back, place-back, row-back, slot-back, holding-back, header-back}
+use Rattle.area.proofs.Pieces.{rowsBytes, slotsBytes, holdingsBytes, places-long, rows-long, slots-long, holdings-long, zeros-long}
 
 -- ---- the bytes of a state
 
-six-long : (x₀ x₁ x₂ x₃ x₄ x₅ : List ℕ)
-    → length x₀ ≡ 72 → length x₁ ≡ 440 → length x₂ ≡ 2048 → length x₃ ≡ 4096 → length x₄ ≡ 49152 → length x₅ ≡ 9728
-    → length (x₀ ++ (x₁ ++ (x₂ ++ (x₃ ++ (x₄ ++ x₅))))) ≡ 65536
-six-long x₀ x₁ x₂ x₃ x₄ x₅ e₀ e₁ e₂ e₃ e₄ e₅ = simp length-append (omega arith)
+seven-long : (x₀ x₁ x₂ x₃ x₄ x₅ x₆ : List ℕ)
+    → length x₀ ≡ 72 → length x₁ ≡ 256 → length x₂ ≡ 184 → length x₃ ≡ 2048 → length x₄ ≡ 4096 → length x₅ ≡ 49152 → length x₆ ≡ 9728
+    → length (x₀ ++ (x₁ ++ (x₂ ++ (x₃ ++ (x₄ ++ (x₅ ++ x₆)))))) ≡ 65536
+seven-long x₀ x₁ x₂ x₃ x₄ x₅ x₆ e₀ e₁ e₂ e₃ e₄ e₅ e₆ = simp length-append (omega arith)
 
 pub encoded-long : (s : State) → length (encoded s) ≡ 65536
 unfolding encoded
 encoded-long s =
-    six-long (wordBytes (headerWords s)) (zeroWords 55) (rowsBytes s) (slotsBytes s) (holdingsBytes s) (zeroWords 1216)
-    (header-wide s) (zeros-long 55) (rows-long s) (slots-long s) (holdings-long s) (zeros-long 1216)
+    seven-long (wordBytes (headerWords s)) (placesBytes (s .places)) (zeroWords 23) (rowsBytes s) (slotsBytes s) (holdingsBytes s) (zeroWords 1216)
+    (header-wide s) (places-long (s .places)) (zeros-long 23) (rows-long s) (slots-long s) (holdings-long s) (zeros-long 1216)
 
 pub encoded-under : (s : State) → AllUnder 256 (encoded s)
 unfolding encoded
 encoded-under s =
+    let places = under-joined 256 (lit< tt) 32 (λ row. wordBytes (placeAt s row ∷ [])) (λ row. words-under (placeAt s row ∷ [])) in
     let rows = under-joined 256 (lit< tt) 32 (λ row. wordBytes (rowWords (rowAt s row))) (λ row. words-under (rowWords (rowAt s row))) in
     let slots = under-joined 256 (lit< tt) 64 (λ slot. wordBytes (slotWords (slotAt s slot))) (λ slot. words-under (slotWords (slotAt s slot))) in
     let holdings = under-joined 256 (lit< tt) 2048 (λ k. wordBytes (holdingWords (getD (s .holdings) k emptyHolding))) (λ k. words-under (holdingWords (getD (s .holdings) k emptyHolding))) in
-    under-append 256 (wordBytes (headerWords s)) (zeroWords 55 ++ (rowsBytes s ++ (slotsBytes s ++ (holdingsBytes s ++ zeroWords 1216)))) (words-under (headerWords s))
-    (under-append 256 (zeroWords 55) (rowsBytes s ++ (slotsBytes s ++ (holdingsBytes s ++ zeroWords 1216))) (words-under (replicate 55 0))
+    under-append 256 (wordBytes (headerWords s)) (placesBytes (s .places) ++ (zeroWords 23 ++ (rowsBytes s ++ (slotsBytes s ++ (holdingsBytes s ++ zeroWords 1216))))) (words-under (headerWords s))
+    (under-append 256 (placesBytes (s .places)) (zeroWords 23 ++ (rowsBytes s ++ (slotsBytes s ++ (holdingsBytes s ++ zeroWords 1216)))) places
+    (under-append 256 (zeroWords 23) (rowsBytes s ++ (slotsBytes s ++ (holdingsBytes s ++ zeroWords 1216))) (words-under (replicate 23 0))
     (under-append 256 (rowsBytes s) (slotsBytes s ++ (holdingsBytes s ++ zeroWords 1216)) rows
     (under-append 256 (slotsBytes s) (holdingsBytes s ++ zeroWords 1216) slots
-    (under-append 256 (holdingsBytes s) (zeroWords 1216) holdings (words-under (replicate 1216 0))))))
+    (under-append 256 (holdingsBytes s) (zeroWords 1216) holdings (words-under (replicate 1216 0)))))))
 
 -- ---- and back
 
--- six regions and a rest, seen from the first, the third, the fourth and the fifth of them
-module _ (x₀ x₁ x₂ x₃ x₄ x₅ r : List ℕ) where
-  before-first : (x₀ ++ (x₁ ++ (x₂ ++ (x₃ ++ (x₄ ++ x₅))))) ++ r ≡ x₀ ++ (x₁ ++ (x₂ ++ (x₃ ++ (x₄ ++ (x₅ ++ r)))))
+-- seven regions and a rest, seen from the first, the fourth, the fifth and the sixth of them
+module _ (x₀ x₁ x₂ x₃ x₄ x₅ x₆ r : List ℕ) where
+  before-first : (x₀ ++ (x₁ ++ (x₂ ++ (x₃ ++ (x₄ ++ (x₅ ++ x₆)))))) ++ r ≡ x₀ ++ (x₁ ++ (x₂ ++ (x₃ ++ (x₄ ++ (x₅ ++ (x₆ ++ r))))))
   before-first = simp append-assoc
 
-  before-third : (x₀ ++ (x₁ ++ (x₂ ++ (x₃ ++ (x₄ ++ x₅))))) ++ r ≡ (x₀ ++ x₁) ++ (x₂ ++ (x₃ ++ (x₄ ++ (x₅ ++ r))))
-  before-third = simp append-assoc
-
-  before-fourth : (x₀ ++ (x₁ ++ (x₂ ++ (x₃ ++ (x₄ ++ x₅))))) ++ r ≡ (x₀ ++ (x₁ ++ x₂)) ++ (x₃ ++ (x₄ ++ (x₅ ++ r)))
+  pub before-fourth : (x₀ ++ (x₁ ++ (x₂ ++ (x₃ ++ (x₄ ++ (x₅ ++ x₆)))))) ++ r ≡ (x₀ ++ (x₁ ++ x₂)) ++ (x₃ ++ (x₄ ++ (x₅ ++ (x₆ ++ r))))
   before-fourth = simp append-assoc
 
-  before-fifth : (x₀ ++ (x₁ ++ (x₂ ++ (x₃ ++ (x₄ ++ x₅))))) ++ r ≡ (x₀ ++ (x₁ ++ (x₂ ++ x₃))) ++ (x₄ ++ (x₅ ++ r))
+  before-fifth : (x₀ ++ (x₁ ++ (x₂ ++ (x₃ ++ (x₄ ++ (x₅ ++ x₆)))))) ++ r ≡ (x₀ ++ (x₁ ++ (x₂ ++ x₃))) ++ (x₄ ++ (x₅ ++ (x₆ ++ r)))
   before-fifth = simp append-assoc
+
+  before-sixth : (x₀ ++ (x₁ ++ (x₂ ++ (x₃ ++ (x₄ ++ (x₅ ++ x₆)))))) ++ r ≡ (x₀ ++ (x₁ ++ (x₂ ++ (x₃ ++ x₄)))) ++ (x₅ ++ (x₆ ++ r))
+  before-sixth = simp append-assoc
+
+-- how long the regions before the fourth, the fifth and the sixth are
+module _ (x₀ x₁ x₂ : List ℕ) (e₀ : length x₀ ≡ 72) (e₁ : length x₁ ≡ 256) (e₂ : length x₂ ≡ 184) where
+  pub three-long : length (x₀ ++ (x₁ ++ x₂)) ≡ 512
+  three-long = simp length-append (omega arith)
+
+  four-long : (x₃ : List ℕ) → length x₃ ≡ 2048 → length (x₀ ++ (x₁ ++ (x₂ ++ x₃))) ≡ 2560
+  four-long x₃ e₃ = simp length-append (omega arith)
+
+  five-long : (x₃ x₄ : List ℕ) → length x₃ ≡ 2048 → length x₄ ≡ 4096 → length (x₀ ++ (x₁ ++ (x₂ ++ (x₃ ++ x₄)))) ≡ 6656
+  five-long x₃ x₄ e₃ e₄ = simp length-append (omega arith)
 
 -- an array of n elements made of what is read at each place
 module _ {A : Type 0} (f : ℕ → A) (d : A) where
@@ -72,52 +85,61 @@ module _ {A : Type 0} (f : ℕ → A) (d : A) where
       (λ i b. let b′ = rw m at b in build-at f n d i d b′ ∙ g i b′)
 
 module _ (s : State) (k : StateOk s) (r : List ℕ) where
+  place-there : (i : ℕ) → i < 32 → wordAt (encoded s ++ r) (72 + i * 8) ≡ placeAt s i
+  unfolding encoded
+  place-there i b =
+      let h = wordBytes (headerWords s) in
+      ap (λ (a : List ℕ). wordAt a (72 + i * 8)) (before-first h (placesBytes (s .places)) (zeroWords 23) (rowsBytes s) (slotsBytes s) (holdingsBytes s) (zeroWords 1216) r)
+      ∙ piece-back 8 (λ row. wordBytes (placeAt s row ∷ [])) (λ row. length-words (placeAt s row ∷ []) ∙ place-wide (placeAt s row)) wordAt (placeAt s)
+      (λ row p q at l. place-back p q at l (placeAt s row) (k .place row))
+      h (zeroWords 23 ++ (rowsBytes s ++ (slotsBytes s ++ (holdingsBytes s ++ (zeroWords 1216 ++ r))))) 72 32 i (header-wide s) b
+
   row-there : (i : ℕ) → i < 32 → rowFrom (encoded s ++ r) (512 + i * 64) ≡ rowAt s i
   unfolding encoded
   row-there i b =
       let h = wordBytes (headerWords s) in
-      let e : length (h ++ zeroWords 55) ≡ 512 = length-append h (zeroWords 55) ∙ (λ j. header-wide s j + zeros-long 55 j) in
-      ap (λ (a : List ℕ). rowFrom a (512 + i * 64)) (before-third h (zeroWords 55) (rowsBytes s) (slotsBytes s) (holdingsBytes s) (zeroWords 1216) r)
+      let o = placesBytes (s .places) in
+      let z = zeroWords 23 in
+      ap (λ (a : List ℕ). rowFrom a (512 + i * 64)) (before-fourth h o z (rowsBytes s) (slotsBytes s) (holdingsBytes s) (zeroWords 1216) r)
       ∙ piece-back 64 (λ row. wordBytes (rowWords (rowAt s row))) (λ row. length-words (rowWords (rowAt s row)) ∙ row-wide (rowAt s row)) rowFrom (rowAt s)
       (λ row p q at l. row-back p q at l (rowAt s row) (k .row row))
-      (h ++ zeroWords 55) (slotsBytes s ++ (holdingsBytes s ++ (zeroWords 1216 ++ r))) 512 32 i e b
+      (h ++ (o ++ z)) (slotsBytes s ++ (holdingsBytes s ++ (zeroWords 1216 ++ r))) 512 32 i
+      (three-long h o z (header-wide s) (places-long (s .places)) (zeros-long 23)) b
 
   slot-there : (i : ℕ) → i < 64 → slotFrom (encoded s ++ r) (2560 + i * 64) ≡ slotAt s i
   unfolding encoded
   slot-there i b =
       let h = wordBytes (headerWords s) in
-      let e : length (h ++ (zeroWords 55 ++ rowsBytes s)) ≡ 2560 =
-      length-append h (zeroWords 55 ++ rowsBytes s)
-      ∙ ap (λ (m : ℕ). length h + m) (length-append (zeroWords 55) (rowsBytes s))
-      ∙ (λ j. header-wide s j + (zeros-long 55 j + rows-long s j)) in
-      ap (λ (a : List ℕ). slotFrom a (2560 + i * 64)) (before-fourth h (zeroWords 55) (rowsBytes s) (slotsBytes s) (holdingsBytes s) (zeroWords 1216) r)
+      let o = placesBytes (s .places) in
+      let z = zeroWords 23 in
+      ap (λ (a : List ℕ). slotFrom a (2560 + i * 64)) (before-fifth h o z (rowsBytes s) (slotsBytes s) (holdingsBytes s) (zeroWords 1216) r)
       ∙ piece-back 64 (λ slot. wordBytes (slotWords (slotAt s slot))) (λ slot. length-words (slotWords (slotAt s slot)) ∙ slot-wide (slotAt s slot)) slotFrom (slotAt s)
       (λ slot p q at l. slot-back p q at l (slotAt s slot) (k .slot slot))
-      (h ++ (zeroWords 55 ++ rowsBytes s)) (holdingsBytes s ++ (zeroWords 1216 ++ r)) 2560 64 i e b
+      (h ++ (o ++ (z ++ rowsBytes s))) (holdingsBytes s ++ (zeroWords 1216 ++ r)) 2560 64 i
+      (four-long h o z (header-wide s) (places-long (s .places)) (zeros-long 23) (rowsBytes s) (rows-long s)) b
 
   holding-there : (i : ℕ) → i < 2048 → holdingFrom (encoded s ++ r) (6656 + i * 24) ≡ getD (s .holdings) i emptyHolding
   unfolding encoded
   holding-there i b =
       let h = wordBytes (headerWords s) in
+      let o = placesBytes (s .places) in
+      let z = zeroWords 23 in
       let x : ℕ → Holding = λ i. getD (s .holdings) i emptyHolding in
-      let e : length (h ++ (zeroWords 55 ++ (rowsBytes s ++ slotsBytes s))) ≡ 6656 =
-      length-append h (zeroWords 55 ++ (rowsBytes s ++ slotsBytes s))
-      ∙ ap (λ (m : ℕ). length h + m) (length-append (zeroWords 55) (rowsBytes s ++ slotsBytes s) ∙ ap (λ (m : ℕ). length (zeroWords 55) + m) (length-append (rowsBytes s) (slotsBytes s)))
-      ∙ (λ j. header-wide s j + (zeros-long 55 j + (rows-long s j + slots-long s j))) in
-      ap (λ (a : List ℕ). holdingFrom a (6656 + i * 24)) (before-fifth h (zeroWords 55) (rowsBytes s) (slotsBytes s) (holdingsBytes s) (zeroWords 1216) r)
+      ap (λ (a : List ℕ). holdingFrom a (6656 + i * 24)) (before-sixth h o z (rowsBytes s) (slotsBytes s) (holdingsBytes s) (zeroWords 1216) r)
       ∙ piece-back 24 (λ i. wordBytes (holdingWords (x i))) (λ i. length-words (holdingWords (x i)) ∙ holding-wide (x i)) holdingFrom x
       (λ i p q at l. holding-back p q at l (x i) (k .holding i))
-      (h ++ (zeroWords 55 ++ (rowsBytes s ++ slotsBytes s))) (zeroWords 1216 ++ r) 6656 2048 i e b
+      (h ++ (o ++ (z ++ (rowsBytes s ++ slotsBytes s)))) (zeroWords 1216 ++ r) 6656 2048 i
+      (five-long h o z (header-wide s) (places-long (s .places)) (zeros-long 23) (rowsBytes s) (slotsBytes s) (rows-long s) (slots-long s)) b
 
   header-there : (j : ℕ) → j < 9 → wordAt (encoded s ++ r) (j * 8) ≡ getD (headerWords s) j 0
   unfolding encoded
   header-there j b =
       let h = wordBytes (headerWords s) in
-      ap (λ (a : List ℕ). wordAt a (j * 8)) (before-first h (zeroWords 55) (rowsBytes s) (slotsBytes s) (holdingsBytes s) (zeroWords 1216) r)
-      ∙ header-back s k (zeroWords 55 ++ (rowsBytes s ++ (slotsBytes s ++ (holdingsBytes s ++ (zeroWords 1216 ++ r))))) j b
+      ap (λ (a : List ℕ). wordAt a (j * 8)) (before-first h (placesBytes (s .places)) (zeroWords 23) (rowsBytes s) (slotsBytes s) (holdingsBytes s) (zeroWords 1216) r)
+      ∙ header-back s k (placesBytes (s .places) ++ (zeroWords 23 ++ (rowsBytes s ++ (slotsBytes s ++ (holdingsBytes s ++ (zeroWords 1216 ++ r)))))) j b
 
   pub decode-encode : decoded (encoded s ++ r) ≡ s
-  unfolding decoded headerWords bordersFrom freeRows emptySlots emptyHoldings
+  unfolding decoded headerWords bordersFrom freeRows emptySlots emptyHoldings noPlaces placesFrom
   decode-encode =
       let a = encoded s ++ r in
       let w2 : wordAt a 16 ≡ s .size = header-there 2 (lit< tt) in
@@ -140,6 +162,7 @@ module _ (s : State) (k : StateOk s) (r : List ℕ) where
           third = (ap low w7 ∙ low-same (s .borders .third) (k .borders .third)) i;
         };
         begun = (ap (λ (w : ℕ). not (eqb w 0)) w8 ∙ bit-back (s .begun)) i;
+        places = built (λ row. wordAt a (72 + row * 8)) 0 32 (s .places) (k .sized .places) place-there i;
       }
 
   pub encode-exact : exact (encoded s ++ r) ≡ true

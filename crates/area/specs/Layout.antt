@@ -29,7 +29,7 @@ abbrev pub mark : ℕ
 mark = 5068029821175611731
 
 abbrev pub version : ℕ
-version = 2
+version = 3
 
 -- a Bool as 0 or 1
 abbrev pub bit : Bool → ℕ
@@ -76,14 +76,18 @@ slotWords x =
 unfoldable pub holdingWords : Holding → List ℕ
 holdingWords h = strength (h .pin) ∷ h .arrival ∷ h .touch ∷ []
 
+-- the place of each of the 32 rows in its level's begin order, a word for each
+abbrev pub placesBytes : List ℕ → List ℕ
+placesBytes places = joined 32 (λ row. wordBytes (getD places row 0 ∷ []))
+
 -- the 65,536 bytes of a state
 unfoldable pub encoded : State → List ℕ
 encoded s =
-    wordBytes (headerWords s) ++ (zeroWords 55
+    wordBytes (headerWords s) ++ (placesBytes (s .places) ++ (zeroWords 23
     ++ (joined 32 (λ row. wordBytes (rowWords (rowAt s row)))
     ++ (joined 64 (λ slot. wordBytes (slotWords (slotAt s slot)))
     ++ (joined 2048 (λ k. wordBytes (holdingWords (getD (s .holdings) k emptyHolding)))
-    ++ zeroWords 1216))))
+    ++ zeroWords 1216)))))
 
 -- a tick, a page, a border or a deadline has the lower four bytes of its word
 abbrev pub low : ℕ → ℕ
@@ -128,6 +132,13 @@ emptySlots = replicate 64 emptySlot
 unfoldable pub bordersFrom : List ℕ → Borders
 bordersFrom a = record { first = low (wordAt a 40); second = low (wordAt a 48); third = low (wordAt a 56) }
 
+unfoldable pub noPlaces : List ℕ
+noPlaces = replicate 32 0
+
+-- a place is the whole of its word
+unfoldable pub placesFrom : List ℕ → List ℕ
+placesFrom a = each (λ row _. wordAt a (72 + row * 8)) noPlaces
+
 -- the state that an area names
 unfoldable pub decoded : List ℕ → State
 decoded a = record {
@@ -139,6 +150,7 @@ decoded a = record {
   holdings = each (λ k _. holdingFrom a (6656 + k * 24)) emptyHoldings;
   borders = bordersFrom a;
   begun = not (eqb (wordAt a 64) 0);
+  places = placesFrom a;
 }
 
 -- the first 65,536 bytes are exactly those of the state that they name

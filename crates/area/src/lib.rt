@@ -20,9 +20,9 @@ ghost use Rattle.words.specs.Bytes.{hasWords, spliced, joined, wordBytes};
 ghost use Rattle.model.specs.Parties.{modeOf};
 ghost use Rattle.model.specs.State.{freeRow, emptySlot, emptyHolding};
 ghost use Rattle.model.specs.Inner.Changed.{marked, changed};
-ghost use Rattle.area.specs.Layout.{mark, version, bit, low, causeNumber, conditionOf, pinNumbered, contentOf, rowFrom, slotFrom, holdingFrom, bordersFrom, headerWords, rowWords, slotWords, holdingWords, freeRows, emptySlots, decoded, encoded, exact};
+ghost use Rattle.area.specs.Layout.{mark, version, bit, low, causeNumber, conditionOf, pinNumbered, contentOf, rowFrom, slotFrom, holdingFrom, bordersFrom, placesFrom, headerWords, placesBytes, rowWords, slotWords, holdingWords, freeRows, emptySlots, decoded, encoded, exact};
 ghost use Rattle.area.specs.Inner.Exact.{exactRows, exactSlots, exactHoldings};
-ghost use Rattle.area.specs.Inner.Writes.{settingPut, rowDropped, rowsDropped};
+ghost use Rattle.area.specs.Inner.Writes.{placesPut, orderPut, settingPut, rowDropped, rowsDropped};
 
 // The rows and slots that an area names, and whether its bytes there are exactly theirs.
 struct Rows {
@@ -232,7 +232,7 @@ fn header_words(size: usize, delay: u32, clock: u32, b: Borders, begun: bool) ->
 {
     [
         5068029821175611731,
-        2,
+        3,
         size as u64,
         delay as u64,
         clock as u64,
@@ -252,6 +252,17 @@ fn get_borders(a: &[u8]) -> Borders
         second: low(words::word(a, 48)),
         third: low(words::word(a, 56)),
     }
+}
+
+fn get_places(a: &[u8]) -> [usize; 32]
+    requires { ⌜ 65536 ≤ length (now a) ⌝ }
+    ensures { λ r. ⌜ r ≡ placesFrom (now (a .entry)) ⌝ }
+{
+    let mut places: [usize; 32] = [0; 32];
+    for i in 0..32usize {
+        places[i] = words::word(a, 72 + i * 8) as usize;
+    }
+    places
 }
 
 fn free_rows() -> [Row; 32]
@@ -307,11 +318,11 @@ fn get_slots(a: &[u8]) -> Slots
 // The mark, the version, the numbers of the whole state and the unused words are those of the layout.
 fn is_frame(a: &[u8], size: usize, delay: u32, clock: u32, b: Borders, begun: bool) -> bool
     requires { ⌜ 65536 ≤ length (now a) ⌝ }
-    ensures { λ r. ⌜ r ≡ hasWords (now (a .entry)) 0 (mark ∷ version ∷ size ∷ delay ∷ clock ∷ b .first ∷ b .second ∷ b .third ∷ bit begun ∷ []) && (hasWords (now (a .entry)) 72 (replicate 55 0) && hasWords (now (a .entry)) 55808 (replicate 1216 0)) ⌝ }
+    ensures { λ r. ⌜ r ≡ hasWords (now (a .entry)) 0 (mark ∷ version ∷ size ∷ delay ∷ clock ∷ b .first ∷ b .second ∷ b .third ∷ bit begun ∷ []) && (hasWords (now (a .entry)) 328 (replicate 23 0) && hasWords (now (a .entry)) 55808 (replicate 1216 0)) ⌝ }
 {
     let ws = header_words(size, delay, clock, b, begun);
     if words::has_words(a, 0, &ws) {
-        if words::has_zeros(a, 72, 55) {
+        if words::has_zeros(a, 328, 23) {
             return words::has_zeros(a, 55808, 1216);
         }
         return false;
@@ -332,6 +343,7 @@ pub fn decode(a: &[u8], whole: &mut bool) -> State
     let s = get_slots(a);
     let borders = get_borders(a);
     let begun = words::word(a, 64) != 0;
+    let places = get_places(a);
     let frame = is_frame(a, size, delay, clock, borders, begun);
     let mut same = seq::both(frame, seq::both(r.exact, s.exact));
     let rows = r.rows;
@@ -355,6 +367,16 @@ pub fn decode(a: &[u8], whole: &mut bool) -> State
         holdings,
         borders,
         begun,
+        places,
+    }
+}
+
+fn put_places(a: &mut [u8], places: [usize; 32])
+    requires { ⌜ 65536 ≤ length (now a) ⌝ }
+    ensures { λ _. ⌜ now (a .exit) ≡ spliced (now (a .entry)) 72 (placesBytes places) ⌝ }
+{
+    for i in 0..32usize {
+        words::put_word(a, 72 + i * 8, places[i] as u64);
     }
 }
 
@@ -387,7 +409,9 @@ pub fn encode(a: &mut [u8], s: State)
 {
     let ws = header_words(s.size, s.delay, s.clock, s.borders, s.begun);
     words::put_words(a, 0, &ws);
-    words::put_zeros(a, 72, 55);
+    let places = s.places;
+    put_places(a, places);
+    words::put_zeros(a, 328, 23);
     let rows = s.rows;
     put_rows(a, rows);
     let slots = s.slots;
@@ -434,6 +458,33 @@ fn put_held(a: &mut [u8], slot: usize, held: [Holding; 32])
     }
 }
 
+// The places in the begin orders as a call leaves them, written over those that the area names.
+fn change_places(a: &mut [u8], x: Setting)
+    requires { ⌜ 65536 ≤ length (now a) ⌝ }
+    ensures { λ _. ⌜ now (a .exit) ≡ placesPut x (now (a .entry)) ⌝ }
+{
+    let old = get_places(a);
+    let new = model::changed_places(x, old);
+    put_places(a, new);
+}
+
+// The begin order of a level changes where a row begins or ends.
+fn put_order(a: &mut [u8], x: Setting)
+    requires { ⌜ 65536 ≤ length (now a) ⌝ }
+    ensures { λ _. ⌜ now (a .exit) ≡ orderPut x (now (a .entry)) ⌝ }
+{
+    match x {
+        Setting::Left => {}
+        Setting::Begun { row: _, place: _ } => change_places(a, x),
+        Setting::Ended { row: _ } => change_places(a, x),
+        Setting::Set {
+            first: _,
+            second: _,
+            third: _,
+        } => {}
+    }
+}
+
 // What a call makes of the borders and of whether a row has begun, written over the header.
 fn put_setting(a: &mut [u8], x: Setting)
     requires { ⌜ 65536 ≤ length (now a) ⌝ }
@@ -441,10 +492,11 @@ fn put_setting(a: &mut [u8], x: Setting)
 {
     match x {
         Setting::Left => {}
-        Setting::Begun => {
+        Setting::Begun { row: _, place: _ } => {
             let ws = [1];
             words::put_words(a, 64, &ws);
         }
+        Setting::Ended { row: _ } => {}
         Setting::Set {
             first,
             second,
@@ -461,9 +513,10 @@ pub fn amend(a: &mut [u8], c: Change)
     requires { ⌜ exact (now a) ≡ true ⌝ }
     ensures { λ _. ⌜ now (a .exit) ≡ encoded (changed (decoded (now (a .entry))) c) ++ drop 65536 (now (a .entry)) ⌝ }
 {
+    let setting = c.setting;
+    put_order(a, setting);
     let ws = [c.clock as u64];
     words::put_words(a, 32, &ws);
-    let setting = c.setting;
     put_setting(a, setting);
     let rows = c.rows;
     put_rows(a, rows);

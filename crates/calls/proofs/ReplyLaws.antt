@@ -19,7 +19,7 @@ use Rattle.model.specs.declared.Outcome.{Outcome}
 use Rattle.model.specs.declared.State.{State}
 use Rattle.model.specs.State.{emptyHolding, withClock, withRows}
 use Rattle.model.specs.Changes.{released, killed, killedRow}
-use Rattle.model.specs.Inner.Changed.{marked, withSetting, changed, outcomeOf, holdingsDropped}
+use Rattle.model.specs.Inner.Changed.{marked, bordersAfter, begunAfter, placesAfter, withSetting, changed, outcomeOf, holdingsDropped}
 use Rattle.model.proofs.StateLaws.{Sized}
 use Rattle.model.proofs.ChangedLaws.{changed-dropped, changed-none}
 use Rattle.rules.specs.Calls.{unless}
@@ -48,13 +48,14 @@ module _ (s : State) (z : Sized s) where
   refused-after r n m o e f h = left-after r (s .rows) (Refused n) e ∙ refused n m s o f h
 
   -- some rows do
-  pub drop-after : (c : Change) (clock : ℕ) (rows : List Row) (slots : List Slot) (gone : List Bool) (a : Answer) → c ≡ holdingsDropped clock rows slots gone Left
-      → slots ≡ released (marked gone) (withClock s clock) .slots → outcomeOf s (record { change = c; answer = a }) ≡ record { state = withRows (released (marked gone) (withClock s clock)) rows; answer = a }
+  pub drop-after : (c : Change) (clock : ℕ) (rows : List Row) (slots : List Slot) (gone : List Bool) (x : Setting) (a : Answer) → c ≡ holdingsDropped clock rows slots gone x
+      → slots ≡ released (marked gone) (withClock s clock) .slots
+      → outcomeOf s (record { change = c; answer = a }) ≡ record { state = withSetting (withRows (released (marked gone) (withClock s clock)) rows) x; answer = a }
   unfolding outcomeOf released
-  drop-after c clock rows slots gone a e f =
-      let t : changed s c ≡ withRows (released (marked gone) (withClock s clock)) rows =
+  drop-after c clock rows slots gone x a e f =
+      let t : changed s c ≡ withSetting (withRows (released (marked gone) (withClock s clock)) rows) x =
       ap (changed s) e
-      ∙ changed-dropped s z clock rows slots gone Left
+      ∙ changed-dropped s z clock rows slots gone x
       ∙ (λ j. record {
         size = s .size;
         delay = s .delay;
@@ -62,8 +63,9 @@ module _ (s : State) (z : Sized s) where
         rows = rows;
         slots = f j;
         holdings = each (λ k h. cond (marked gone (k % 32)) emptyHolding h) (s .holdings);
-        borders = s .borders;
-        begun = s .begun;
+        borders = bordersAfter x (s .borders);
+        begun = begunAfter x (s .begun);
+        places = placesAfter x (s .places);
       }) in
       λ j. record { state = t j; answer = a }
 

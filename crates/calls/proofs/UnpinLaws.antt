@@ -56,7 +56,7 @@ module _ (s : State) (z : Sized s) (row slot : ℕ) (b : row < 32) (d : slot < 6
       let c : Change = record { clock = s .clock; rows = s .rows; slots = set (s .slots) slot y; gone = replicate 32 false; slot = slot; held = set held row h; setting = Left } in
       let t : each (holdingAfter c) (s .holdings) ≡ set (s .holdings) (slot * 32 + row) h =
       sym (held-set s z same c row h d b on-length refl refl (ap (λ (l : List Holding). set l row h) e)) ∙ ap (λ (l : List Holding). set l (slot * 32 + row) h) all-same in
-      λ j. record { size = s .size; delay = s .delay; clock = s .clock; rows = s .rows; slots = set (s .slots) slot y; holdings = t j; borders = s .borders; begun = s .begun }
+      λ j. record { size = s .size; delay = s .delay; clock = s .clock; rows = s .rows; slots = set (s .slots) slot y; holdings = t j; borders = s .borders; begun = s .begun; places = s .places }
 
   -- p: whether the holding is a pin
   pub pin-is : (held : List Holding) (p : Bool) → held ≡ holdingsOn s slot → p ≡ isPin (getD held row emptyHolding .pin) → pins s slot row ≡ p

@@ -26,9 +26,9 @@ use Rattle.choice.specs.declared.Holders.{Holders}
 use Rattle.choice.specs.declared.Summary.{Summary}
 use Rattle.choice.specs.Inner.Summary.{noRank, rankIn, ranksOf, latestBelow, pinnedBelow, noHolders, holdersAt, holdersBelow, joinedLevel, holdersWith, summaryWith, summaryOf, noSummary}
 
-pub rank-at : (rows : List Row) (ranks : List Rank) (row : ℕ) → ranks ≡ ranksOf rows → row < 32 → getD ranks row noRank ≡ rankIn rows row
+pub rank-at : (rows : List Row) (places : List ℕ) (ranks : List Rank) (row : ℕ) → ranks ≡ ranksOf rows places → row < 32 → getD ranks row noRank ≡ rankIn rows places row
 unfolding ranksOf
-rank-at rows ranks row e h = ap (λ (l : List Rank). getD l row noRank) e ∙ build-at (rankIn rows) 32 noRank row noRank h
+rank-at rows places ranks row e h = ap (λ (l : List Rank). getD l row noRank) e ∙ build-at (rankIn rows places) 32 noRank row noRank h
 
 -- the greatest value among what passes, carried along
 most-turn : (p : ℕ → Bool) (f : ℕ → ℕ) (n : ℕ) (b : Bool) → p n ≡ b
@@ -88,14 +88,14 @@ module _ (s : State) (slot r : ℕ) where
 
     -- a row of the best holder's level joins
     joins : (b : ℕ) → levelOf r ≡ levelOf b
-        → joinedLevel (holdersAt s slot r (At b)) r (rankIn (s .rows) r) (holdingAt s slot r .touch) (pins s slot r) ≡ holdersAt s slot (r + 1) (cond (outranks s r b) (At r) (At b))
+        → joinedLevel (holdersAt s slot r (At b)) r (rankIn (s .rows) (s .places) r) (holdingAt s slot r .touch) (pins s slot r) ≡ holdersAt s slot (r + 1) (cond (outranks s r b) (At r) (At b))
     unfolding joinedLevel outranks
-    joins b l = go (better (rankIn (s .rows) r) (rankIn (s .rows) b))
+    joins b l = go (better (rankIn (s .rows) (s .places) r) (rankIn (s .rows) (s .places) b))
       where
         go : (x : Bool) → _≡_ {A = Holders}
             (record {
               best = cond x r b;
-              rank = cond x (rankIn (s .rows) r) (rankIn (s .rows) b);
+              rank = cond x (rankIn (s .rows) (s .places) r) (rankIn (s .rows) (s .places) b);
               latest = max (latestBelow s (levelOf b) slot r) (holdingAt s slot r .touch);
               held = true;
               pinned = pinnedBelow s (levelOf b) slot r || pins s slot r;
@@ -106,7 +106,7 @@ module _ (s : State) (slot r : ℕ) where
 
     -- the first holder
     begins : pickBelow r (holds s slot) (outranks s) ≡ Nowhere
-        → _≡_ {A = Holders} (record { best = r; rank = rankIn (s .rows) r; latest = holdingAt s slot r .touch; held = true; pinned = pins s slot r }) (holdersAt s slot (r + 1) (At r))
+        → _≡_ {A = Holders} (record { best = r; rank = rankIn (s .rows) (s .places) r; latest = holdingAt s slot r .touch; held = true; pinned = pins s slot r }) (holdersAt s slot (r + 1) (At r))
     begins e = rw (latest (levelOf r) refl, pinned (levelOf r) refl, none-latest free, none-pinned free, max-none (holdingAt s slot r .touch))
       where
         free : (i : ℕ) → i < r → holds s slot i ≡ false
@@ -120,7 +120,7 @@ module _ (s : State) (slot r : ℕ) where
   apart b k e = not-true-false (outranks s r b) (λ t. let l = level-outranks s r b t in let m : levelOf r ≡ levelOf b = omega arith in true-false (sym (eq-eqb (levelOf r) (levelOf b) m) ∙ e))
 
   turn : (f : Found) (h : Bool) → pickBelow r (holds s slot) (outranks s) ≡ f → holds s slot r ≡ h
-      → holdersWith (holdersAt s slot r f) r (rankIn (s .rows) r) (holdingAt s slot r) ≡ holdersAt s slot (r + 1) (considered h f r (outranks s))
+      → holdersWith (holdersAt s slot r f) r (rankIn (s .rows) (s .places) r) (holdingAt s slot r) ≡ holdersAt s slot (r + 1) (considered h f r (outranks s))
   unfolding holdersWith
   turn Nowhere false e h = rw h
   turn (At b) false e h = rw h (stays b (and-false-right (eqb (levelOf r) (levelOf b)) (holds s slot r) h))
@@ -128,15 +128,15 @@ module _ (s : State) (slot r : ℕ) where
   turn (At b) true e h = go (eqb (levelOf r) (levelOf b)) refl
     where
       go : (x : Bool) → eqb (levelOf r) (levelOf b) ≡ x
-          → holdersWith (holdersAt s slot r (At b)) r (rankIn (s .rows) r) (holdingAt s slot r) ≡ holdersAt s slot (r + 1) (cond (outranks s r b) (At r) (At b))
+          → holdersWith (holdersAt s slot r (At b)) r (rankIn (s .rows) (s .places) r) (holdingAt s slot r) ≡ holdersAt s slot (r + 1) (cond (outranks s r b) (At r) (At b))
       go true x = rw (h, x) (joins h b (eqb-true (levelOf r) (levelOf b) x))
       go false x = rw (h, x, apart b (pick-is (holds s slot) (outranks s) r b e .0) x) (stays b (rw x))
 
-  pub holders-turn : (ranks : List Rank) (w v : Holders) → r < 32 → ranks ≡ ranksOf (s .rows) → w ≡ holdersBelow s slot r
+  pub holders-turn : (ranks : List Rank) (w v : Holders) → r < 32 → ranks ≡ ranksOf (s .rows) (s .places) → w ≡ holdersBelow s slot r
       → v ≡ holdersWith w r (getD ranks r noRank) (holdingAt s slot r) → v ≡ holdersBelow s slot (r + 1)
   unfolding holdersBelow
   holders-turn ranks w v h k e q =
-      q ∙ rw (rank-at (s .rows) ranks r k h, e) (turn (pickBelow r (holds s slot) (outranks s)) (holds s slot r) refl refl)
+      q ∙ rw (rank-at (s .rows) (s .places) ranks r k h, e) (turn (pickBelow r (holds s slot) (outranks s)) (holds s slot r) refl refl)
       ∙ ap (holdersAt s slot (r + 1)) (sym (pick-more (holds s slot) (outranks s) r))
 
 pub holders-none : (s : State) (slot : ℕ) → noHolders ≡ holdersBelow s slot 0
@@ -149,7 +149,7 @@ unfolding summaryWith
 summary-none w requester x e q = q ∙ rw e
 
 -- a summary from what was gathered of the slot
-pub summary-made : (s : State) (me slot n : ℕ) (ranks : List Rank) (w : Holders) (own : Bool) (x : Summary) → me < 32 → ranks ≡ ranksOf (s .rows) → n ≡ 32
+pub summary-made : (s : State) (me slot n : ℕ) (ranks : List Rank) (w : Holders) (own : Bool) (x : Summary) → me < 32 → ranks ≡ ranksOf (s .rows) (s .places) → n ≡ 32
     → w ≡ holdersBelow s slot n → own ≡ pins s slot me → x ≡ summaryWith (slotAt s slot) w own (getD ranks me noRank) → x ≡ summaryOf s me slot
 unfolding summaryOf
-summary-made s me slot n ranks w own x h k e g o q = q ∙ rw (rank-at (s .rows) ranks me k h, g, o, e)
+summary-made s me slot n ranks w own x h k e g o q = q ∙ rw (rank-at (s .rows) (s .places) ranks me k h, g, o, e)

@@ -116,17 +116,17 @@ fn order_of(step: Step) -> Order
 }
 
 // The ranks of all rows.
-pub fn ranks(rows: [Row; 32]) -> [Rank; 32]
-    ensures { λ r. ⌜ r ≡ ranksOf rows ⌝ }
+pub fn ranks(rows: [Row; 32], places: [usize; 32]) -> [Rank; 32]
+    ensures { λ r. ⌜ r ≡ ranksOf rows places ⌝ }
 {
     let mut out = [Rank {
         level: 0,
         deadline: 0,
-        number: 0,
+        place: 0,
     }; 32];
     for r in 0..32usize {
         let x = rows[r];
-        out[r] = model::rank_of(r, x.deadline);
+        out[r] = model::rank_of(r, x.deadline, places[r]);
     }
     out
 }
@@ -260,7 +260,7 @@ fn no_holders() -> Holders
         rank: Rank {
             level: 0,
             deadline: 0,
-            number: 0,
+            place: 0,
         },
         latest: 0,
         pinned: false,
@@ -274,7 +274,8 @@ fn summaries(s: State, me: usize) -> [Summary; 64]
 {
     let n = s.size;
     let rows = s.rows;
-    let rank = ranks(rows);
+    let places = s.places;
+    let rank = ranks(rows, places);
     let requester = rank[me];
     let empty = Slot {
         content: Content::Empty,

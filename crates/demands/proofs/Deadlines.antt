@@ -2,12 +2,12 @@
 -- Document 02, T-01: a tick makes a live row late exactly when the clock is above its deadline.
 use mathlib.Core.Path.{_≡_, sym, _∙_, ap}
 use mathlib.Core.Bool.{true}
-use mathlib.Core.List.{List, [], _++_, append-assoc}
+use mathlib.Core.List.{List, [], _++_}
 use mathlib.Core.Logic.{_⊎_, inl, inr}
 use Prim.Native.Nat.{ℕ, _+_, _^_, _<_, _≤_}
 use native.Mathlib.Omega.{arith}
 use lib.Dec.{ltb, lit<}
-use lib.ListN.{length, drop, length-append}
+use lib.ListN.{drop}
 use Rattle.words.specs.Bytes.{wordBytes, zeroWords}
 use Rattle.words.proofs.JoinLaws.{piece-word}
 use Rattle.model.specs.declared.Answer.the-variants.{RowIdle, RowFetching, RowKilled, Clock}
@@ -25,28 +25,27 @@ use Rattle.rules.specs.Calls.{looked}
 use Rattle.rules.specs.Run.{outcome, fillsOf}
 use Rattle.rules.proofs.Promises.Widths.{sound-ok}
 use Rattle.rules.proofs.Promises.Deadlines as States
-use Rattle.area.specs.Layout.{headerWords, rowWords, encoded, decoded}
+use Rattle.area.specs.Layout.{headerWords, placesBytes, rowWords, encoded, decoded}
 use Rattle.area.proofs.Elements.{header-wide, row-wide, row-small, decoded-deadline}
-use Rattle.area.proofs.Pieces.{rowsBytes, slotsBytes, holdingsBytes, zeros-long}
+use Rattle.area.proofs.Pieces.{rowsBytes, slotsBytes, holdingsBytes, places-long, zeros-long}
+use Rattle.area.proofs.RoundTrip.{before-fourth, three-long}
 use Rattle.demands.specs.SlotWords.{deadlineWord}
 use Rattle.sabre.specs.Lent.{answerOn, areaAfter, soundArea}
 use Rattle.sabre.proofs.SoundAreas.{sound-area, sound-area-bytes}
 use Rattle.demands.proofs.Areas.{look-answer, look-named, looked-fetching}
 use Rattle.demands.proofs.Steps.{tick-on}
 
--- the third of six regions and what stands behind it
-third : (x₀ x₁ x₂ x₃ x₄ x₅ r : List ℕ) → (x₀ ++ (x₁ ++ (x₂ ++ (x₃ ++ (x₄ ++ x₅))))) ++ r ≡ (x₀ ++ x₁) ++ (x₂ ++ (x₃ ++ (x₄ ++ (x₅ ++ r))))
-third x₀ x₁ x₂ x₃ x₄ x₅ r = simp append-assoc
-
 -- the deadline's word in the bytes of a state
 deadline-there : (s : State) → StateOk s → (r : List ℕ) (row : ℕ) → row < 32 → deadlineWord (encoded s ++ r) row ≡ rowAt s row .deadline
 unfolding encoded rowWords
 deadline-there s ok r row b =
     let h = wordBytes (headerWords s) in
-    let e : length (h ++ zeroWords 55) ≡ 512 = length-append h (zeroWords 55) ∙ (λ j. header-wide s j + zeros-long 55 j) in
-    ap (λ (a : List ℕ). deadlineWord a row) (third h (zeroWords 55) (rowsBytes s) (slotsBytes s) (holdingsBytes s) (zeroWords 1216) r)
+    let o = placesBytes (s .places) in
+    let z = zeroWords 23 in
+    ap (λ (a : List ℕ). deadlineWord a row) (before-fourth h o z (rowsBytes s) (slotsBytes s) (holdingsBytes s) (zeroWords 1216) r)
     ∙ piece-word 64 (λ row. rowWords (rowAt s row)) (λ row. row-wide (rowAt s row)) (λ row. row-small (rowAt s row) (ok .row row))
-    (h ++ zeroWords 55) (slotsBytes s ++ (holdingsBytes s ++ (zeroWords 1216 ++ r))) 512 32 row 3 e b (lit< tt)
+    (h ++ (o ++ z)) (slotsBytes s ++ (holdingsBytes s ++ (zeroWords 1216 ++ r))) 512 32 row 3
+    (three-long h o z (header-wide s) (places-long (s .places)) (zeros-long 23)) b (lit< tt)
 
 -- the deadline word of each row of a sound area
 deadline-named : (a : List ℕ) → soundArea a ≡ true → (row : ℕ) → row < 32 → deadlineWord a row ≡ rowAt (decoded a) row .deadline

@@ -7,6 +7,7 @@ pub mod Smallest
 pub mod Steps
 pub mod Deadlines
 pub mod Borders
+pub mod BeginOrder
 pub mod SessionHolds
 pub mod OneSlot
 pub mod Arrived

@@ -24,6 +24,7 @@ use Rattle.rules.specs.Run.{outcome, fillsOf}
 use Rattle.rules.specs.Tries.{Fill, waiters, allTried, entries, listBytes}
 use Rattle.rules.proofs.Leaves.TryLaws.{waiters-have, has-tried}
 use Rattle.rules.proofs.Promises.Filled.{ranked}
+use Rattle.rules.proofs.Promises.Deadlines.{stepped}
 use Rattle.rules.proofs.Promises.TickFills as States
 use Rattle.tries.proofs.EntryLaws.{entries-length}
 use Rattle.tries.proofs.TurnLaws.{tries-most, waiters-most}
@@ -70,13 +71,15 @@ pub tried-all : (a : List ℕ) (row : ℕ) → row < 32 → isWaiting (rowAt (th
     → (u : State) × TriedOn (waiters (threeSteps (decoded a))) (threeSteps (decoded a)) u row
 tried-all a row b w = let s = threeSteps (decoded a) in has-tried (waiters s) s row (waiters-have s row b w)
 
--- and a single time, best priority first: each row outranks every later one
-pub tried-in-order : (a : List ℕ) → Ranked (outranks (threeSteps (decoded a))) (waiters (threeSteps (decoded a)))
-tried-in-order a = ranked (threeSteps (decoded a))
-
--- ---- the entries of an accepted tick
+-- ---- an accepted tick
 
 module _ (a : List ℕ) (room clock : ℕ) (e : answerOn a (Tick room) ≡ Clock clock) where
+  -- a row is tried a single time, best priority first: each row outranks every later one
+  pub tried-in-order : Ranked (outranks (threeSteps (decoded a))) (waiters (threeSteps (decoded a)))
+  tried-in-order =
+      let x = tick-on a room clock e in
+      ranked (threeSteps (decoded a)) (stepped (decoded a) (x .sound-state) room clock (x .answer))
+
   -- the first 256 bytes of the list are those of the entries, and zero after them
   pub list-left : (list : List ℕ) → listAfter a (Tick room) list ≡ listBytes (fillsOf (decoded a) (Tick room)) ++ drop 256 list
   unfolding listAfter word

@@ -3,3 +3,4 @@ pub mod RefusalTable
 pub mod SessionNumbers
 pub mod Runs
 pub mod BordersTold
+pub mod OrderTold

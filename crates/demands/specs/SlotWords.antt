@@ -1,4 +1,4 @@
--- Document 01, "State", and document 02, T-02: a page in a slot, a row's deadline and whether a row has begun, as docs/LAYOUT.md lays them out.
+-- Document 01, "State", and document 02, T-02 and T-06: a page in a slot, a row's deadline, whether a row has begun and a row's place in the begin order of its level, as docs/LAYOUT.md lays them out.
 use mathlib.Core.List.{List}
 use Prim.Native.Nat.{ℕ, _+_, _*_}
 use Rattle.words.specs.Bytes.{wordAt}
@@ -17,3 +17,7 @@ deadlineWord a row = wordAt a (512 + row * 64 + 24)
 -- 1 if a row has begun since the start, else 0
 abbrev pub begunWord : List ℕ → ℕ
 begunWord a = wordAt a 64
+
+-- the place of a row in the begin order of its level, from 1; 0 where it is free
+abbrev pub placeWord : List ℕ → ℕ → ℕ
+placeWord a row = wordAt a (72 + row * 8)

@@ -29,7 +29,7 @@ module _ (some : ℕ → Bool) (s : State) (z : Sized s) where
 
   pub sized-released : Sized (released some s)
   unfolding released
-  sized-released = record { rows = z .rows; slots = each-length _ (s .slots) ∙ z .slots; holdings = each-length _ (s .holdings) ∙ z .holdings }
+  sized-released = record { rows = z .rows; slots = each-length _ (s .slots) ∙ z .slots; holdings = each-length _ (s .holdings) ∙ z .holdings; places = z .places }
 
   module _ (cause : Cause) where
     pub killed-row : (row : ℕ) → row < 32 → rowAt (killed some cause s) row ≡ cond (some row) (killedRow cause) (rowAt s row)
@@ -45,10 +45,10 @@ module _ (some : ℕ → Bool) (s : State) (z : Sized s) where
     killed-holding slot row h = released-holding slot row h
 
     pub sized-killed : Sized (killed some cause s)
-    unfolding killed
-    sized-killed = record { rows = each-length _ (s .rows) ∙ z .rows; slots = sized-released .slots; holdings = sized-released .holdings }
+    unfolding killed released
+    sized-killed = record { rows = each-length _ (s .rows) ∙ z .rows; slots = sized-released .slots; holdings = sized-released .holdings; places = z .places }
 
--- the number of slots, the delay, the clock and the borders stay
+-- the number of slots, the delay, the clock, the borders and the begin orders stay
 pub killed-clock : (some : ℕ → Bool) (cause : Cause) (s : State) → killed some cause s .clock ≡ s .clock
 unfolding killed released
 killed-clock some cause s = refl
@@ -65,6 +65,10 @@ pub killed-borders : (some : ℕ → Bool) (cause : Cause) (s : State) → kille
 unfolding killed released
 killed-borders some cause s = refl
 
+pub killed-places : (some : ℕ → Bool) (cause : Cause) (s : State) → killed some cause s .places ≡ s .places
+unfolding killed released
+killed-places some cause s = refl
+
 module _ (gone : ℕ) (s : State) (z : Sized s) where
   pub cleared-holding : (slot row : ℕ) → row < 32 → holdingAt (cleared gone s) slot row ≡ cond (eqb slot gone) emptyHolding (holdingAt s slot row)
   unfolding cleared
@@ -74,4 +78,4 @@ module _ (gone : ℕ) (s : State) (z : Sized s) where
 
   pub sized-cleared : Sized (cleared gone s)
   unfolding cleared
-  sized-cleared = record { rows = z .rows; slots = z .slots; holdings = each-length _ (s .holdings) ∙ z .holdings }
+  sized-cleared = record { rows = z .rows; slots = z .slots; holdings = each-length _ (s .holdings) ∙ z .holdings; places = z .places }

@@ -12,19 +12,28 @@ use lib.Seq.{ext-getD, getD-set-same, getD-set-other}
 use Rattle.seq.specs.Each.{each}
 use Rattle.seq.proofs.EachLaws.{each-length, each-at, each-same, each-still}
 use Rattle.model.specs.State.{emptyHolding, holdingAt}
-use Rattle.model.specs.Inner.Changed.{marked, holdingAfter, bordersAfter, begunAfter, changed, holdingsDropped}
+use Rattle.model.specs.Changes.{movedUp, closedUp}
+use Rattle.model.specs.Inner.Changed.{marked, holdingAfter, bordersAfter, begunAfter, placesAfter, changed, holdingsDropped}
 use Rattle.model.specs.declared.Row.{Row}
 use Rattle.model.specs.declared.Slot.{Slot}
 use Rattle.model.specs.declared.Holding.{Holding}
 use Rattle.model.specs.declared.Setting.{Setting}
+use Rattle.model.specs.declared.Setting.the-variants.{Left, Begun, Ended, Set}
 use Rattle.model.specs.declared.Change.{Change}
 use Rattle.model.specs.declared.State.{State}
 use Rattle.model.proofs.StateLaws.{Sized, place-slot, place-row}
 
+pub places-long : (x : Setting) (places : List ℕ) → length (placesAfter x places) ≡ length places
+unfolding closedUp
+places-long Left places = refl
+places-long (Begun row place) places = length-set places row place
+places-long (Ended row) places = each-length (movedUp row (getD places row 0)) places
+places-long (Set first second third) places = refl
+
 module _ (s : State) (z : Sized s) where
   pub sized-changed : (c : Change) → length (c .rows) ≡ 32 → length (c .slots) ≡ 64 → Sized (changed s c)
   unfolding changed
-  sized-changed c e f = record { rows = e; slots = f; holdings = each-length (holdingAfter c) (s .holdings) ∙ z .holdings }
+  sized-changed c e f = record { rows = e; slots = f; holdings = each-length (holdingAfter c) (s .holdings) ∙ z .holdings; places = places-long (c .setting) (s .places) ∙ z .places }
 
   -- a list that agrees with a change at every place
   pub holdings-are : (c : Change) (l : List Holding) → length l ≡ 2048
@@ -53,6 +62,7 @@ module _ (s : State) (z : Sized s) where
       holdings = each (λ k h. cond (marked gone (k % 32)) emptyHolding h) (s .holdings);
       borders = bordersAfter setting (s .borders);
       begun = begunAfter setting (s .begun);
+      places = placesAfter setting (s .places);
     }
     unfolding changed holdingsDropped holdingAfter
     changed-dropped = λ j. record {
@@ -66,6 +76,7 @@ module _ (s : State) (z : Sized s) where
           (λ k b. rw (ne-eqb (k / 32) 64 (λ e. omega (arith, z .holdings)))) j;
       borders = bordersAfter setting (s .borders);
       begun = begunAfter setting (s .begun);
+      places = placesAfter setting (s .places);
     }
 
     -- no row does
@@ -78,6 +89,7 @@ module _ (s : State) (z : Sized s) where
       holdings = s .holdings;
       borders = bordersAfter setting (s .borders);
       begun = begunAfter setting (s .begun);
+      places = placesAfter setting (s .places);
     }
     changed-none f =
         changed-dropped
@@ -90,6 +102,7 @@ module _ (s : State) (z : Sized s) where
           holdings = each-still (λ k h. cond (marked gone (k % 32)) emptyHolding h) (s .holdings) emptyHolding (λ k _. rw (f (k % 32) (omega arith))) j;
           borders = bordersAfter setting (s .borders);
           begun = begunAfter setting (s .begun);
+          places = placesAfter setting (s .places);
         })
 
   -- one holding of the slot is set

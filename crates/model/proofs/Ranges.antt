@@ -8,7 +8,7 @@ use mir.Val.{Val}
 use denote.Laws.{Is}
 use denote.Array.{each}
 use denote.Shadow.{shadow}
-use denote.Struct.Field.{Field}
+use denote.Struct.Field.{Field, usize-field}
 use Rattle.model.specs.State.{freeRow, emptySlot, emptyHolding}
 use Rattle.model.specs.declared.Condition as Condition'
 use Rattle.model.specs.declared.Condition.the-variants.{Free, Idle, Fetching, Waiting, Killed}
@@ -65,6 +65,7 @@ pub record StateOk (s : State'.State) : Type 0 where
   pub slot : (i : ℕ) → SlotOk (getD (s .slots) i emptySlot)
   pub holding : (i : ℕ) → HoldingOk (getD (s .holdings) i emptyHolding)
   pub borders : BordersOk (s .borders)
+  pub place : (i : ℕ) → getD (s .places) i 0 < 2 ^ 64
 
 -- what holds of each element by its type, holds of the element at an index, or of the default
 module _ (F : Field) (P : F .Value → Type 0) (ok : (x : F .Value) (u : Val) → Is (F .row) (F .into x) (u ∷ []) → P x) (d : F .Value) (pd : P d) where
@@ -104,11 +105,13 @@ state-ok s vs p = record {
   clock = p .1 .1 .1 .1 .0 .1;
   sized = record {
     rows = sym (length-map (s .rows) _) ∙ p .1 .1 .1 .1 .1 .0 .1 .0 .1;
-    slots = sym (length-map (s .slots) _) ∙ p .1 .1 .1 .1 .1 .1 .0 .1 .0 .1;
-    holdings = sym (length-map (s .holdings) _) ∙ p .1 .1 .1 .1 .1 .1 .1 .0 .1 .0 .1;
+    slots = sym (length-map (s .slots) _) ∙ p .1 .1 .1 .1 .1 .1 .1 .0 .1 .0 .1;
+    holdings = sym (length-map (s .holdings) _) ∙ p .1 .1 .1 .1 .1 .1 .1 .1 .0 .1 .0 .1;
+    places = sym (length-map (s .places) _) ∙ p .1 .1 .1 .1 .1 .1 .0 .1 .0 .1;
   };
   row = λ i. element-ok Row.the-field RowOk (λ x u. row-ok x (u ∷ [])) freeRow (record { condition = tt; deadline = lit< tt }) (s .rows) _ i (p .1 .1 .1 .1 .1 .0 .1 .1);
-  slot = λ i. element-ok Slot.the-field SlotOk (λ x u. slot-ok x (u ∷ [])) emptySlot (record { content = tt; touch = lit< tt }) (s .slots) _ i (p .1 .1 .1 .1 .1 .1 .0 .1 .1);
-  holding = λ i. element-ok Holding.the-field HoldingOk (λ x u. holding-ok x (u ∷ [])) emptyHolding (record { arrival = lit< tt; touch = lit< tt }) (s .holdings) _ i (p .1 .1 .1 .1 .1 .1 .1 .0 .1 .1);
-  borders = borders-ok (s .borders) _ (p .1 .1 .1 .1 .1 .1 .1 .1 .0);
+  slot = λ i. element-ok Slot.the-field SlotOk (λ x u. slot-ok x (u ∷ [])) emptySlot (record { content = tt; touch = lit< tt }) (s .slots) _ i (p .1 .1 .1 .1 .1 .1 .1 .0 .1 .1);
+  holding = λ i. element-ok Holding.the-field HoldingOk (λ x u. holding-ok x (u ∷ [])) emptyHolding (record { arrival = lit< tt; touch = lit< tt }) (s .holdings) _ i (p .1 .1 .1 .1 .1 .1 .1 .1 .0 .1 .1);
+  borders = borders-ok (s .borders) _ (p .1 .1 .1 .1 .1 .1 .1 .1 .1 .0);
+  place = λ i. element-ok usize-field (λ n. n < 2 ^ 64) (λ x u h. h .1) 0 (lit< tt) (s .places) _ i (p .1 .1 .1 .1 .1 .1 .0 .1 .1);
 }

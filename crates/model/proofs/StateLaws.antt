@@ -19,6 +19,7 @@ pub record Sized (s : State) : Type 0 where
   pub rows : length (s .rows) ≡ 32
   pub slots : length (s .slots) ≡ 64
   pub holdings : length (s .holdings) ≡ 2048
+  pub places : length (s .places) ≡ 32
 
 -- the place of a holding tells its slot and its row
 pub place-slot : (slot row : ℕ) → row < 32 → (slot * 32 + row) / 32 ≡ slot
@@ -51,19 +52,19 @@ module _ (s : State) (z : Sized s) where
       ∙ ap (λ (b : Bool). cond b x (holdingAt s other row′)) (same-place slot row other row′ r r′)
 
   pub sized-put-row : (row : ℕ) (x : Row) → Sized (putRow s row x)
-  sized-put-row row x = record { rows = length-set (s .rows) row x ∙ z .rows; slots = z .slots; holdings = z .holdings }
+  sized-put-row row x = record { rows = length-set (s .rows) row x ∙ z .rows; slots = z .slots; holdings = z .holdings; places = z .places }
 
   pub sized-put-slot : (slot : ℕ) (x : Slot) → Sized (putSlot s slot x)
-  sized-put-slot slot x = record { rows = z .rows; slots = length-set (s .slots) slot x ∙ z .slots; holdings = z .holdings }
+  sized-put-slot slot x = record { rows = z .rows; slots = length-set (s .slots) slot x ∙ z .slots; holdings = z .holdings; places = z .places }
 
   pub sized-put-holding : (slot row : ℕ) (x : Holding) → Sized (putHolding s slot row x)
-  sized-put-holding slot row x = record { rows = z .rows; slots = z .slots; holdings = length-set (s .holdings) (slot * 32 + row) x ∙ z .holdings }
+  sized-put-holding slot row x = record { rows = z .rows; slots = z .slots; holdings = length-set (s .holdings) (slot * 32 + row) x ∙ z .holdings; places = z .places }
 
   pub sized-clock : (clock : ℕ) → Sized (withClock s clock)
-  sized-clock clock = record { rows = z .rows; slots = z .slots; holdings = z .holdings }
+  sized-clock clock = record { rows = z .rows; slots = z .slots; holdings = z .holdings; places = z .places }
 
   pub sized-begun : Sized (withBegun s)
-  sized-begun = record { rows = z .rows; slots = z .slots; holdings = z .holdings }
+  sized-begun = record { rows = z .rows; slots = z .slots; holdings = z .holdings; places = z .places }
 
 -- the fresh state, at each place
 module _ (slots delay : ℕ) where
@@ -81,4 +82,4 @@ module _ (slots delay : ℕ) where
 
   pub fresh-sized : Sized (fresh slots delay)
   unfolding fresh emptyHoldings
-  fresh-sized = record { rows = length-replicate 32 freeRow; slots = length-replicate 64 emptySlot; holdings = length-replicate 2048 emptyHolding }
+  fresh-sized = record { rows = length-replicate 32 freeRow; slots = length-replicate 64 emptySlot; holdings = length-replicate 2048 emptyHolding; places = length-replicate {A = ℕ} 32 0 }

@@ -1,8 +1,10 @@
--- Document 01, "The calls": the elementary changes of a state. A set of rows is a test.
-use mathlib.Core.Bool.{Bool, true, false, cond, _&&_}
-use Prim.Native.Nat.{ℕ, _/_, _%_}
-use lib.Dec.{leb, eqb}
-use Rattle.seq.specs.Below.{anyBelow}
+-- Document 01, "The calls", and T-06 of document 02: the elementary changes of a state. A set of rows is a test.
+use mathlib.Core.Bool.{Bool, true, false, cond, _&&_, not}
+use mathlib.Core.List.{List}
+use Prim.Native.Nat.{ℕ, _-_, _/_, _%_}
+use lib.Dec.{leb, ltb, eqb}
+use lib.ListN.{getD}
+use Rattle.seq.specs.Below.{anyBelow, countBelow}
 use Rattle.seq.specs.Each.{each}
 use Rattle.model.specs.declared.Cause.{Cause}
 use Rattle.model.specs.declared.Condition.the-variants.{Killed}
@@ -12,8 +14,9 @@ use Rattle.model.specs.declared.Row.{Row}
 use Rattle.model.specs.declared.Slot.{Slot}
 use Rattle.model.specs.declared.Holding.{Holding}
 use Rattle.model.specs.declared.State.{State}
-use Rattle.model.specs.State.{emptyHolding, holdingAt, withRows, withSlots, withHoldings}
-use Rattle.model.specs.Words.{isWrite}
+use Rattle.model.specs.Parties.{rowOf, levelOf}
+use Rattle.model.specs.State.{freeRow, emptyHolding, holdingAt, withRows, withSlots, withHoldings}
+use Rattle.model.specs.Words.{isFree, isWrite}
 
 -- a write pin whose arrival is at most the clock: when it goes, the slot becomes dirty
 unfoldable pub written : ℕ → Holding → Bool
@@ -48,3 +51,14 @@ killed some cause s = withRows (released some s) (each (λ row x. cond (some row
 -- the holders of a slot lose it
 unfoldable pub cleared : ℕ → State → State
 cleared slot s = withHoldings s (each (λ k h. cond (eqb (k / 32) slot) emptyHolding h) (s .holdings))
+
+-- each level keeps the begin order of its own eight rows, those that are not free: how many these are
+unfoldable pub rowsNotFree : List Row → ℕ → ℕ
+rowsNotFree rows level = countBelow 8 (λ number. not (isFree (getD rows (rowOf level number) freeRow .condition)))
+
+-- the order of a level is closed up when the row at a place ends: that row has no place, and those behind it move up by one
+unfoldable pub movedUp : ℕ → ℕ → ℕ → ℕ → ℕ
+movedUp row place other old = cond (eqb other row) 0 (cond (eqb (levelOf other) (levelOf row) && ltb place old) (old - 1) old)
+
+unfoldable pub closedUp : ℕ → List ℕ → List ℕ
+closedUp row places = each (movedUp row (getD places row 0)) places

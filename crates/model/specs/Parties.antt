@@ -1,4 +1,4 @@
--- Document 01, "The parties": rows, classes, the access rule, priority; of document 02, T-01, when a deadline has passed, and T-02, the borders of the classes.
+-- Document 01, "The parties": rows, classes, the access rule, priority; of document 02, T-01, when a deadline has passed, T-02, the borders of the classes, and T-06, priority among equal deadlines.
 use mathlib.Core.Bool.{Bool, cond, _&&_}
 use Prim.Native.Nat.{ℕ, _+_, _*_, _/_, _%_}
 use lib.Dec.{leb, ltb, eqb}
@@ -55,12 +55,12 @@ lastClock = 4000000000
 abbrev pub isPast : ℕ → ℕ → Bool
 isPast clock deadline = ltb deadline clock
 
--- a row's rank is what priority compares: level, then deadline, then row number
-abbrev pub rankOf : ℕ → ℕ → Rank
-rankOf row deadline = record { level = levelOf row; deadline = deadline; number = numberOf row }
+-- a row's rank is what priority compares: level, then deadline, then who began earlier, by the place in the begin order of the level
+abbrev pub rankOf : ℕ → ℕ → ℕ → Rank
+rankOf row deadline place = record { level = levelOf row; deadline = deadline; place = place }
 
 -- priority: smaller is better
 unfoldable pub better : Rank → Rank → Bool
 better x y =
     lexLess (x .level) (y .level)
-    (lexLess (x .deadline) (y .deadline) (ltb (x .number) (y .number)))
+    (lexLess (x .deadline) (y .deadline) (ltb (x .place) (y .place)))

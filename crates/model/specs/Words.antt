@@ -14,10 +14,11 @@ use Rattle.model.specs.declared.Content.{Content}
 use Rattle.model.specs.declared.Content.the-variants.{Empty, Filled}
 use Rattle.model.specs.declared.Pin.{Pin}
 use Rattle.model.specs.declared.Pin.the-variants.{Absent, Unpinned, Read, Write}
+use Rattle.model.specs.declared.Rank.{Rank}
 use Rattle.model.specs.declared.Slot.{Slot}
 use Rattle.model.specs.declared.State.{State}
 use Rattle.model.specs.Parties.{levelOf, rankOf, better}
-use Rattle.model.specs.State.{emptySlot, rowAt, slotAt, holdingAt}
+use Rattle.model.specs.State.{emptySlot, rowAt, slotAt, holdingAt, placeAt}
 
 abbrev pub isFree : Condition → Bool
 isFree Free = true
@@ -125,9 +126,13 @@ dormant s slot = isFilled (slotAt s slot .content) && not (anyBelow 32 (holds s 
 unfoldable pub seesDormant : State → ℕ → ℕ → Bool
 seesDormant s level slot = eqb level 3 && dormant s slot
 
+-- what priority compares of a row
+abbrev pub rankAt : State → ℕ → Rank
+rankAt s row = rankOf row (rowAt s row .deadline) (placeAt s row)
+
 -- the first row has better priority than the second
 unfoldable pub outranks : State → ℕ → ℕ → Bool
-outranks s row other = better (rankOf row (rowAt s row .deadline)) (rankOf other (rowAt s other .deadline))
+outranks s row other = better (rankAt s row) (rankAt s other)
 
 -- the holder of best priority
 unfoldable pub bestHolder : State → ℕ → Found

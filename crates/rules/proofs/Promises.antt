@@ -20,3 +20,4 @@ pub mod Deadlines
 pub mod TickFills
 pub mod TickWaits
 pub mod Borders
+pub mod BeginOrder

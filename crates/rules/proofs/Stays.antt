@@ -1,5 +1,6 @@
 pub mod StaysFresh
 pub mod StaysBase
+pub mod StaysOrder
 pub mod StaysChange
 pub mod StaysRows
 pub mod StaysSetting

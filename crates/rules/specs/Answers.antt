@@ -91,6 +91,9 @@ isStarted a = eqb (word a) 1
 abbrev pub isBegun : Answer → Bool
 isBegun a = eqb (word a) 2
 
+abbrev pub isEnded : Answer → Bool
+isEnded a = eqb (word a) 7
+
 abbrev pub isReady : Answer → Bool
 isReady a = eqb (word a) 3
 

@@ -1,7 +1,8 @@
--- Document 01, "The calls": the answer and the next state of each call but tick, and the three steps of a tick, its late rows as T-01 of document 02 has them; and T-02's call for borders.
+-- Document 01, "The calls": the answer and the next state of each call but tick, and the three steps of a tick, its late rows as T-01 of document 02 has them; T-02's call for borders, and the begin orders of T-06.
 use mathlib.Core.Bool.{Bool, true, false, cond, _&&_, not}
 use Prim.Native.Nat.{ℕ, zero, suc, _+_, min}
 use lib.Dec.{leb, eqb}
+use lib.ListN.{set}
 use Rattle.seq.specs.Below.{anyBelow, countBelow, atFound}
 use Rattle.seq.specs.Each.{each}
 use Rattle.seq.specs.declared.Found.{Found}
@@ -46,9 +47,9 @@ use Rattle.model.specs.declared.Answer.the-variants.{
   Bordered,
 }
 use Rattle.model.specs.Parties.{rowOf, levelOf, modeOf, isPast}
-use Rattle.model.specs.State.{freeRow, fresh, rowAt, slotAt, holdingAt, withClock, withRows, withBorders, withBegun, putRow, putSlot, putHolding}
+use Rattle.model.specs.State.{freeRow, fresh, rowAt, slotAt, holdingAt, withClock, withRows, withBorders, withBegun, withPlaces, putRow, putSlot, putHolding}
 use Rattle.model.specs.Words.{isLive, arrivalIn, pageIn, dirtyIn, isHeld, pinOf, conflict, stronger, pins, seen, isOpen, seesDormant, outranks, strongestPin, leastArrival, slotOf}
-use Rattle.model.specs.Changes.{written, dirtied, released, killed, cleared}
+use Rattle.model.specs.Changes.{written, dirtied, released, killed, cleared, rowsNotFree, closedUp}
 use Rattle.rules.specs.Choice.{chosen}
 use Rattle.rules.specs.Refusals.{
   startRefusal,
@@ -71,11 +72,19 @@ unless (suc n) s accepted = record { state = s; answer = Refused (suc n) }
 unfoldable pub started : State → ℕ → ℕ → Outcome
 started s slots delay = unless (startRefusal slots delay) s (record { state = fresh slots delay; answer = Started })
 
--- begin
+-- begin: the row is idle, and takes the last place in the begin order of its level, behind its other rows that are not free
+abbrev pub lastPlace : State → ℕ → ℕ
+lastPlace s level = rowsNotFree (s .rows) level + 1
+
+abbrev pub rowBegun : State → ℕ → ℕ → State
+rowBegun s row deadline =
+    withPlaces
+    (putRow (withBegun s) row (record { condition = Idle; deadline = deadline }))
+    (set (s .places) row (lastPlace s (levelOf row)))
+
 unfoldable pub begun : State → ℕ → ℕ → ℕ → Outcome
 begun s level number deadline =
-    unless (beginRefusal s level number deadline) s
-    (record { state = putRow (withBegun s) (rowOf level number) (record { condition = Idle; deadline = deadline }); answer = Begun })
+    unless (beginRefusal s level number deadline) s (record { state = rowBegun s (rowOf level number) deadline; answer = Begun })
 
 -- unpin: the pin becomes none, the holding stays; when a write pin goes and its arrival ≤ clock, the slot becomes dirty
 unfoldable pub unpinnedAt : State → ℕ → ℕ → State
@@ -90,11 +99,13 @@ unpinned s level number page =
     unless (unpinRefusal s level number page) s
     (record { state = atFound (slotOf s page) (unpinnedAt s (rowOf level number)) s; answer = Unpinned })
 
--- end: all the row's holdings go, row free
+-- end: all the row's holdings go, row free; the begin order of its level is closed up
+abbrev pub rowEnded : State → ℕ → State
+rowEnded s row = withPlaces (putRow (released (eqb row) s) row freeRow) (closedUp row (s .places))
+
 unfoldable pub ended : State → ℕ → ℕ → Outcome
 ended s level number =
-    unless (endRefusal s level number) s
-    (record { state = putRow (released (eqb (rowOf level number)) s) (rowOf level number) freeRow; answer = Ended })
+    unless (endRefusal s level number) s (record { state = rowEnded s (rowOf level number); answer = Ended })
 
 -- tick, its three steps: clock + 1; then fetching rows with due ≤ clock become idle; then live rows with deadline < clock are killed as late. The call itself is `ticked`, specs/Tries.antt
 abbrev pub delivered : ℕ → Condition → Condition

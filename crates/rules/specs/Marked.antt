@@ -1,5 +1,5 @@
--- Document 01, "The player", session S, and "Marked for the table", M1 to M11, M5 as T-01 of document 02 has it: each call with the line it must have.
--- Twelve further runs, read off the documents' steps, have what M1 to M11 leave open: a deadline at the clock, the order within steps b, c and d, e and f, other borders, the other words, and the tries of a tick.
+-- Document 01, "The player", session S, and "Marked for the table", M1 to M11, M5 as T-01 and M6 as T-06 of document 02 have them: each call with the line it must have.
+-- Thirteen further runs, read off the documents' steps, have what M1 to M11 leave open: a deadline at the clock, the order within steps b, c and d, e and f, other borders, the other words, the tries of a tick, and the begin order.
 use mathlib.Core.List.{List, [], _∷_, _++_, map}
 use Prim.Native.Nat.{ℕ, _+_}
 use Rattle.model.specs.State.{fresh}
@@ -163,18 +163,25 @@ m5 =
     ∷ Look 0 0 gives late!
     ∷ []
 
--- M6 one slot, equal deadlines at level 0: row 2 pins 7, row 3 waits for 8; the other way round row 3 is taken
-abbrev pub m6 : List Played
-m6 = Start 1 1 gives started! ∷ Begin 0 2 100 gives begun! ∷ Begin 0 3 100 gives begun! ∷ Request 0 2 7 0 gives fetch! 1 0 ∷ Request 0 3 8 0 gives wait! ∷ []
-
-abbrev pub m6-round : List Played
-m6-round =
+-- M6 as T-06 of document 02 has it, one slot, equal deadlines at level 0: the row begun first pins 7, the second waits for 8;
+-- the other way round the second is taken
+abbrev pub m6 : ℕ → ℕ → List Played
+m6 first second =
     Start 1 1 gives started!
-    ∷ Begin 0 2 100 gives begun!
-    ∷ Begin 0 3 100 gives begun!
-    ∷ Request 0 3 7 0 gives fetch! 1 0
-    ∷ Request 0 2 8 0 gives fetch! 1 0
-    ∷ Look 0 3 gives taken!
+    ∷ Begin 0 first 100 gives begun!
+    ∷ Begin 0 second 100 gives begun!
+    ∷ Request 0 first 7 0 gives fetch! 1 0
+    ∷ Request 0 second 8 0 gives wait!
+    ∷ []
+
+abbrev pub m6-round : ℕ → ℕ → List Played
+m6-round first second =
+    Start 1 1 gives started!
+    ∷ Begin 0 first 100 gives begun!
+    ∷ Begin 0 second 100 gives begun!
+    ∷ Request 0 second 7 0 gives fetch! 1 0
+    ∷ Request 0 first 8 0 gives fetch! 1 0
+    ∷ Look 0 second gives taken!
     ∷ []
 
 -- M7 one slot: row 0 (deadline 50) has 7 unpinned, row 1 (40) fetches 8; row 0 stays idle
@@ -467,6 +474,30 @@ lower-level-first =
     ∷ (Tick 256 gives clock! 2) and fill! 8 0
     ∷ []
 
+-- T-06: of rows 3, 1 and 2, begun in this order, 3 ends and begins again, and is the last; 2 is taken by 1, keeps its place until it ends, and is the last
+-- when it begins again. A row of another level that begins between them changes nothing
+abbrev pub first-come : List Played
+first-come =
+    Start 1 1 gives started!
+    ∷ Begin 0 3 100 gives begun!
+    ∷ Begin 1 0 100 gives begun!
+    ∷ Begin 0 1 100 gives begun!
+    ∷ Begin 0 2 100 gives begun!
+    ∷ End 0 3 gives ended!
+    ∷ Begin 0 3 100 gives begun!
+    ∷ Request 0 2 7 0 gives fetch! 1 0
+    ∷ Request 0 3 8 0 gives wait!
+    ∷ Request 0 1 9 0 gives fetch! 1 0
+    ∷ Look 0 2 gives taken!
+    ∷ End 1 0 gives ended!
+    ∷ End 0 2 gives ended!
+    ∷ Begin 0 2 100 gives begun!
+    ∷ Request 0 2 7 0 gives wait!
+    ∷ End 0 1 gives ended!
+    ∷ (Tick 256 gives clock! 1) and fill! 3 0
+    ∷ Look 0 2 gives wait!
+    ∷ []
+
 abbrev pub table : List (List Played)
 table =
     session
@@ -475,8 +506,10 @@ table =
     ∷ m3
     ∷ m4
     ∷ m5
-    ∷ m6
-    ∷ m6-round
+    ∷ m6 2 3
+    ∷ m6-round 2 3
+    ∷ m6 3 2
+    ∷ m6-round 3 2
     ∷ m7
     ∷ m8
     ∷ m8-instead
@@ -495,6 +528,7 @@ table =
     ∷ two-wait
     ∷ killed-on-the-way
     ∷ lower-level-first
+    ∷ first-come
     ∷ []
 
 -- what the definitions answer, each example from a state that its first call replaces

@@ -1,4 +1,4 @@
--- Document 01, "State": what sound means, a live row's deadline as T-01 of document 02 has it, the borders as T-02 has them. Its sentences stand beside the tests of the whole state, a slot, a row and a holding.
+-- Document 01, "State": what sound means, a live row's deadline as T-01 of document 02 has it, the borders as T-02 and the begin orders as T-06 have them. Its sentences stand beside the tests of the whole state, a slot, a row and a holding.
 use mathlib.Core.Bool.{Bool, true, cond, _&&_, _||_, not}
 use Prim.Native.Nat.{ℕ, _+_}
 use lib.Dec.{leb, ltb, eqb}
@@ -12,14 +12,15 @@ use Rattle.model.specs.declared.Pin.{Pin}
 use Rattle.model.specs.declared.Pin.the-variants.{Absent, Unpinned, Read, Write}
 use Rattle.model.specs.declared.Mode.the-variants as Mode
 use Rattle.model.specs.declared.State.{State}
-use Rattle.model.specs.Parties.{levelOf, classOf, areBorders, allowed, mayAccess, lastClock, isPast}
-use Rattle.model.specs.State.{rowAt, slotAt, holdingAt}
+use Rattle.model.specs.Parties.{rowOf, levelOf, classOf, areBorders, allowed, mayAccess, lastClock, isPast}
+use Rattle.model.specs.State.{rowAt, slotAt, holdingAt, placeAt}
 use Rattle.model.specs.Words.{isFree, isLive, isFilled, pageIn, arrivalIn, lowestIn, hasPage, holds, pins, conflict}
+use Rattle.model.specs.Changes.{rowsNotFree}
 
 -- the arrays have their sizes, and the numbers of the whole state are in range
 unfoldable pub soundNumbers : State → Bool
 soundNumbers s =
-    eqb (length (s .rows)) 32 && eqb (length (s .slots)) 64 && eqb (length (s .holdings)) 2048
+    eqb (length (s .rows)) 32 && eqb (length (s .slots)) 64 && eqb (length (s .holdings)) 2048 && eqb (length (s .places)) 32
     && leb 1 (s .size) && leb (s .size) 64 && leb 1 (s .delay) && leb (s .delay) 255 && leb (s .clock) lastClock
 
 -- no pin against the access rule, by the class of the page
@@ -109,7 +110,24 @@ soundBorders s =
     areBorders (s .borders)
     && (s .begun || (allBelow 32 (λ row. isFree (rowAt s row .condition)) && allBelow 64 (λ slot. not (isFilled (slotAt s slot .content)))))
 
+-- a begin order names each row of its level that is not free once, and no other: such a row has a place from 1 to their number, no two have one place;
+-- a free row has none
+unfoldable pub soundPlace : State → ℕ → ℕ → Bool
+soundPlace s level number =
+    let place = placeAt s (rowOf level number) in
+    cond (isFree (rowAt s (rowOf level number) .condition)) (eqb place 0) (leb 1 place && leb place (rowsNotFree (s .rows) level))
+
+-- two rows of a level have one place
+unfoldable pub samePlace : State → ℕ → ℕ → ℕ → Bool
+samePlace s level number other =
+    ltb 0 (placeAt s (rowOf level number)) && eqb (placeAt s (rowOf level number)) (placeAt s (rowOf level other))
+
+unfoldable pub soundOrder : State → ℕ → Bool
+soundOrder s level =
+    allBelow 8 (soundPlace s level) && allBelow 8 (λ number. allBelow number (λ other. not (samePlace s level number other)))
+
 unfoldable pub sound : State → Bool
 sound s =
     soundNumbers s && allBelow 64 (soundSlot s) && soundPages s && allBelow 32 (soundRow s)
     && allBelow 64 (λ slot. allBelow 32 (soundHolding s slot)) && allBelow 64 (soundPins s) && soundBorders s
+    && allBelow 4 (soundOrder s)

@@ -8,6 +8,7 @@ use lib.ListN.{take, drop}
 use Rattle.seq.proofs.Tests.{true-false}
 use Rattle.words.specs.Bytes.{zeroWords, spliced}
 use Rattle.words.proofs.WroteLaws.{wrote-none}
+use Rattle.model.specs.Changes.{killed, released}
 use Rattle.model.specs.declared.Answer.the-variants.{Clock}
 use Rattle.model.specs.declared.Call.{Call}
 use Rattle.model.specs.declared.Call.the-variants.{Tick}
@@ -15,9 +16,9 @@ use Rattle.model.specs.declared.Change.{Change}
 use Rattle.model.specs.declared.Outcome.{Outcome}
 use Rattle.model.specs.declared.Reply.{Reply}
 use Rattle.model.specs.declared.State.{State}
-use Rattle.model.specs.Inner.Changed.{changed, outcomeOf}
+use Rattle.model.specs.Inner.Changed.{placesAfter, changed, LeavesSetting, outcomeOf}
 use Rattle.rules.specs.Answers.{word, slotTold}
-use Rattle.rules.specs.Calls.{unless, threeSteps}
+use Rattle.rules.specs.Calls.{unless, threeSteps, lateKilled, deliveredRows, advanced}
 use Rattle.rules.specs.Refusals.{tickRefusal}
 use Rattle.rules.specs.Run.{outcome, fillsOf}
 use Rattle.rules.specs.Sound.{sound}
@@ -39,20 +40,20 @@ unfit-list a c l u = rw u
 
 -- ---- the tries
 
--- the waiting rows after a change are those of its rows
-pub changed-waiters : (s : State) (c : Change) → waitersIn (c .rows) ≡ waiters (changed s c)
+-- the waiting rows after a change are those of its rows, by the places after it
+pub changed-waiters : (s : State) (c : Change) (places : List ℕ) → places ≡ placesAfter (c .setting) (s .places) → waitersIn (c .rows) places ≡ waiters (changed s c)
 unfolding changed
-changed-waiters s c = waiters-in (changed s c)
+changed-waiters s c places e = ap (waitersIn (c .rows)) e ∙ waiters-in (changed s c)
 
 module _ (s : State) (c : Change) (a b l m : List ℕ) (e : s ≡ decoded a) where
   abbrev pub Filled : Type 0
   Filled = (b ≡ encoded (allTried (changed s c) .state) ++ drop 65536 a) × (m ≡ listBytes (allTried (changed s c) .fills) ++ drop 256 l)
 
   -- no row waits: the change alone
-  pub filled-none : (n : ℕ) (rows : List ℕ) → take n rows ≡ waitersIn (c .rows) → n ≡ 0 → b ≡ encoded (changed (decoded a) c) ++ drop 65536 a → m ≡ spliced l 0 (zeroWords 32) → Filled
+  pub filled-none : (n : ℕ) (rows places : List ℕ) → places ≡ placesAfter (c .setting) (s .places) → take n rows ≡ waitersIn (c .rows) places → n ≡ 0 → b ≡ encoded (changed (decoded a) c) ++ drop 65536 a → m ≡ spliced l 0 (zeroWords 32) → Filled
   unfolding entries
-  filled-none n rows w z p q =
-      rw (empty-queue (changed s c) rows n (w ∙ changed-waiters s c) z) (rw e p, list-done l m m [] 0 q (wrote-none m 0) (omega arith))
+  filled-none n rows places f w z p q =
+      rw (empty-queue (changed s c) rows n (w ∙ changed-waiters s c places f) z) (rw e p, list-done l m m [] 0 q (wrote-none m 0) (omega arith))
 
   pub filled-all : (u t : State) → u ≡ changed s c → t ≡ allTried u .state → b ≡ encoded t ++ drop 65536 a → m ≡ listBytes (allTried u .fills) ++ drop 256 l → Filled
   filled-all u t f g p q = (rw (← f, ← g) p, rw (← f) q)
@@ -78,13 +79,15 @@ module _ (s : State) (z : sound s ≡ true) (room : ℕ) (x : Reply)
       go (suc n) = omega arith
 
   -- an accepted tick is lent enough, and its steps leave a sound state
-  pub tick-fits : (m : ℕ) → room ≤ m → isRefused (x .answer) ≡ false → (sound (changed s (x .change)) ≡ true) × (256 ≤ m)
-  unfolding word
+  pub tick-fits : (m : ℕ) → room ≤ m → isRefused (x .answer) ≡ false → (sound (changed s (x .change)) ≡ true) × (256 ≤ m) × LeavesSetting s (x .change)
+  unfolding word changed lateKilled deliveredRows advanced killed released
   tick-fits m h r = go (tickRefusal s room) refl answer-is state-is
     where
       go : (n : ℕ) → tickRefusal s room ≡ n → x .answer ≡ unless n s (record { state = threeSteps s; answer = Clock (s .clock + 1) }) .answer
-          → changed s (x .change) ≡ unless n s (record { state = threeSteps s; answer = Clock (s .clock + 1) }) .state → (sound (changed s (x .change)) ≡ true) × (256 ≤ m)
-      go zero k p q = let t = tick-taken s room k in (rw q (steps-sound s z (t .early)), omega (arith, t .roomy))
+          → changed s (x .change) ≡ unless n s (record { state = threeSteps s; answer = Clock (s .clock + 1) }) .state → (sound (changed s (x .change)) ≡ true) × (256 ≤ m) × LeavesSetting s (x .change)
+      go zero k p q =
+          let t = tick-taken s room k in
+          (rw q (steps-sound s z (t .early)), omega (arith, t .roomy), (ap (λ (u : State). u .borders) q, ap (λ (u : State). u .begun) q, ap (λ (u : State). u .places) q))
       go (suc n) k p q = true-false (rw p at r)
 
   -- what is promised of a tick

@@ -18,7 +18,7 @@ ghost use Rattle.rules.specs.Tries.{allTried, listBytes};
 ghost use Rattle.rules.specs.Answers.{causeWord, pageBack, slotTold};
 ghost use Rattle.model.specs.declared.Answer.the-variants.{Refused};
 ghost use Rattle.model.specs.declared.Call.the-variants.{Start, Begin, Request, Unpin, End, Tick, Look, View, Count, Borders};
-ghost use Rattle.model.specs.Inner.Changed.{changed};
+ghost use Rattle.model.specs.Inner.Changed.{changed, LeavesSetting};
 ghost use Rattle.area.specs.Layout.{encoded, decoded, exact};
 ghost use Rattle.sabre.specs.Lent.{isRefused, answerOn, areaAfter, listAfter, status, answerNumbers};
 
@@ -145,12 +145,13 @@ fn start(area: &mut [u8], slots: u32, delay: u32, answer: &mut [u64; 4]) -> u32
 // What the steps of a tick change is done, and each waiting row is tried: the next state written over the area, and what was filled over the list.
 // Where no row waits only the change is written.
 fn fill(area: &mut [u8], list: &mut [u8], s: State, c: Change)
-    requires { ⌜ (exact (now area) ≡ true) × (s ≡ decoded (now area)) × (sound (changed s c) ≡ true) × (256 ≤ length (now list)) ⌝ }
+    requires { ⌜ (exact (now area) ≡ true) × (s ≡ decoded (now area)) × (sound (changed s c) ≡ true) × (256 ≤ length (now list)) × LeavesSetting s c ⌝ }
     ensures { λ _. ⌜ (now (area .exit) ≡ encoded (allTried (changed s c) .state) ++ drop 65536 (now (area .entry)))
         × (now (list .exit) ≡ listBytes (allTried (changed s c) .fills) ++ drop 256 (now (list .entry))) ⌝ }
 {
     let rows = c.rows;
-    let queue = tries::waiting_rows(rows);
+    let places = s.places;
+    let queue = tries::waiting_rows(rows, places);
     if queue.count == 0 {
         words::put_zeros(list, 0, 32);
         area::amend(area, c);
@@ -164,7 +165,7 @@ fn fill(area: &mut [u8], list: &mut [u8], s: State, c: Change)
 // The answer of a tick told and, where it is accepted, its steps and its tries done.
 fn finish_tick(area: &mut [u8], list: &mut [u8], answer: &mut [u64; 4], s: State, r: Reply) -> u32
     requires { ⌜ (exact (now area) ≡ true) × (s ≡ decoded (now area)) × (slotTold (r .answer) ≤ 64)
-        × (isRefused (r .answer) ≡ false → (sound (changed s (r .change)) ≡ true) × (256 ≤ length (now list))) ⌝ }
+        × (isRefused (r .answer) ≡ false → (sound (changed s (r .change)) ≡ true) × (256 ≤ length (now list)) × LeavesSetting s (r .change)) ⌝ }
     ensures { λ n. ⌜ (n ≡ status (r .answer)) × (now (answer .exit) ≡ answerNumbers (r .answer))
         × (now (area .exit) ≡ cond (isRefused (r .answer)) (now (area .entry)) (encoded (allTried (changed s (r .change)) .state) ++ drop 65536 (now (area .entry))))
         × (now (list .exit) ≡ cond (isRefused (r .answer)) (now (list .entry)) (listBytes (allTried (changed s (r .change)) .fills) ++ drop 256 (now (list .entry)))) ⌝ }

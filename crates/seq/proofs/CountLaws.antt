@@ -45,6 +45,19 @@ count-without q (suc m) j h e = elim (ℕ-discrete j m) [
       rw (without-other q j m (λ w. s (sym w))) (omega arith)
 ]
 
+-- one number more passes q than p
+pub count-one-more : (p q : ℕ → Bool) (m j : ℕ) → j < m → p j ≡ false → q j ≡ true → ((k : ℕ) → k < m → (k ≡ j → ⊥) → p k ≡ q k) → countBelow m q ≡ countBelow m p + 1
+count-one-more p q m j h e f g =
+    count-without q m j h f
+    ∙ ap (λ (n : ℕ). n + 1) (count-same (without q j) p m (λ k l. elim (ℕ-discrete k j) [
+      | yes s ↦ rw (s, eq-eqb j j refl, e) (and-false (q j))
+      | no s ↦ without-other q j k s ∙ sym (g k l s)
+    ]))
+  where
+    and-false : (b : Bool) → b && false ≡ false
+    and-false true = refl
+    and-false false = refl
+
 -- different numbers that pass p are related to different numbers that pass q: p has no more of them
 pub count-into : (p : ℕ → Bool) (m : ℕ) (R : ℕ → ℕ → Type 0) (n : ℕ) (q : ℕ → Bool)
     → ((i : ℕ) → i < n → p i ≡ true → (j : ℕ) × (j < m) × (q j ≡ true) × R i j)

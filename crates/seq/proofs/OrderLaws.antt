@@ -35,6 +35,19 @@ lex-trans a b c x y z f p q = elim (ℕ-discrete a b) [
   | no s ↦ let h = lex-true a b x p in let k = lex-true b c y q in less-lex a c z (omega arith)
 ]
 
+-- what does not come after another comes before all that the other does, where it is so of the later parts
+pub lex-weak : (a b c : ℕ) (x y z : Bool) → (x ≡ false → y ≡ true → z ≡ true) → lexLess a b x ≡ false → lexLess a c y ≡ true → lexLess b c z ≡ true
+lex-weak a b c x y z f p q = elim (ℕ-discrete a b) [
+  | yes s ↦ elim (ℕ-discrete a c) [
+    | yes t ↦ lex-next b c z (sym s ∙ t) ∙ f (sym (lex-next a b x s) ∙ p) (sym (lex-next a c y t) ∙ q)
+    | no t ↦ let h = lex-true a c y q in less-lex b c z (omega arith)
+  ]
+  | no s ↦ elim (native.Mathlib.Decide.decLt a b) [
+    | yes h ↦ true-false (sym (less-lex a b x h) ∙ p)
+    | no h ↦ let k = lex-true a c y q in less-lex b c z (omega arith)
+  ]
+]
+
 -- neither comes before the other: equal, and the later parts alike
 pub lex-total : (a b : ℕ) (x y : Bool) → lexLess a b x ≡ false → lexLess b a y ≡ false → (a ≡ b) × (x ≡ false) × (y ≡ false)
 lex-total a b x y p q = elim (ℕ-discrete a b) [
@@ -50,6 +63,9 @@ ltb-strict a = le-ltb a a (omega arith)
 
 pub ltb-trans : (a b c : ℕ) → ltb a b ≡ true → ltb b c ≡ true → ltb a c ≡ true
 ltb-trans a b c p q = let h = ltb-true a b p in let k = ltb-true b c q in lt-ltb a c (omega arith)
+
+pub ltb-weak : (a b c : ℕ) → ltb a b ≡ false → ltb a c ≡ true → ltb b c ≡ true
+ltb-weak a b c p q = let h = ltb-false a b p in let k = ltb-true a c q in lt-ltb b c (omega arith)
 
 pub ltb-total : (a b : ℕ) → ltb a b ≡ false → ltb b a ≡ false → a ≡ b
 ltb-total a b p q = let h = ltb-false a b p in let k = ltb-false b a q in omega arith

@@ -23,6 +23,7 @@ kill-none some cause s z h = λ j. record {
   holdings = each-still (λ k x. cond (some (k % 32)) emptyHolding x) (s .holdings) emptyHolding (λ k i. rw (h (k % 32) (omega arith))) j;
   borders = s .borders;
   begun = s .begun;
+  places = s .places;
 }
   where
     wrote : ℕ → Bool

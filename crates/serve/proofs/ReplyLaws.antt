@@ -21,7 +21,7 @@ use Rattle.model.specs.declared.Slot.{Slot}
 use Rattle.model.specs.declared.State.{State}
 use Rattle.model.specs.State.{emptyHolding}
 use Rattle.model.specs.Changes.{released, killed, cleared}
-use Rattle.model.specs.Inner.Changed.{marked, holdingAfter, bordersAfter, begunAfter, changed, outcomeOf}
+use Rattle.model.specs.Inner.Changed.{marked, holdingAfter, bordersAfter, begunAfter, placesAfter, changed, outcomeOf}
 use Rattle.model.proofs.StateLaws.{Sized}
 use Rattle.model.proofs.ChangedLaws.{holdings-are, held-at, held-set, changed-none}
 use Rattle.rules.specs.Calls.{waiting, granted, filled}
@@ -71,6 +71,7 @@ module _ (s : State) (z : Sized s) where
               ∙ ap (λ (own : Holding). set old place (heldNow own mode arrival (c .clock))) (sym (held-at s z c row b h))) j;
           borders = bordersAfter (c .setting) (s .borders);
           begun = begunAfter (c .setting) (s .begun);
+          places = placesAfter (c .setting) (s .places);
         };
         answer = granting c row mode arrival back .answer;
       }
@@ -87,6 +88,7 @@ module _ (s : State) (z : Sized s) where
     holdings = each-same (holdingAfter (rowsTaken (taking s gone slot))) (λ k h. cond (marked gone (k % 32)) emptyHolding h) (s .holdings) emptyHolding (λ k _. there k) j;
     borders = s .borders;
     begun = s .begun;
+    places = s .places;
   }
     where
       there : (k : ℕ) → holdingAfter (rowsTaken (taking s gone slot)) k (getD (s .holdings) k emptyHolding) ≡ cond (marked gone (k % 32)) emptyHolding (getD (s .holdings) k emptyHolding)
@@ -114,6 +116,7 @@ module _ (s : State) (z : Sized s) where
             (each-length (λ k h. cond (eqb (k / 32) (c .slot)) emptyHolding h) left ∙ long) there j;
         borders = bordersAfter (c .setting) (s .borders);
         begun = begunAfter (c .setting) (s .begun);
+        places = placesAfter (c .setting) (s .places);
       }
     where
       long : length (each (holdingAfter c) (s .holdings)) ≡ 2048

@@ -91,7 +91,7 @@ module _ (s : State) (row page : ℕ) (mode : Mode) where
 
     -- a slot has the page
     module _ (f : Found) (e : f ≡ pageSlot (s .slots) (s .size) page) (slot : ℕ) (at : f ≡ At slot) (held : List Holding) (on : held ≡ holdingsOn s slot) (p : Plan)
-        (m : p ≡ planned held (s .rows) (slotAt s slot) row mode (s .clock + s .delay)) where
+        (m : p ≡ planned held (s .rows) (s .places) (slotAt s slot) row mode (s .clock + s .delay)) where
       serve-plan : served s row page mode ≡ cond (p .wait) (waiting s row page mode) (granted (killed (marked (p .marks)) Taken s) row slot mode (p .arrival) Nothing)
       unfolding served slotOf
       serve-plan = rw (← e, at, m, on) (plan-served s z row slot page mode h)

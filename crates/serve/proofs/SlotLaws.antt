@@ -79,17 +79,17 @@ module _ (s : State) (slot : ℕ) where
   pinners-killed z = killed-same (marked (marksOf (holdingsOn s slot) Pinning)) (pins s slot) s (marked-is Pinning) z Taken
 
   -- a row of better priority is of the requester's level or a lower one
-  pub must-wait-in : (row : ℕ) (mode : Mode) → row < 32 → mustWaitIn (marksOf (holdingsOn s slot) (Conflicting row mode)) (ranksOf (s .rows)) row ≡ mustWait s row slot mode
+  pub must-wait-in : (row : ℕ) (mode : Mode) → row < 32 → mustWaitIn (marksOf (holdingsOn s slot) (Conflicting row mode)) (ranksOf (s .rows) (s .places)) row ≡ mustWait s row slot mode
   unfolding mustWaitIn mustWait conflicts outranks
   must-wait-in row mode h = any-same
-      (λ other. marked (marksOf (holdingsOn s slot) (Conflicting row mode)) other && better (getD (ranksOf (s .rows)) other noRank) (getD (ranksOf (s .rows)) row noRank))
+      (λ other. marked (marksOf (holdingsOn s slot) (Conflicting row mode)) other && better (getD (ranksOf (s .rows) (s .places)) other noRank) (getD (ranksOf (s .rows) (s .places)) row noRank))
       (λ other. leb (levelOf other) (levelOf row) && conflicts s row slot mode other && outranks s other row) 32
       (λ other k. told other k ∙ go other (outranks s other row) refl)
     where
       told : (other : ℕ) → other < 32
-          → marked (marksOf (holdingsOn s slot) (Conflicting row mode)) other && better (getD (ranksOf (s .rows)) other noRank) (getD (ranksOf (s .rows)) row noRank)
+          → marked (marksOf (holdingsOn s slot) (Conflicting row mode)) other && better (getD (ranksOf (s .rows) (s .places)) other noRank) (getD (ranksOf (s .rows) (s .places)) row noRank)
           ≡ conflicts s row slot mode other && outranks s other row
-      told other k = rw (marked-is (Conflicting row mode) other k, rank-at (s .rows) (ranksOf (s .rows)) other refl k, rank-at (s .rows) (ranksOf (s .rows)) row refl h)
+      told other k = rw (marked-is (Conflicting row mode) other k, rank-at (s .rows) (s .places) (ranksOf (s .rows) (s .places)) other refl k, rank-at (s .rows) (s .places) (ranksOf (s .rows) (s .places)) row refl h)
 
       go : (other : ℕ) (b : Bool) → outranks s other row ≡ b
           → conflicts s row slot mode other && outranks s other row ≡ leb (levelOf other) (levelOf row) && conflicts s row slot mode other && outranks s other row

@@ -30,27 +30,27 @@ use Rattle.serve.proofs.SlotLaws.{seen-in, least-in, dormant-in, must-w
 use Rattle.serve.proofs.KillLaws.{kill-none}
 
 -- the plan, from what the functions called in each step give
-module _ (held : List Holding) (rows : List Row) (x : Slot) (row : ℕ) (mode : Mode) (due : ℕ) (marks : List Bool) (g : marks ≡ marksOf held (Conflicting row mode)) (v : Bool)
+module _ (held : List Holding) (rows : List Row) (places : List ℕ) (x : Slot) (row : ℕ) (mode : Mode) (due : ℕ) (marks : List Bool) (g : marks ≡ marksOf held (Conflicting row mode)) (v : Bool)
     (e : v ≡ seenIn held (levelOf row)) where
-  pub plan-seen : v ≡ true → (ranks : List Rank) (wait : Bool) (arrival : ℕ) → ranks ≡ ranksOf rows → wait ≡ mustWaitIn marks ranks row → arrival ≡ leastIn held (levelOf row)
-      → _≡_ {A = Plan} (record { wait = wait; marks = marks; arrival = arrival }) (planned held rows x row mode due)
+  pub plan-seen : v ≡ true → (ranks : List Rank) (wait : Bool) (arrival : ℕ) → ranks ≡ ranksOf rows places → wait ≡ mustWaitIn marks ranks row → arrival ≡ leastIn held (levelOf row)
+      → _≡_ {A = Plan} (record { wait = wait; marks = marks; arrival = arrival }) (planned held rows places x row mode due)
   unfolding planned
   plan-seen w ranks wait arrival k f h = rw (← e, w, f, k, g, h)
 
   module _ (w : v ≡ false) (d : Bool) (q : d ≡ seesDormantIn held x (levelOf row)) where
     pub plan-dormant : d ≡ true → (arrival : ℕ) → arrival ≡ arrivalIn (x .content)
-        → _≡_ {A = Plan} (record { wait = false; marks = replicate 32 false; arrival = arrival }) (planned held rows x row mode due)
+        → _≡_ {A = Plan} (record { wait = false; marks = replicate 32 false; arrival = arrival }) (planned held rows places x row mode due)
     unfolding planned
     plan-dormant t arrival h = rw (← e, w, ← q, t, h)
 
-    pub plan-unseen : d ≡ false → _≡_ {A = Plan} (record { wait = false; marks = marks; arrival = due }) (planned held rows x row mode due)
+    pub plan-unseen : d ≡ false → _≡_ {A = Plan} (record { wait = false; marks = marks; arrival = due }) (planned held rows places x row mode due)
     unfolding planned
     plan-unseen t = rw (← e, w, ← q, t, g)
 
 -- the steps do what the plan says
 module _ (s : State) (z : Sized s) (row slot page : ℕ) (mode : Mode) (h : row < 32) where
   abbrev plan : Plan
-  plan = planned (holdingsOn s slot) (s .rows) (slotAt s slot) row mode (s .clock + s .delay)
+  plan = planned (holdingsOn s slot) (s .rows) (s .places) (slotAt s slot) row mode (s .clock + s .delay)
 
   abbrev Planned : Type 0
   Planned = servedAt (At slot) s row page mode ≡ cond (plan .wait) (waiting s row page mode) (granted (killed (marked (plan .marks)) Taken s) row slot mode (plan .arrival) Nothing)

@@ -368,18 +368,19 @@ struct Plan {
 fn plan_steps(
     held: [Holding; 32],
     rows: [Row; 32],
+    places: [usize; 32],
     x: Slot,
     row: usize,
     mode: Mode,
     due: u32,
 ) -> Plan
     requires { ⌜ row < 32 ⌝ }
-    ensures { λ r. ⌜ r ≡ planned held rows x row mode due ⌝ }
+    ensures { λ r. ⌜ r ≡ planned held rows places x row mode due ⌝ }
 {
     let level = row / 8;
     let marks = mark_rows(held, Kills::Conflicting { row, mode });
     if see(held, level) {
-        let ranks = choice::ranks(rows);
+        let ranks = choice::ranks(rows, places);
         let wait = must_wait(marks, ranks, row);
         let arrival = least_arrival(held, level);
         return Plan {
@@ -498,7 +499,8 @@ pub fn serve(s: State, row: usize, page: u32, mode: Mode) -> Reply
     };
     let held = holdings_on(s, slot);
     let x = s.slots[slot];
-    let p = plan_steps(held, rows, x, row, mode, due);
+    let places = s.places;
+    let p = plan_steps(held, rows, places, x, row, mode, due);
     if p.wait {
         let same = s.slots;
         return wait(clock, rows, same, row, page, mode);

@@ -1,9 +1,11 @@
 -- The tests of the elements of a state are those of the state.
 use mathlib.Core.Path.{_≡_, refl, sym, _∙_, ap}
 use mathlib.Core.Bool.{Bool, true, false, cond, _&&_, _||_, not}
+use mathlib.Core.List.{List}
 use Prim.Native.Nat.{ℕ, _+_, _<_}
 use native.Mathlib.Omega.{arith}
 use lib.Dec.{leb, ltb, eqb}
+use lib.ListN.{getD}
 use borrow.Author.Tests.{leb-true, ltb-true, ne-eqb}
 use Rattle.seq.specs.Below.{allBelow, countBelow}
 use Rattle.seq.proofs.Tests.{or-true-right, and-false-right}
@@ -12,18 +14,20 @@ use Rattle.model.specs.declared.Condition.{Condition}
 use Rattle.model.specs.declared.Condition.the-variants.{Free, Idle, Fetching, Waiting, Killed}
 use Rattle.model.specs.declared.Content.{Content}
 use Rattle.model.specs.declared.Content.the-variants.{Empty, Filled}
+use Rattle.model.specs.declared.Row.{Row}
 use Rattle.model.specs.declared.State.{State}
-use Rattle.model.specs.Parties.{levelOf, classOf, isPast}
-use Rattle.model.specs.State.{rowAt, slotAt, holdingAt}
-use Rattle.model.specs.Words.{isFilled, pageIn, holds, pins}
+use Rattle.model.specs.Parties.{rowOf, levelOf, classOf, isPast}
+use Rattle.model.specs.State.{freeRow, rowAt, slotAt, holdingAt}
+use Rattle.model.specs.Words.{isFree, isFilled, pageIn, holds, pins}
+use Rattle.model.specs.Changes.{rowsNotFree}
 use Rattle.model.proofs.StateLaws.{Sized}
-use Rattle.rules.specs.Sound.{soundNumbers, arrived, awaits, soundContent, soundSlot, soundCondition, soundRow, soundHolding, soundPins, soundPages, soundBorders, sound}
-use Rattle.sound.specs.Inner.Tests.{inRange, contentTest, slotTest, placeTaken, dueIn, arrivedTest, awaitsTest, fetchingTest, waitingTest, conditionTest, rowTest, fitTest, heldTest, holdingTest, bordersTest}
+use Rattle.rules.specs.Sound.{soundNumbers, arrived, awaits, soundContent, soundSlot, soundCondition, soundRow, soundHolding, soundPins, soundPages, soundBorders, soundPlace, samePlace, soundOrder, sound}
+use Rattle.sound.specs.Inner.Tests.{inRange, contentTest, slotTest, placeTaken, dueIn, arrivedTest, awaitsTest, fetchingTest, waitingTest, conditionTest, rowTest, fitTest, heldTest, holdingTest, bordersTest, placeTest, placedAt, aloneAt, orderTest}
 use Rattle.sound.proofs.PageLaws.{pages-apart}
 
 pub numbers-test : (s : State) → Sized s → inRange (s .size) (s .delay) (s .clock) ≡ soundNumbers s
 unfolding inRange soundNumbers
-numbers-test s z = rw (z .rows, z .slots, z .holdings)
+numbers-test s z = rw (z .rows, z .slots, z .holdings, z .places)
 
 and-true : (a : Bool) → a ≡ a && true
 and-true true = refl
@@ -158,10 +162,25 @@ borders-test : (s : State) → bordersTest (s .borders) (s .begun) (s .rows) (s 
 unfolding bordersTest soundBorders
 borders-test s = refl
 
+-- a row of a level is not free
+abbrev pub notFreeAt : List Row → ℕ → ℕ → Bool
+notFreeAt rows level number = not (isFree (getD rows (rowOf level number) freeRow .condition))
+
+-- the begin order of a level, as the loops over its rows leave it
+pub order-end : (rows : List Row) (places : List ℕ) (level m n most : ℕ) (fit apart t : Bool) → m ≡ 8 → n ≡ 8 → most ≡ countBelow m (notFreeAt rows level)
+    → fit ≡ allBelow n (placedAt rows places level most) → apart ≡ allBelow n (aloneAt places level) → t ≡ fit && apart → t ≡ orderTest rows places level
+unfolding orderTest rowsNotFree
+order-end rows places level m n most fit apart t e f h p q z = rw (z, p, q, h, e, f)
+
+orders-test : (s : State) → allBelow 4 (orderTest (s .rows) (s .places)) ≡ allBelow 4 (soundOrder s)
+unfolding orderTest placeTest soundOrder soundPlace samePlace
+orders-test s = refl
+
 -- the whole test from its parts, each joined to those before it
-pub sound-test : (s : State) → Sized s → (numbers slots pages holdings borders b2 b3 b4 b5 : Bool) → numbers ≡ inRange (s .size) (s .delay) (s .clock) → slots ≡ allBelow 64 (soundSlot s)
+pub sound-test : (s : State) → Sized s → (numbers slots pages holdings borders orders b2 b3 b4 b5 b6 : Bool) → numbers ≡ inRange (s .size) (s .delay) (s .clock) → slots ≡ allBelow 64 (soundSlot s)
     → pages ≡ allBelow 64 (λ slot. not (placeTaken (s .slots) slot)) → holdings ≡ allBelow 32 (soundRow s) && allBelow 64 (λ slot. allBelow 32 (soundHolding s slot)) && allBelow 64 (soundPins s)
-    → borders ≡ bordersTest (s .borders) (s .begun) (s .rows) (s .slots) → b2 ≡ numbers && slots → b3 ≡ b2 && pages → b4 ≡ b3 && holdings → b5 ≡ b4 && borders → b5 ≡ sound s
+    → borders ≡ bordersTest (s .borders) (s .begun) (s .rows) (s .slots) → orders ≡ allBelow 4 (orderTest (s .rows) (s .places))
+    → b2 ≡ numbers && slots → b3 ≡ b2 && pages → b4 ≡ b3 && holdings → b5 ≡ b4 && borders → b6 ≡ b5 && orders → b6 ≡ sound s
 unfolding sound
-sound-test s z numbers slots pages holdings borders b2 b3 b4 b5 e1 e2 e3 e4 e5 f2 f3 f4 f5 =
-    rw (f5, f4, f3, f2, e1, e2, e3, e4, e5, numbers-test s z, pages-joined s, borders-test s) (simp and-assoc)
+sound-test s z numbers slots pages holdings borders orders b2 b3 b4 b5 b6 e1 e2 e3 e4 e5 e6 f2 f3 f4 f5 f6 =
+    rw (f6, f5, f4, f3, f2, e1, e2, e3, e4, e5, e6, numbers-test s z, pages-joined s, borders-test s, orders-test s) (simp and-assoc)

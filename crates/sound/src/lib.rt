@@ -1,4 +1,4 @@
-// The test whether a state is sound: document 01, "State", and document 02, T-01 and T-02.
+// The test whether a state is sound: document 01, "State", and document 02, T-01, T-02 and T-06.
 use model::Borders;
 use model::Condition;
 use model::Content;
@@ -17,7 +17,7 @@ ghost use Rattle.model.specs.State.{freeRow, emptySlot};
 ghost use Rattle.model.specs.Words.{isFree, isFilled, pageIn};
 ghost use lib.ListN.{getD};
 ghost use Rattle.rules.specs.Sound.{pinAllowed, soundSlot, soundRow, soundHolding, soundPins, sound};
-ghost use Rattle.sound.specs.Inner.Tests.{inRange, slotTest, placeIn, noPages, placeTaken, dueIn, arrivedTest, awaitsTest, fetchingTest, waitingTest, rowTest, fitTest, heldTest, holdingTest, bordersTest, pinWeight};
+ghost use Rattle.sound.specs.Inner.Tests.{inRange, slotTest, placeIn, noPages, placeTaken, dueIn, arrivedTest, awaitsTest, fetchingTest, waitingTest, rowTest, fitTest, heldTest, holdingTest, bordersTest, placeTest, orderTest, pinWeight};
 
 fn unless(a: bool, b: bool) -> bool
     ensures { λ r. ⌜ r ≡ a && not b ⌝ }
@@ -488,6 +488,53 @@ fn are_borders_sound(b: Borders, begun: bool, rows: [Row; 32], slots: [Slot; 64]
     false
 }
 
+// A row's place in the begin order: 0 for a free row, and from 1 to the most for another.
+fn is_place_sound(free: bool, place: usize, most: usize) -> bool
+    ensures { λ r. ⌜ r ≡ placeTest free place most ⌝ }
+{
+    if free {
+        return place == 0;
+    }
+    if place < 1 {
+        return false;
+    }
+    place <= most
+}
+
+// The begin orders of the levels, in one function: a function of one level would copy the rows and the places at each call.
+fn are_orders_sound(rows: [Row; 32], places: [usize; 32]) -> bool
+    ensures { λ r. ⌜ r ≡ allBelow 4 (orderTest rows places) ⌝ }
+{
+    let mut ok = true;
+    for level in 0..4usize {
+        let mut most: usize = 0;
+        for number in 0..8usize {
+            let x = rows[level * 8 + number];
+            let c = x.condition;
+            let taken = unless(true, model::is_free(c));
+            most = counted(most, taken);
+        }
+        let mut fit = true;
+        let mut apart = true;
+        for number in 0..8usize {
+            let x = rows[level * 8 + number];
+            let c = x.condition;
+            let place = places[level * 8 + number];
+            let t = is_place_sound(model::is_free(c), place, most);
+            fit = seq::both(fit, t);
+            let mut alone = true;
+            for other in 0..number {
+                let before = places[level * 8 + other];
+                let same = seq::both(0 < place, place == before);
+                alone = unless(alone, same);
+            }
+            apart = seq::both(apart, alone);
+        }
+        ok = seq::both(ok, seq::both(fit, apart));
+    }
+    ok
+}
+
 // Whether the state is sound.
 pub fn is_sound(s: State) -> bool
     ensures { λ r. ⌜ r ≡ sound s ⌝ }
@@ -499,8 +546,13 @@ pub fn is_sound(s: State) -> bool
     let rows = s.rows;
     let all = s.slots;
     let borders = are_borders_sound(s.borders, s.begun, rows, all);
+    let places = s.places;
+    let orders = are_orders_sound(rows, places);
     seq::both(
-        seq::both(seq::both(seq::both(numbers, slots), pages), holdings),
-        borders,
+        seq::both(
+            seq::both(seq::both(seq::both(numbers, slots), pages), holdings),
+            borders,
+        ),
+        orders,
     )
 }

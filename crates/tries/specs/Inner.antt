@@ -1,1 +1,2 @@
 pub mod Queued
+pub mod Turns

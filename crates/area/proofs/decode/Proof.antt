@@ -20,6 +20,7 @@ use Rattle.area.proofs.decode.Lts as lts
 use Rattle.seq.proofs.both.Reads as both-reads
 use Rattle.area.proofs.get_borders.Reads as get-borders-reads
 use Rattle.area.proofs.get_holding.Reads as get-holding-reads
+use Rattle.area.proofs.get_places.Reads as get-places-reads
 use Rattle.area.proofs.get_rows.Reads as get-rows-reads
 use Rattle.area.proofs.get_slots.Reads as get-slots-reads
 use Rattle.area.proofs.holding_words.Reads as holding-words-reads
@@ -42,10 +43,10 @@ unfolding decoded
 all-read a = refl
 
 abbrev Inv-loop : tie.InvT-loop
-Inv-loop a whole size delay clock borders begun frame same₀ rows slots holdings₀ k₀ same holdings k = (k ≤ 2048) × (holdings ≡ eachBelow k (λ j _. holdingFrom a (6656 + j * 24)) emptyHoldings) × (same ≡ same₀ && allBelow k (λ j. hasWords a (6656 + j * 24) (holdingWords (holdingFrom a (6656 + j * 24)))))
+Inv-loop a whole size delay clock borders begun places frame same₀ rows slots holdings₀ k₀ same holdings k = (k ≤ 2048) × (holdings ≡ eachBelow k (λ j _. holdingFrom a (6656 + j * 24)) emptyHoldings) × (same ≡ same₀ && allBelow k (λ j. hasWords a (6656 + j * 24) (holdingWords (holdingFrom a (6656 + j * 24)))))
 
 abbrev μ-loop : tie.MeasureT-loop
-μ-loop a whole size delay clock borders begun frame same₀ rows slots holdings₀ k₀ same holdings k = 2048 - k
+μ-loop a whole size delay clock borders begun places frame same₀ rows slots holdings₀ k₀ same holdings k = 2048 - k
 
 word-requires : tie.Need-word-requires Inv-loop μ-loop
 word-requires c κs = omega arith
@@ -74,6 +75,9 @@ get-borders-requires c κs = omega arith
 word-requires-4 : tie.Need-word-requires-4 Inv-loop μ-loop
 word-requires-4 c κs = omega arith
 
+get-places-requires : tie.Need-get-places-requires Inv-loop μ-loop
+get-places-requires c κs = omega arith
+
 is-frame-requires : tie.Need-is-frame-requires Inv-loop μ-loop
 is-frame-requires c κs = omega arith
 
@@ -89,7 +93,7 @@ fresh-state-requires c κs = omega arith
 loop-holds : tie.Need-loop-holds Inv-loop μ-loop
 unfolding allBelow
 loop-holds c =
-    let a = c .before .before .before .before .before .before .before .before .before .before .before .before .before .before .before .before .before .args .a .now in
+    let a = c .before .before .before .before .before .before .before .before .before .before .before .before .before .before .before .before .before .before .args .a .now in
     (omega arith, fresh-holdings _ _ _ (c .before .fresh-state .ensures) ∙ each-below-none (λ j _. holdingFrom a (6656 + j * 24)) emptyHoldings, sym (and-true _))
 
 mul-at : tie.Need-mul-at Inv-loop μ-loop
@@ -99,7 +103,7 @@ add-at : tie.Need-add-at Inv-loop μ-loop
 add-at c = omega arith
 
 get-holding-requires : tie.Need-get-holding-requires Inv-loop μ-loop
-get-holding-requires c κs = omega (arith, c .before .before .before .before .before .before .before .before .before .before .before .before .before .before .before .before .before .before .before .pre)
+get-holding-requires c κs = omega (arith, c .before .before .before .before .before .before .before .before .before .before .before .before .before .before .before .before .before .before .before .before .pre)
 
 holding-words-requires : tie.Need-holding-words-requires Inv-loop μ-loop
 holding-words-requires c κs = omega arith
@@ -108,7 +112,7 @@ slice-aggregate-has-words : tie.Need-slice-aggregate-has-words Inv-loop μ-loop
 slice-aggregate-has-words c = omega arith
 
 has-words-requires : tie.Need-has-words-requires Inv-loop μ-loop
-has-words-requires c κs = omega (arith, c .before .before .before .before .before .before .before .before .before .before .before .before .before .before .before .before .before .before .before .before .before .before .pre)
+has-words-requires c κs = omega (arith, c .before .before .before .before .before .before .before .before .before .before .before .before .before .before .before .before .before .before .before .before .before .before .before .pre)
 
 both-requires-3 : tie.Need-both-requires-3 Inv-loop μ-loop
 both-requires-3 c κs = omega arith
@@ -130,7 +134,7 @@ loop-again c =
     let g = c .before .before .before .before in
     let w = g .before .before .loop in
     let b = g .before .before .before .before .before .before .before in
-    let a = b .before .before .before .before .before .before .before .before .before .before .before .before .before .args .a .now in
+    let a = b .before .before .before .before .before .before .before .before .before .before .before .before .before .before .args .a .now in
     let words = c .before .before .before .holding-words in (
       omega arith,
       read-turn (λ j. holdingFrom a (6656 + j * 24)) emptyHoldings emptyHolding 2048 empty-holdings-long (w .k) (w .holdings) _ (omega arith) (w .inv .1) (g .get-holding .ensures),
@@ -144,7 +148,7 @@ returns c =
     let w = c .before .loop in
     let b = c .before .before .before .before .before .before in
     let f = b .before .before in
-    let g = f .before .before in
+    let g = f .before .before .before in
     let l = g .before .before .before in
     let d = l .before .before in
     let a = d .before .before .before .before .args .a .now in
@@ -155,10 +159,10 @@ returns c =
     let rows = g .before .before .get-rows .ensures in
     let slots = g .before .get-slots .ensures in
     let borders = g .get-borders .ensures in
-    let begun = ap (λ (n : ℕ). not (eqb n 0)) (f .before .word4 .ensures) in
+    let begun = ap (λ (n : ℕ). not (eqb n 0)) (f .before .before .word4 .ensures) in
     let holdings = read-all (λ j. holdingFrom a (6656 + j * 24)) emptyHoldings emptyHolding 2048 empty-holdings-long (w .k) (w .holdings) e (w .inv .1) ∙ all-read a in
     let framing = framed a _ _ _ _ _ _ size delay clock borders begun (f .is-frame .ensures) in (
-      decode-state a _ size delay clock (rows .0) (slots .0) holdings borders begun,
+      decode-state a _ size delay clock (rows .0) (slots .0) holdings borders begun (f .before .get-places .ensures),
       exact-tests a _ _ _ _ _ _ _ (λ i. omega (arith, d .before .before .before .shared-slice-known .given i)) (omega arith) framing (rows .1) (slots .1) (all-exact a) (b .before .both .ensures) (b .both2 .ensures) (w .inv .2 ∙ rw e),
     )
 
@@ -177,6 +181,7 @@ decode-spec =
     get-slots-requires
     get-borders-requires
     word-requires-4
+    get-places-requires
     is-frame-requires
     both-requires
     both-requires-2

@@ -18,6 +18,9 @@ slice-aggregate-put-words c = search needs
 put-words-requires : tie.Need-put-words-requires
 put-words-requires c κs = search needs
 
+enum-told-3 : tie.Need-enum-told-3
+enum-told-3 c = search needs
+
 enum-known-x : tie.Need-enum-known-x
 enum-known-x c = search needs
 
@@ -47,12 +50,16 @@ returns-2 : tie.Need-returns-2
 unfolding settingPut
 returns-2 c = rw (c .before .before .before .before .before .enum-told2 .given .1) (c .before .before .put-words .ensures)
 
+returns-3 : tie.Need-returns-3
+unfolding settingPut
+returns-3 c = rw (c .enum-told3 .given .1)
+
 same-length-2 : tie.Need-same-length-2
 same-length-2 c = search needs
 
-returns-3 : tie.Need-returns-3
+returns-4 : tie.Need-returns-4
 unfolding settingPut
-returns-3 c = rw (c .before .before .before .before .before .before .x .given .1) (c .before .before .put-words2 .ensures)
+returns-4 c = rw (c .before .before .before .before .before .before .x .given .1) (c .before .before .put-words2 .ensures)
 
 pub put-setting-spec : {M : Type 1} → statement M
 put-setting-spec =
@@ -62,6 +69,7 @@ put-setting-spec =
     enum-told-2
     slice-aggregate-put-words
     put-words-requires
+    enum-told-3
     enum-known-x
     cast-t13
     cast-t14
@@ -71,5 +79,6 @@ put-setting-spec =
     returns
     same-length
     returns-2
+    returns-3
     same-length-2
-    returns-3)
+    returns-4)

@@ -1,16 +1,30 @@
--- For the code; proved equal to the bytes of the changed state, proofs/Amends.antt: what a call makes of the borders and of whether a row has begun written over the header, and the holdings of some rows with zeros,
--- in all 64 slots.
+-- For the code; proved equal to the bytes of the changed state, proofs/Amends.antt: what a call makes of the begin orders, of the borders and of whether a row has begun written over them, and the holdings of some
+-- rows with zeros, in all 64 slots.
 use mathlib.Core.Bool.{Bool, cond}
 use mathlib.Core.List.{List, [], _∷_}
 use Prim.Native.Nat.{ℕ, zero, suc, _+_, _*_}
 use Rattle.words.specs.Bytes.{spliced, wordBytes, zeroWords}
 use Rattle.model.specs.declared.Setting.{Setting}
-use Rattle.model.specs.declared.Setting.the-variants.{Left, Begun, Set}
+use Rattle.model.specs.declared.Setting.the-variants.{Left, Begun, Ended, Set}
+use Rattle.model.specs.Inner.Changed.{placesAfter}
+use Rattle.area.specs.Layout.{placesBytes, placesFrom}
+
+-- the places in the begin orders
+unfoldable pub placesPut : Setting → List ℕ → List ℕ
+placesPut x a = spliced a 72 (placesBytes (placesAfter x (placesFrom a)))
+
+-- the same, where a row begins or ends
+unfoldable pub orderPut : Setting → List ℕ → List ℕ
+orderPut Left a = a
+orderPut (Begun row place) a = placesPut (Begun row place) a
+orderPut (Ended row) a = placesPut (Ended row) a
+orderPut (Set first second third) a = a
 
 -- the borders, and the mark that a row has begun
 unfoldable pub settingPut : Setting → List ℕ → List ℕ
 settingPut Left a = a
-settingPut Begun a = spliced a 64 (wordBytes (1 ∷ []))
+settingPut (Begun row place) a = spliced a 64 (wordBytes (1 ∷ []))
+settingPut (Ended row) a = a
 settingPut (Set first second third) a = spliced a 40 (wordBytes (first ∷ second ∷ third ∷ []))
 
 -- the holdings of a row on the first n slots

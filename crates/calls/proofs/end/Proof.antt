@@ -1,7 +1,9 @@
 use mathlib.Core.Path.{_≡_, _∙_}
 use native.Mathlib.Omega.{arith}
 use Rattle.model.specs.declared.Answer.the-variants.{Ended}
+use Rattle.model.specs.declared.Setting.the-variants as Setting
 use Rattle.model.specs.Changes.{released}
+use Rattle.model.specs.Inner.Changed.{withSetting}
 use Rattle.model.proofs.Ranges.{state-ok}
 use Rattle.rules.specs.Refusals.{endRefusal}
 use Rattle.rules.specs.Calls.{ended}
@@ -37,8 +39,8 @@ returns-2 c =
     let s = a .args .s in
     let h = b .row-refusal .ensures .1 (c .before .before .if1 .left) in
     let e = ended-row s _ _ (b .before .before .before .row-of .ensures) (omega arith) in
-    drop-after s (state-ok (a .args .s) _ (a .good .0) .sized) (c .drop-holdings .result) (s .clock) _ (c .before .released-slots .result) _ Ended (c .drop-holdings .ensures) (c .before .released-slots .ensures)
-    ∙ (λ j. record { state = e j; answer = Ended })
+    drop-after s (state-ok (a .args .s) _ (a .good .0) .sized) (c .drop-holdings .result) (s .clock) _ (c .before .released-slots .result) _ (Setting.Ended (b .before .before .before .row-of .result)) Ended (c .drop-holdings .ensures) (c .before .released-slots .ensures)
+    ∙ (λ j. record { state = withSetting (e j) (Setting.Ended (b .before .before .before .row-of .ensures j)); answer = Ended })
     ∙ taken _ _ _ _ (number b) (c .before .before .if1 .left)
 
 pub end-spec : {M : Type 1} → statement M

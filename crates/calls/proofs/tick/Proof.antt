@@ -1,5 +1,6 @@
 use mathlib.Core.Path.{_∙_}
 use Prim.Native.Nat.{_+_}
+use Rattle.model.specs.declared.Setting.the-variants.{Left}
 use Rattle.model.specs.declared.Cause.the-variants.{Late}
 use Rattle.model.specs.declared.Answer.the-variants.{Clock}
 use Rattle.model.proofs.Ranges.{state-ok}
@@ -34,7 +35,7 @@ returns-2 c =
     let gone = c .before .before .before .late-rows .result in
     let live = c .before .before .kill-rows .result in
     let e = ticked-rows s _ rows gone z (b .deliver-rows .ensures) (c .before .before .before .late-rows .ensures) (rows-killed s z (s .clock + 1) rows live gone Late (c .before .before .kill-rows .ensures)) in
-    drop-after s z (c .drop-holdings .result) (s .clock + 1) live (c .before .released-slots .result) gone (Clock (s .clock + 1)) (c .drop-holdings .ensures) (c .before .released-slots .ensures)
+    drop-after s z (c .drop-holdings .result) (s .clock + 1) live (c .before .released-slots .result) gone Left (Clock (s .clock + 1)) (c .drop-holdings .ensures) (c .before .released-slots .ensures)
     ∙ (λ j. record { state = e j; answer = Clock (s .clock + 1) })
     ∙ taken _ _ s (record { state = threeSteps s; answer = Clock (s .clock + 1) }) (r .tick-refusal .ensures .0) (b .before .before .if1 .left)
 

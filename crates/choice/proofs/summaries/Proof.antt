@@ -46,9 +46,9 @@ summary-with-requires : tie.Need-summary-with-requires Inv-loop2 μ-loop2 Inv-lo
 summary-with-requires c κs = search needs
 
 loop-holds : tie.Need-loop-holds Inv-loop2 μ-loop2 Inv-loop μ-loop
-loop-holds c = let a = c .before .before .before .before .before .args in (
+loop-holds c = let a = c .before .before .before .before .before .before .args in (
   omega arith,
-  c .before .before .before .before .before .pre .0,
+  c .before .before .before .before .before .before .pre .0,
   ap (replicate 64) (summary-none (c .before .no-holders .result) (getD (c .before .before .before .ranks .result) (a .me) noRank) (c .summary-with .result) (c .before .no-holders .ensures) (c .summary-with .ensures))
       ∙ each-below-none (λ slot _. summaryOf (a .t1) (a .me) slot) (replicate 64 noSummary),
 )
@@ -57,7 +57,7 @@ no-holders-requires-2 : tie.Need-no-holders-requires-2 Inv-loop2 μ-loop2 Inv-lo
 no-holders-requires-2 c κs = search needs
 
 loop2-holds : tie.Need-loop2-holds Inv-loop2 μ-loop2 Inv-loop μ-loop
-loop2-holds c = (omega arith, c .no-holders2 .ensures ∙ holders-none (c .before .before .before .before .before .before .before .before .args .t1) (c .before .before .loop .i))
+loop2-holds c = (omega arith, c .no-holders2 .ensures ∙ holders-none (c .before .before .before .before .before .before .before .before .before .args .t1) (c .before .before .loop .i))
 
 mul-h : tie.Need-mul-h Inv-loop2 μ-loop2 Inv-loop μ-loop
 mul-h c = omega arith
@@ -88,7 +88,7 @@ loop2-less c = omega arith
 
 loop2-again : tie.Need-loop2-again Inv-loop2 μ-loop2 Inv-loop μ-loop
 loop2-again c = let w = c .before .before .before .before .loop2 in
-    (omega arith, holders-turn (c .before .before .before .before .before .before .before .before .before .before .before .before .before .args .t1) (c .before .before .before .before .before .before .before .loop .i) (w .r) (c .before .before .before .before .before .before .before .before .before .before .before .ranks .result) (w .w) (c .holders-with .result) (omega arith) (c .before .before .before .before .before .before .before .before .before .before .before .ranks .ensures) (w .inv .1) (c .holders-with .ensures))
+    (omega arith, holders-turn (c .before .before .before .before .before .before .before .before .before .before .before .before .before .before .args .t1) (c .before .before .before .before .before .before .before .loop .i) (w .r) (c .before .before .before .before .before .before .before .before .before .before .before .ranks .result) (w .w) (c .holders-with .result) (omega arith) (c .before .before .before .before .before .before .before .before .before .before .before .ranks .ensures) (w .inv .1) (c .holders-with .ensures))
 
 mul-g : tie.Need-mul-g Inv-loop2 μ-loop2 Inv-loop μ-loop
 mul-g c = omega arith
@@ -127,20 +127,20 @@ loop-less : tie.Need-loop-less Inv-loop2 μ-loop2 Inv-loop μ-loop
 loop-less c = omega arith
 
 loop-again : tie.Need-loop-again Inv-loop2 μ-loop2 Inv-loop μ-loop
-loop-again c = let a = c .before .before .before .before .before .before .before .before .before .before .before .before .before .before .args in
+loop-again c = let a = c .before .before .before .before .before .before .before .before .before .before .before .before .before .before .before .args in
     let l = c .before .before .before .before .before .before .before .before .loop in
     let w = c .before .before .before .before .before .loop2 in (
       omega arith,
       l .inv .1,
       build-turn (summaryOf (a .t1) (a .me)) 64 noSummary (l .i) (l .out) (c .summary-with2 .result) (omega arith) (l .inv .2)
-          (summary-made (a .t1) (a .me) (l .i) (w .r) (c .before .before .before .before .before .before .before .before .before .before .before .before .ranks .result) (w .w) (c .before .before .is-pin .result) (c .summary-with2 .result) (c .before .before .before .before .before .before .before .before .before .before .before .before .before .before .pre .1) (c .before .before .before .before .before .before .before .before .before .before .before .before .ranks .ensures) (omega arith)
+          (summary-made (a .t1) (a .me) (l .i) (w .r) (c .before .before .before .before .before .before .before .before .before .before .before .before .ranks .result) (w .w) (c .before .before .is-pin .result) (c .summary-with2 .result) (c .before .before .before .before .before .before .before .before .before .before .before .before .before .before .before .pre .1) (c .before .before .before .before .before .before .before .before .before .before .before .before .ranks .ensures) (omega arith)
           (w .inv .1) (c .before .before .is-pin .ensures) (c .summary-with2 .ensures)),
     )
 
 returns : tie.Need-returns Inv-loop2 μ-loop2 Inv-loop μ-loop
 unfolding summariesOf
-returns c = let e : c .before .loop .i ≡ c .before .before .before .before .before .before .before .args .t1 .size = omega arith in
-    c .before .loop .inv .2 ∙ ap (λ (k : ℕ). eachBelow k (λ slot _. summaryOf (c .before .before .before .before .before .before .before .args .t1) (c .before .before .before .before .before .before .before .args .me) slot) (replicate 64 noSummary)) e
+returns c = let e : c .before .loop .i ≡ c .before .before .before .before .before .before .before .before .args .t1 .size = omega arith in
+    c .before .loop .inv .2 ∙ ap (λ (k : ℕ). eachBelow k (λ slot _. summaryOf (c .before .before .before .before .before .before .before .before .args .t1) (c .before .before .before .before .before .before .before .before .args .me) slot) (replicate 64 noSummary)) e
 
 pub summaries-spec : {M : Type 1} → statement M
 summaries-spec =

@@ -21,13 +21,13 @@ use Rattle.choice.specs.declared.Summary.{Summary}
 
 -- ---- the ranks of all rows
 abbrev pub noRank : Rank
-noRank = record { level = 0; deadline = 0; number = 0 }
+noRank = record { level = 0; deadline = 0; place = 0 }
 
-abbrev pub rankIn : List Row → ℕ → Rank
-rankIn rows row = rankOf row (getD rows row freeRow .deadline)
+abbrev pub rankIn : List Row → List ℕ → ℕ → Rank
+rankIn rows places row = rankOf row (getD rows row freeRow .deadline) (getD places row 0)
 
-unfoldable pub ranksOf : List Row → List Rank
-ranksOf rows = each (λ row _. rankIn rows row) (replicate 32 noRank)
+unfoldable pub ranksOf : List Row → List ℕ → List Rank
+ranksOf rows places = each (λ row _. rankIn rows places row) (replicate 32 noRank)
 
 -- ---- the holders of a slot among the rows below n
 -- the latest touch by those of a level
@@ -50,7 +50,7 @@ abbrev pub holdersAt : State → ℕ → ℕ → Found → Holders
 holdersAt s slot n Nowhere = noHolders
 holdersAt s slot n (At best) = record {
   best = best;
-  rank = rankIn (s .rows) best;
+  rank = rankIn (s .rows) (s .places) best;
   latest = latestBelow s (levelOf best) slot n;
   held = true;
   pinned = pinnedBelow s (levelOf best) slot n;
@@ -101,7 +101,7 @@ summaryWith x w own requester = record {
 }
 
 unfoldable pub summaryOf : State → ℕ → ℕ → Summary
-summaryOf s me slot = summaryWith (slotAt s slot) (holdersBelow s slot 32) (pins s slot me) (rankIn (s .rows) me)
+summaryOf s me slot = summaryWith (slotAt s slot) (holdersBelow s slot 32) (pins s slot me) (rankIn (s .rows) (s .places) me)
 
 abbrev pub noSummary : Summary
 noSummary = record { holders = noHolders; lowest = 0; page = 0; touch = 0; filled = false; dirty = false; above = false; beside = false; own = false }

@@ -1,17 +1,15 @@
-use mathlib.Core.Path.{_≡_, _∙_}
-use mathlib.Core.Bool.{Bool}
+use mathlib.Core.Path.{_≡_, sym, _∙_}
 use mathlib.Core.List.{List}
-use Prim.Native.Nat.{_≤_, _-_}
+use Prim.Native.Nat.{ℕ, _≤_, _-_}
 use native.Mathlib.Omega.{arith}
 use borrow.Author.Needs.{needs}
 use Rattle.seq.specs.Each.{each, eachBelow}
 use Rattle.seq.proofs.EachLaws.{each-below-none, each-below-turn, each-below-all}
 use Rattle.model.specs.declared.Holding.{Holding}
-use Rattle.model.specs.declared.Borders.{Borders}
 use Rattle.model.specs.declared.Change.{Change}
 use Rattle.model.specs.declared.State.{State}
 use Rattle.model.specs.State.{emptyHolding}
-use Rattle.model.specs.Inner.Changed.{holdingAfter, bordersAfter, begunAfter, changed}
+use Rattle.model.specs.Inner.Changed.{holdingAfter, changed, LeavesSetting}
 use Rattle.model.proofs.Ranges.{state-ok}
 use Rattle.model.proofs.changed_state.Statement.{statement}
 use Rattle.model.proofs.changed_state.Tie as tie
@@ -65,28 +63,20 @@ loop-again c =
       each-below-turn (holdingAfter (a .c)) (a .s .holdings) (w .k) emptyHolding (w .holdings) (c .changed-holding .result) (rw (z .holdings) (omega arith)) (w .inv .1) (c .changed-holding .ensures),
     )
 
-changed-borders-requires : tie.Need-changed-borders-requires Inv-loop μ-loop
-changed-borders-requires c κs = search needs
-
-has-begun-requires : tie.Need-has-begun-requires Inv-loop μ-loop
-has-begun-requires c κs = search needs
-
-changed-is : (s : State) (c : Change) (holdings : List Holding) (borders : Borders) (begun : Bool) → holdings ≡ each (holdingAfter c) (s .holdings)
-    → borders ≡ bordersAfter (c .setting) (s .borders) → begun ≡ begunAfter (c .setting) (s .begun)
-    → record { size = s .size; delay = s .delay; clock = c .clock; rows = c .rows; slots = c .slots; holdings = holdings; borders = borders; begun = begun } ≡ changed s c
+changed-is : (s : State) (c : Change) (holdings : List Holding) → LeavesSetting s c → holdings ≡ each (holdingAfter c) (s .holdings)
+    → record { size = s .size; delay = s .delay; clock = c .clock; rows = c .rows; slots = c .slots; holdings = holdings; borders = s .borders; begun = s .begun; places = s .places } ≡ changed s c
 unfolding changed
-changed-is s c holdings borders begun e f g =
-    λ i. record { size = s .size; delay = s .delay; clock = c .clock; rows = c .rows; slots = c .slots; holdings = e i; borders = f i; begun = g i }
+changed-is s c holdings l e =
+    λ i. record { size = s .size; delay = s .delay; clock = c .clock; rows = c .rows; slots = c .slots; holdings = e i; borders = sym (l .0) i; begun = sym (l .1) i; places = sym (l .2) i }
 
 returns : tie.Need-returns Inv-loop μ-loop
 returns c =
-    let a = c .before .before .before .before .before .before .before .before .before .before .args in
-    let w = c .before .before .before .before .before .before .loop in
-    let z = state-ok (a .s) _ (c .before .before .before .before .before .before .before .before .before .before .good .0) .sized in
-    changed-is (a .s) (a .c) (w .holdings) (c .before .changed-borders .result) (c .has-begun .result)
+    let o = c .before .before .before .before .before .before .before .before .before in
+    let a = o .args in
+    let w = c .before .before .before .before .before .loop in
+    let z = state-ok (a .s) _ (o .good .0) .sized in
+    changed-is (a .s) (a .c) (w .holdings) (o .pre)
     (w .inv .1 ∙ each-below-all (holdingAfter (a .c)) (a .s .holdings) (w .k) emptyHolding (rw (z .holdings) (omega arith)))
-    (c .before .changed-borders .ensures)
-    (c .has-begun .ensures)
 
 pub changed-state-spec : {M : Type 1} → statement M
 changed-state-spec =
@@ -106,6 +96,4 @@ changed-state-spec =
     add-k
     loop-less
     loop-again
-    changed-borders-requires
-    has-begun-requires
     returns)

@@ -19,7 +19,7 @@ use Rattle.model.proofs.SeenLaws.{not-seen, none-seen, seen-lower, dormant-unhe
 use Rattle.rules.specs.Choice.{stepA, stepB, holderLevel, heldAbove, highestLevel, inC, inD, stepHeld, chosen}
 use Rattle.rules.proofs.Facts.SoundFacts.{Sound, empty-unheld}
 use Rattle.rules.proofs.Choosing.ChoiceSteps.{Finds, finds, or-finds, neither, step-a, no-step-a, step-b, no-step-b, step-held, c-or-d}
-use Rattle.rules.proofs.Choosing.ChoiceRank.{best-is, best-some, best-level, holder-level}
+use Rattle.rules.proofs.Choosing.ChoiceRank.{best-held, best-some, best-level, holder-level}
 
 module _ (s : State) (z : Sound s) (L me : ℕ) (low : levelOf me ≤ L) where
   OpenSlot : ℕ → Type 0
@@ -65,11 +65,11 @@ module _ (s : State) (z : Sound s) (L me : ℕ) (low : levelOf me ≤ L) where
     above-level =
         let r = any-hit (holds s x) 32 h in
         let k = best-some s x (r .0) (r .1) (r .2) in
-        let w = best-is s x (k .0) (k .1) in
+        let w = best-held s x (k .0) (k .1) in
         let v = holder-level s x (k .0) (k .1) in
         elim (decLt L (levelOf (k .0))) [
           | yes l ↦ omega arith
-          | no l ↦ true-false (sym (w .held) ∙ not-seen s L x (k .0) o (w .below) (omega arith))
+          | no l ↦ true-false (sym (w .1) ∙ not-seen s L x (k .0) o (w .0) (omega arith))
         ]
 
     high : L < highestLevel s me

@@ -15,10 +15,10 @@ use Rattle.seq.proofs.OrderLaws.{lex-strict, lex-trans, lex-total, ltb-strict, 
 use Rattle.seq.proofs.PairLaws.{Ordered}
 use Rattle.model.specs.declared.State.{State}
 use Rattle.model.specs.Words.{holds, outranks, bestHolder}
-use Rattle.model.proofs.PriorityLaws.{outranks-strict, outranks-trans, outranks-total}
+use Rattle.model.proofs.PriorityLaws.{outranks-strict, outranks-trans}
 use Rattle.rules.specs.Choice.{worse, touchOf, tieOf, beforeHeld}
-use Rattle.rules.proofs.Facts.SoundFacts.{Sound}
-use Rattle.rules.proofs.Choosing.ChoiceRank.{best-some}
+use Rattle.rules.proofs.Facts.SoundFacts.{Sound, held-taken, ranks-apart}
+use Rattle.rules.proofs.Choosing.ChoiceRank.{best-held, best-some}
 
 module _ (s : State) where
   worse-next : (a b : ℕ) (x : Bool) → a ≡ b → worse s (At a) (At b) x ≡ x
@@ -43,10 +43,10 @@ module _ (s : State) where
     ]
   ]
 
-  worse-total : (a b : ℕ) (x y : Bool) → worse s (At a) (At b) x ≡ false → worse s (At b) (At a) y ≡ false → (x ≡ false) × (y ≡ false)
-  worse-total a b x y p q = elim (ℕ-discrete a b) [
+  worse-total : (a b : ℕ) (x y : Bool) → (outranks s a b ≡ false → outranks s b a ≡ false → a ≡ b) → worse s (At a) (At b) x ≡ false → worse s (At b) (At a) y ≡ false → (x ≡ false) × (y ≡ false)
+  worse-total a b x y apart p q = elim (ℕ-discrete a b) [
     | yes m ↦ (sym (worse-next a b x m) ∙ p, sym (worse-next b a y (sym m)) ∙ q)
-    | no m ↦ absurd (m (outranks-total s a b (sym (worse-rank b a y (λ e. m (sym e))) ∙ q) (sym (worse-rank a b x m) ∙ p)))
+    | no m ↦ absurd (m (apart (sym (worse-rank b a y (λ e. m (sym e))) ∙ q) (sym (worse-rank a b x m) ∙ p)))
   ]
 
   -- touch, then page
@@ -85,11 +85,13 @@ module _ (s : State) where
       ∙ worse-trans (a .0) (b .0) (c .0) (nextBefore i k) (nextBefore k l) (nextBefore i l) (next-trans i k l)
       (sym (before-held i k (a .0) (b .0) (a .1) (b .1)) ∙ p) (sym (before-held k l (b .0) (c .0) (b .1) (c .1)) ∙ q)
 
-  held-total : (i k : ℕ) → anyBelow 32 (holds s i) ≡ true → anyBelow 32 (holds s k) ≡ true → beforeHeld s i k ≡ false → beforeHeld s k i ≡ false → tieOf s i ≡ tieOf s k
-  held-total i k h g p q =
+  held-total : Sound s → (i k : ℕ) → i < 64 → k < 64 → anyBelow 32 (holds s i) ≡ true → anyBelow 32 (holds s k) ≡ true → beforeHeld s i k ≡ false → beforeHeld s k i ≡ false → tieOf s i ≡ tieOf s k
+  held-total z i k n m h g p q =
       let a = best-of i h in
       let b = best-of k g in
-      let x = worse-total (a .0) (b .0) (nextBefore i k) (nextBefore k i) (sym (before-held i k (a .0) (b .0) (a .1) (b .1)) ∙ p) (sym (before-held k i (b .0) (a .0) (b .1) (a .1)) ∙ q) in
+      let x = worse-total (a .0) (b .0) (nextBefore i k) (nextBefore k i)
+      (let u = best-held s i (a .0) (a .1) in let v = best-held s k (b .0) (b .1) in ranks-apart s z (a .0) (b .0) (u .0) (v .0) (held-taken s z i (a .0) n (u .0) (u .1)))
+      (sym (before-held i k (a .0) (b .0) (a .1) (b .1)) ∙ p) (sym (before-held k i (b .0) (a .0) (b .1) (a .1)) ∙ q) in
       next-total i k (x .0) (x .1)
 
 -- for a test that only held slots pass
@@ -102,6 +104,6 @@ held-order s z p f = record {
       let y = any-hit (holds s k) 32 (f k g) in
       let n : i < 64 = omega (arith, z .size-most) in
       let m : k < 64 = omega (arith, z .size-most) in
-      let tie = held-total s i k (f i e) (f k g) w q in
+      let tie = held-total s z i k n m (f i e) (f k g) w q in
       ne (sym (z .one-slot i k n m (z .held i (x .0) n (x .1) (x .2) .filled) (z .held k (y .0) m (y .1) (y .2) .filled) (cc tie))));
 }

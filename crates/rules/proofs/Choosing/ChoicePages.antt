@@ -19,6 +19,7 @@ use Rattle.model.specs.Words.{isHeld, isPin, holds, pins, seenHolder, seen, out
 use Rattle.model.proofs.PriorityLaws.{outranks-level}
 use Rattle.model.proofs.SeenLaws.{seen-by, seen-held}
 use Rattle.rules.specs.Choice.{holderLevel, heldAbove, pinnedAt, heldAtOwnLevel, seenPin, worse, touchOf, tieOf, beforeHeld}
+use Rattle.rules.proofs.Facts.SoundFacts.{Sound}
 use Rattle.rules.proofs.Same.Alike.{Alike}
 use Rattle.rules.proofs.Same.SamePages.{same-rank, same-holder, same-seen}
 use Rattle.rules.proofs.Same.SameSlots.{SamePage}
@@ -61,12 +62,12 @@ module _ (L : ℕ) (s t : State) (a : Alike L s t) where
         ap (λ (x : Bool). x && allBelow 32 p) (same-seen L s t a i j (w .holding) (levelOf me) l) ∙ ap (λ (x : Bool). seen t (levelOf me) j && x) e
 
     -- the best holder is of a level up to L
-    module _ (v : seen s L i ≡ true) where
+    module _ (z : Sound s) (v : seen s L i ≡ true) where
       pub page-best : (b : ℕ) × (bestHolder s i ≡ At b) × (bestHolder t j ≡ At b) × (b < 32) × (levelOf b ≤ L)
       page-best =
           let x = seen-by s L i v in
           let k = best-some s i (x .0) (x .1) (x .3) in
-          let m = best-is s i (k .0) (k .1) in
+          let m = best-is s i z (omega (arith, w .left, z .size-most)) (k .0) (k .1) in
           let l : levelOf (k .0) ≤ L = omega (arith, best-level s i (k .0) (x .0) (k .1) (x .1) (x .3), x .2) in
           (k .0, k .1, is-best t j (k .0) (same (k .0) m l), m .below, l)
         where
@@ -104,11 +105,11 @@ module _ (L : ℕ) (s t : State) (a : Alike L s t) where
     page-tie = w .page
 
   -- the order of two slots
-  pub page-before : (i j k l : ℕ) → SamePage L s t i j → SamePage L s t k l → seen s L i ≡ true → seen s L k ≡ true → beforeHeld s i k ≡ beforeHeld t j l
-  page-before i j k l w x v u =
-      let b = page-best i j w v in
-      let c = page-best k l x u in
-      let n : nextBefore s i k ≡ nextBefore t j l = cc (page-touch-of i j w v, page-touch-of k l x u, page-tie i j w, page-tie k l x) in
+  pub page-before : Sound s → (i j k l : ℕ) → SamePage L s t i j → SamePage L s t k l → seen s L i ≡ true → seen s L k ≡ true → beforeHeld s i k ≡ beforeHeld t j l
+  page-before z i j k l w x v u =
+      let b = page-best i j w z v in
+      let c = page-best k l x z u in
+      let n : nextBefore s i k ≡ nextBefore t j l = cc (page-touch-of i j w z v, page-touch-of k l x z u, page-tie i j w, page-tie k l x) in
       before-held s i k (b .0) (c .0) (b .1) (c .1)
       ∙ ap (λ (y : Bool). worse s (At (b .0)) (At (c .0)) y) n
       ∙ ap (λ (y : Bool). cond (eqb (b .0) (c .0)) (nextBefore t j l) y) (same-rank L s t a (c .0) (b .0) (c .3) (b .3) (c .4) (b .4))

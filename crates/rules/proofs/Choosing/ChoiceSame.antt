@@ -77,10 +77,10 @@ module _ (L : ℕ) (s t : State) (z : Sound s) (y : Sound t) (a : Alike L s t) (
   }
 
   above-same : (i j : ℕ) → SamePage L s t i j → heldAbove s me i ≡ heldAbove t me j
-  above-same i j w = page-above L s t a i j w (all i (w .left)) me low
+  above-same i j w = page-above L s t a i j w z (all i (w .left)) me low
 
   holder-same : (i j : ℕ) → SamePage L s t i j → holderLevel s i ≡ holderLevel t j
-  holder-same i j w = page-level L s t a i j w (all i (w .left)) .0
+  holder-same i j w = page-level L s t a i j w z (all i (w .left)) .0
 
   level-same : highestLevel s me ≡ highestLevel t me
   unfolding highestLevel
@@ -88,7 +88,7 @@ module _ (L : ℕ) (s t : State) (z : Sound s) (y : Sound t) (a : Alike L s t) (
 
   level-most : highestLevel s me ≤ L
   unfolding highestLevel
-  level-most = most-least (s .size) (heldAbove s me) (holderLevel s) L (λ i b e. page-level L s t a i (both .there i b .0) (both .there i b .2) (all i b) .1)
+  level-most = most-least (s .size) (heldAbove s me) (holderLevel s) L (λ i b e. page-level L s t a i (both .there i b .0) (both .there i b .2) z (all i b) .1)
 
   pinned-same : (i j : ℕ) → SamePage L s t i j → pinnedAt s (highestLevel s me) i ≡ pinnedAt t (highestLevel t me) j
   pinned-same i j w = page-pinned L s t a i j w (highestLevel s me) level-most ∙ ap (λ (m : ℕ). pinnedAt t m j) level-same
@@ -114,7 +114,7 @@ module _ (L : ℕ) (s t : State) (z : Sound s) (y : Sound t) (a : Alike L s t) (
   unfolding stepHeld
   held-paired p q f g h =
       pick-paired (s .size) (t .size) (SamePage L s t) both p q (beforeHeld s) (beforeHeld t) f
-      (λ i j k l w x _ _. page-before L s t a i j k l w x (all i (w .left)) (all k (x .left)))
+      (λ i j k l w x _ _. page-before L s t a z i j k l w x (all i (w .left)) (all k (x .left)))
       (held-order s z p g) (held-order t y q h)
 
   pub chosen-paired : Paired (SamePage L s t) (chosen s me) (chosen t me)

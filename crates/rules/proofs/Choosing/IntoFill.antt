@@ -14,12 +14,12 @@ use Rattle.model.specs.Parties.{levelOf}
 use Rattle.model.specs.State.{emptyHolding, rowAt, slotAt}
 use Rattle.model.specs.Words.{hasPage, isHeld, pins, slotOf}
 use Rattle.model.specs.Changes.{killed, killedRow}
-use Rattle.model.proofs.ChangeLaws.{killed-row, killed-size, killed-delay, killed-clock}
+use Rattle.model.proofs.ChangeLaws.{killed-row, killed-size, killed-delay, killed-clock, killed-places}
 use Rattle.rules.specs.Calls.{pinnersKilled, writeBack, filled, intoSlot}
 use Rattle.rules.proofs.Facts.SoundFacts.{Sound}
 use Rattle.rules.proofs.Same.Alike.{holdingOn}
 use Rattle.rules.proofs.Leaves.PageLaws.{killed-slot-of, killed-page, killed-on}
-use Rattle.rules.proofs.Leaves.FillLaws.{sized-filled, filled-size, filled-delay, filled-clock, filled-row, filled-empty, filled-new, filled-on, Freed, freed}
+use Rattle.rules.proofs.Leaves.FillLaws.{sized-filled, filled-size, filled-delay, filled-clock, filled-places, filled-row, filled-empty, filled-new, filled-on, Freed, freed}
 use Rattle.rules.proofs.Choosing.IntoGain.{Gains, gains-as}
 use Rattle.rules.proofs.Choosing.IntoGrant.{granted-gains}
 
@@ -46,6 +46,7 @@ into-gains L s z me slot page r low there absent mode =
     (filled-size k (f .sized) (f .most) slot page (levelOf me) (f .there) ∙ killed-size (pins s slot) Taken s)
     (filled-delay k (f .sized) (f .most) slot page (levelOf me) (f .there) ∙ killed-delay (pins s slot) Taken s)
     (filled-clock k (f .sized) (f .most) slot page (levelOf me) (f .there) ∙ killed-clock (pins s slot) Taken s)
+    (filled-places k (f .sized) (f .most) slot page (levelOf me) (f .there) ∙ killed-places (pins s slot) Taken s)
     (sized-filled k (f .sized) (f .most) slot page (levelOf me) (f .there)) me slot page r b
     (filled-new k (f .sized) (f .most) slot page (levelOf me) (f .there) (f .one) nowhere)
     (ap (λ (x : Holding). isHeld (x .pin)) (filled-empty k (f .sized) (f .most) slot page (levelOf me) (f .there) me r))

@@ -1,6 +1,8 @@
 -- What a clearance sees of a fetch: the requester's row and its new holding, beside what the rows and holdings were left as.
 use mathlib.Core.Path.{_≡_, sym, _∙_, ap}
 use mathlib.Core.Bool.{cond, _&&_}
+use mathlib.Core.List.{List}
+use lib.ListN.{getD}
 use Prim.Native.Nat.{ℕ, _+_, _<_, _≤_}
 use lib.Dec.{eqb}
 use Rattle.model.specs.declared.Mode.{Mode}
@@ -34,6 +36,7 @@ pub record Gains (L : ℕ) (s : State) (me page : ℕ) (mode : Mode) (rows : ℕ
   pub delay : o .state .delay ≡ s .delay
   pub clock : o .state .clock ≡ s .clock
   pub row : (r : ℕ) → r < 32 → levelOf r ≤ L → rowAt (o .state) r ≡ cond (eqb r me) (fetchingRow (dueTick s) (rows me)) (rows r)
+  pub places : o .state .places ≡ s .places
   pub holding : (other r : ℕ) → r < 32 → levelOf r ≤ L → holdingOn (o .state) other r ≡ cond (eqb other page && eqb r me) (newHolding s mode) (held other r)
 
 -- two such fetches are told alike and leave alike states
@@ -56,6 +59,7 @@ gains-same L s t me page mode rows rows′ held held′ o o′ b low a f g x y =
             ∙ ap (λ (w : Row). cond (eqb r me) (fetchingRow (dueTick t) w) (rows r)) (f me b low)
             ∙ ap (λ (w : Row). cond (eqb r me) (fetchingRow (dueTick t) (rows′ me)) w) (f r h l)
             ∙ sym (y .row r h l);
+        place = λ r h l. ap (λ (p : List ℕ). getD p r 0) (x .places) ∙ a .place r h l ∙ ap (λ (p : List ℕ). getD p r 0) (sym (y .places));
         holding = λ other r h l.
             x .holding other r h l
             ∙ ap (λ (w : Holding). cond (eqb other page && eqb r me) w (held other r)) new
@@ -74,6 +78,7 @@ gains-as L s me page mode rows rows′ held held′ o b low f g x = record {
   size = x .size;
   delay = x .delay;
   clock = x .clock;
+  places = x .places;
   row = λ r h l.
       x .row r h l
       ∙ ap (λ (w : Row). cond (eqb r me) (fetchingRow (dueTick s) w) (rows r)) (f me b low)

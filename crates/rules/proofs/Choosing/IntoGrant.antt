@@ -19,7 +19,7 @@ use Rattle.model.specs.State.{emptyHolding, rowAt, holdingAt}
 use Rattle.model.specs.Words.{isHeld, pinOf, holds, seen, slotOf}
 use Rattle.model.specs.Changes.{killed, killedRow}
 use Rattle.model.proofs.StateLaws.{Sized}
-use Rattle.model.proofs.ChangeLaws.{killed-row, killed-holding, sized-killed, killed-clock, killed-delay, killed-size}
+use Rattle.model.proofs.ChangeLaws.{killed-row, killed-holding, sized-killed, killed-clock, killed-delay, killed-size, killed-places}
 use Rattle.model.proofs.SeenLaws.{not-seen}
 use Rattle.rules.specs.Answers.{told, word, value}
 use Rattle.rules.specs.Calls.{heldWith, granted, conflicts, step3}
@@ -38,17 +38,22 @@ granted-told : (s : State) (me slot : ℕ) (mode : Mode) (due : ℕ) (back : Bac
 unfolding granted
 granted-told s me slot mode due back e = rw e (fetch-told due slot back)
 
+granted-places : (s : State) (me slot : ℕ) (mode : Mode) (due : ℕ) (back : Back) → granted s me slot mode due back .state .places ≡ s .places
+unfolding granted
+granted-places s me slot mode due back = refl
+
 -- u is what the kills and the clearing left of s
-pub granted-gains : (L : ℕ) (s u : State) → u .size ≡ s .size → u .delay ≡ s .delay → u .clock ≡ s .clock → Sized u → (me slot page : ℕ) → me < 32 → slot < 64
+pub granted-gains : (L : ℕ) (s u : State) → u .size ≡ s .size → u .delay ≡ s .delay → u .clock ≡ s .clock → u .places ≡ s .places → Sized u → (me slot page : ℕ) → me < 32 → slot < 64
     → slotOf u page ≡ At slot → holds u slot me ≡ false → 1 ≤ s .delay → (mode : Mode) (back : Back)
     → Gains L s me page mode (rowAt u) (holdingOn u) (granted u me slot mode (dueTick s) back)
-granted-gains L s u size delay clock z me slot page r b found none least mode back =
+granted-gains L s u size delay clock places z me slot page r b found none least mode back =
     let late : leb (dueTick s) (u .clock) ≡ false = lt-leb (dueTick s) (u .clock) (omega arith) in
     record {
       answer = granted-told u me slot mode (dueTick s) back late;
       size = granted-size u z me slot r b mode (dueTick s) back ∙ size;
       delay = granted-delay u z me slot r b mode (dueTick s) back ∙ delay;
       clock = granted-clock u z me slot r b mode (dueTick s) back ∙ clock;
+      places = granted-places u me slot mode (dueTick s) back ∙ places;
       row = λ q h l.
           granted-row u z me slot r b mode (dueTick s) back q
           ∙ ap (λ (x : Bool). cond (eqb q me) (record { condition = cond x Idle (Fetching (dueTick s)); deadline = rowAt u me .deadline }) (rowAt u q)) late;
@@ -75,7 +80,7 @@ module _ (L : ℕ) (s : State) (z : Sound s) (me slot page : ℕ) (r : me < 32) 
       gains-as L s me page mode (rowAt u) (rowAt s) (holdingOn u) (holdingOn s) (step3 s me slot mode) r low
       (λ q h l. killed-row (conflicts s me slot mode) s (z .sized) Taken q h ∙ ap (λ (x : Bool). cond x (killedRow Taken) (rowAt s q)) (spared q h l))
       (λ other q h l. killed-on (conflicts s me slot mode) s (z .sized) (z .size-most) Taken other q h ∙ ap (λ (x : Bool). cond x emptyHolding (holdingOn s other q)) (spared q h l))
-      (granted-gains L s u (killed-size (conflicts s me slot mode) Taken s) (killed-delay (conflicts s me slot mode) Taken s) (killed-clock (conflicts s me slot mode) Taken s)
+      (granted-gains L s u (killed-size (conflicts s me slot mode) Taken s) (killed-delay (conflicts s me slot mode) Taken s) (killed-clock (conflicts s me slot mode) Taken s) (killed-places (conflicts s me slot mode) Taken s)
       (sized-killed (conflicts s me slot mode) s (z .sized) Taken) me slot page r (omega (arith, z .size-most))
       (killed-slot-of (conflicts s me slot mode) s (z .sized) (z .size-most) Taken page ∙ found)
       (ap (λ (x : Holding). isHeld (x .pin)) (killed-holding (conflicts s me slot mode) s (z .sized) Taken slot me r ∙ ap (λ (x : Bool). cond x emptyHolding (holdingAt s slot me)) (spared me r low))

@@ -3,8 +3,8 @@ use mathlib.Core.Path.{_≡_, refl, sym}
 use mathlib.Core.Bool.{Bool, true, false, _&&_, _||_, not}
 use Prim.Native.Nat.{ℕ, _+_, _<_, _≤_}
 use native.Mathlib.Omega.{arith}
-use borrow.Author.Tests.{lt-ltb, le-leb, eq-eqb}
-use lib.Dec.{leb, ltb}
+use borrow.Author.Tests.{lt-ltb, ltb-true, le-leb, eq-eqb, eqb-true}
+use lib.Dec.{leb, ltb, eqb}
 use lib.ListN.{length}
 use Rattle.seq.specs.Below.{allBelow, countBelow}
 use Rattle.seq.proofs.Tests.{false-not, and-true, both-true, not-true-false, or-true-right}
@@ -14,12 +14,13 @@ use Rattle.model.specs.declared.Condition.the-variants.{Free, Idle, Fetching, W
 use Rattle.model.specs.declared.Content.{Content}
 use Rattle.model.specs.declared.Content.the-variants.{Empty, Filled}
 use Rattle.model.specs.declared.State.{State}
-use Rattle.model.specs.Parties.{levelOf, lastClock}
-use Rattle.model.specs.State.{rowAt, slotAt, holdingAt}
+use Rattle.model.specs.Parties.{rowOf, levelOf, lastClock}
+use Rattle.model.specs.State.{rowAt, slotAt, holdingAt, placeAt}
 use Rattle.model.specs.Words.{isFree, isFilled, pageIn, arrivalIn, lowestIn, hasPage, holds, conflict}
+use Rattle.model.specs.Changes.{rowsNotFree}
 use Rattle.model.proofs.ContentLaws.{page-has}
-use Rattle.rules.specs.Sound.{soundNumbers, arrived, awaits, soundContent, soundSlot, samePage, soundPages, inTime, soundCondition, soundRow, soundHolding, soundPins, soundBorders, sound}
-use Rattle.rules.proofs.Facts.SoundFacts.{SlotSound, Settled, RowSound, BordersSound, Sound}
+use Rattle.rules.specs.Sound.{soundNumbers, arrived, awaits, soundContent, soundSlot, samePage, soundPages, inTime, soundCondition, soundRow, soundHolding, soundPins, soundBorders, soundPlace, samePlace, soundOrder, sound}
+use Rattle.rules.proofs.Facts.SoundFacts.{SlotSound, Settled, RowSound, BordersSound, OrderSound, Sound}
 
 slot-back : (s : State) (i : ℕ) → SlotSound s i → soundSlot s i ≡ true
 unfolding soundSlot
@@ -108,14 +109,32 @@ borders-back s h = both-true (h .valid) (go (s .begun) refl)
         (each-all (λ row. isFree (rowAt s row .condition)) 32 (λ r g. rw (h .free e r g)))
         (each-all (λ slot. not (isFilled (slotAt s slot .content))) 64 (λ i g. rw (h .empty e i g))))
 
+order-back : (s : State) → OrderSound s → (l : ℕ) → l < 4 → soundOrder s l ≡ true
+unfolding soundOrder soundPlace samePlace
+order-back s h l b =
+    both-true
+    (each-all (soundPlace s l) 8 (λ n g. place n g (isFree (rowAt s (rowOf l n) .condition)) refl))
+    (each-pairs (λ number other. not (samePlace s l number other)) 8 (λ n m g d. false-not (samePlace s l n m) (not-true-false (samePlace s l n m) (λ e.
+    let f = and-true (ltb 0 (placeAt s (rowOf l n))) (eqb (placeAt s (rowOf l n)) (placeAt s (rowOf l m))) e in
+    omega (arith, h .once (rowOf l n) (rowOf l m) (omega arith) (omega arith) (omega arith) (ltb-true 0 (placeAt s (rowOf l n)) (f .0)) (eqb-true (placeAt s (rowOf l n)) (placeAt s (rowOf l m)) (f .1)))))))
+  where
+    place : (n : ℕ) → n < 8 → (t : Bool) → isFree (rowAt s (rowOf l n) .condition) ≡ t → soundPlace s l n ≡ true
+    place n g true e = rw e (eq-eqb (placeAt s (rowOf l n)) 0 (h .none (rowOf l n) (omega arith) e))
+    place n g false e =
+        let k : levelOf (rowOf l n) ≡ l = omega arith in
+        rw e (both-true
+        (le-leb 1 (placeAt s (rowOf l n)) (h .least (rowOf l n) (omega arith) e))
+        (le-leb (placeAt s (rowOf l n)) (rowsNotFree (s .rows) l) (rw k at (h .most (rowOf l n) (omega arith) e))))
+
 pub back : (s : State) → Sound s → BordersSound s → sound s ≡ true
 unfolding sound soundNumbers soundRow
 back s h b =
-    both-true (both-true (both-true (both-true (both-true (both-true
-    (both-true (both-true (both-true (both-true (both-true (both-true (both-true
+    both-true (both-true (both-true (both-true (both-true (both-true (both-true
+    (both-true (both-true (both-true (both-true (both-true (both-true (both-true (both-true
     (eq-eqb (length (s .rows)) 32 (h .sized .rows))
     (eq-eqb (length (s .slots)) 64 (h .sized .slots)))
     (eq-eqb (length (s .holdings)) 2048 (h .sized .holdings)))
+    (eq-eqb (length (s .places)) 32 (h .sized .places)))
     (le-leb 1 (s .size) (h .size-least)))
     (le-leb (s .size) 64 (h .size-most)))
     (le-leb 1 (s .delay) (h .delay-least)))
@@ -126,4 +145,5 @@ back s h b =
     (each-all (soundRow s) 32 (λ r b. row-back s r (rowAt s r .condition) (rowAt s r .deadline) (h .row r b))))
     (each-all (λ slot. allBelow 32 (soundHolding s slot)) 64 (λ i a. each-all (soundHolding s i) 32 (λ r b. holding-back s i r a b h))))
     (each-all (soundPins s) 64 (λ i a. pins-back s i a h)))
-    (borders-back s b)
+    (borders-back s b))
+    (each-all (soundOrder s) 4 (λ l g. order-back s (h .order) l g))

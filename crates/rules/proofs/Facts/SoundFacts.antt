@@ -1,11 +1,11 @@
 -- What sound says of a state, as facts.
-use mathlib.Core.Path.{_≡_, refl, sym, _∙_}
+use mathlib.Core.Path.{_≡_, refl, sym, _∙_, ap}
 use mathlib.Core.Bool.{Bool, true, false, _&&_, _||_, not}
 use Prim.Native.Nat.{ℕ, _+_, _<_, _≤_}
 use native.Mathlib.Omega.{arith}
 use native.Mathlib.Decide.{ℕ-discrete}
-use borrow.Author.Tests.{ltb-true, leb-true, eqb-true, not-true}
-use lib.Dec.{ltb, eqb}
+use borrow.Author.Tests.{lt-ltb, ltb-true, leb-true, eq-eqb, eqb-true, not-true}
+use lib.Dec.{leb, ltb, eqb}
 use lib.ListN.{length}
 use Rattle.seq.specs.Below.{allBelow, countBelow}
 use Rattle.seq.proofs.Tests.{true-false, parts, and-true, both-true, not-true-false}
@@ -18,13 +18,15 @@ use Rattle.model.specs.declared.Pin.{Pin}
 use Rattle.model.specs.declared.Pin.the-variants.{Absent, Unpinned, Read, Write}
 use Rattle.model.specs.declared.Holding.{Holding}
 use Rattle.model.specs.declared.State.{State}
-use Rattle.model.specs.Parties.{levelOf, classOf, areBorders, mayAccess, lastClock}
-use Rattle.model.specs.State.{emptyHolding, rowAt, slotAt, holdingAt}
-use Rattle.model.specs.Words.{isFree, isLive, isFilled, pageIn, arrivalIn, lowestIn, hasPage, isHeld, holds, conflict}
+use Rattle.model.specs.Parties.{rowOf, levelOf, numberOf, classOf, areBorders, mayAccess, lastClock}
+use Rattle.model.specs.State.{emptyHolding, rowAt, slotAt, holdingAt, placeAt}
+use Rattle.model.specs.Words.{isFree, isLive, isFilled, pageIn, arrivalIn, lowestIn, hasPage, isHeld, holds, conflict, outranks}
+use Rattle.model.specs.Changes.{rowsNotFree}
 use Rattle.model.proofs.StateLaws.{Sized}
+use Rattle.model.proofs.PriorityLaws.{outranks-total}
 use Rattle.model.proofs.ContentLaws.{has-page}
 use Rattle.model.proofs.PinLaws.{conflict-comm}
-use Rattle.rules.specs.Sound.{soundNumbers, pinAllowed, arrived, awaits, soundContent, soundSlot, samePage, soundPages, inTime, soundCondition, soundRow, soundHolding, soundPins, soundBorders, sound}
+use Rattle.rules.specs.Sound.{soundNumbers, pinAllowed, arrived, awaits, soundContent, soundSlot, samePage, soundPages, inTime, soundCondition, soundRow, soundHolding, soundPins, soundBorders, soundPlace, samePlace, soundOrder, sound}
 
 -- a slot
 pub record SlotSound (s : State) (slot : ℕ) : Type 0 where
@@ -73,8 +75,15 @@ pub record BordersSound (s : State) : Type 0 where
   pub free : s .begun ≡ false → (r : ℕ) → r < 32 → rowAt s r .condition ≡ Free
   pub empty : s .begun ≡ false → (i : ℕ) → i < 64 → isFilled (slotAt s i .content) ≡ false
 
--- what it says of a state but for these, with a given part for the rows
-pub record Facts (Rows : Type 0) (s : State) : Type 0 where
+-- what it says of the begin orders
+pub record OrderSound (s : State) : Type 0 where
+  pub none : (r : ℕ) → r < 32 → isFree (rowAt s r .condition) ≡ true → placeAt s r ≡ 0
+  pub least : (r : ℕ) → r < 32 → isFree (rowAt s r .condition) ≡ false → 1 ≤ placeAt s r
+  pub most : (r : ℕ) → r < 32 → isFree (rowAt s r .condition) ≡ false → placeAt s r ≤ rowsNotFree (s .rows) (levelOf r)
+  pub once : (r q : ℕ) → r < 32 → q < 32 → levelOf r ≡ levelOf q → 1 ≤ placeAt s r → placeAt s r ≡ placeAt s q → r ≡ q
+
+-- what it says of a state but for the borders, with given parts for the rows and the begin orders
+pub record Facts (Rows Order : Type 0) (s : State) : Type 0 where
   pub sized : Sized s
   pub size-least : 1 ≤ s .size
   pub size-most : s .size ≤ 64
@@ -85,12 +94,13 @@ pub record Facts (Rows : Type 0) (s : State) : Type 0 where
   pub one-slot : (i j : ℕ) → i < 64 → j < 64 → isFilled (slotAt s i .content) ≡ true → isFilled (slotAt s j .content) ≡ true
       → pageIn (slotAt s i .content) ≡ pageIn (slotAt s j .content) → i ≡ j
   pub row : Rows
+  pub order : Order
   pub held : (i r : ℕ) → i < 64 → r < 32 → holds s i r ≡ true → Held s i r
   pub unheld : (i r : ℕ) → i < 64 → r < 32 → holds s i r ≡ false → holdingAt s i r ≡ emptyHolding
   pub no-conflict : (i r q : ℕ) → i < 64 → r < 32 → q < 32 → (r ≡ q → ⊥) → conflict (holdingAt s i r .pin) (holdingAt s i q .pin) ≡ false
 
 abbrev pub Sound : State → Type 0
-Sound s = Facts (RowsSound s) s
+Sound s = Facts (RowsSound s) (OrderSound s) s
 
 -- ---- from the test to the facts
 
@@ -207,6 +217,47 @@ pins-facts s i e r q a b m =
     (λ x y c d. not-true (conflict (holdingAt s i x .pin) (holdingAt s i y .pin)) (pairs-each (λ row other. not (conflict (holdingAt s i row .pin) (holdingAt s i other .pin))) 32 x y e c d))
     r q a b m
 
+-- a row by its level and number
+by-number : (P : ℕ → Type 0) (r : ℕ) → P (rowOf (levelOf r) (numberOf r)) → P r
+by-number P r x = let e : rowOf (levelOf r) (numberOf r) ≡ r = omega arith in rw e at x
+
+order-facts : (s : State) → ((l : ℕ) → l < 4 → soundOrder s l ≡ true) → OrderSound s
+unfolding soundOrder soundPlace samePlace
+order-facts s e = record {
+  none = λ r b f. by-number (λ q. placeAt s q ≡ 0) r (eqb-true (placeAt s (rowIn r)) 0 (rw (free-at r true f) at (place r b)));
+  least = λ r b f. by-number (λ q. 1 ≤ placeAt s q) r (leb-true 1 (placeAt s (rowIn r)) (within r b f .0));
+  most = λ r b f. by-number (λ q. placeAt s q ≤ rowsNotFree (s .rows) (levelOf r)) r (leb-true (placeAt s (rowIn r)) (rowsNotFree (s .rows) (levelOf r)) (within r b f .1));
+  once = once;
+}
+  where
+    rowIn : ℕ → ℕ
+    rowIn r = rowOf (levelOf r) (numberOf r)
+
+    both : (l : ℕ) → l < 4 → (allBelow 8 (soundPlace s l) ≡ true) × (allBelow 8 (λ number. allBelow number (λ other. not (samePlace s l number other))) ≡ true)
+    both l b = and-true (allBelow 8 (soundPlace s l)) (allBelow 8 (λ number. allBelow number (λ other. not (samePlace s l number other)))) (e l b)
+
+    place : (r : ℕ) → r < 32 → soundPlace s (levelOf r) (numberOf r) ≡ true
+    place r b = all-each (soundPlace s (levelOf r)) 8 (numberOf r) (both (levelOf r) (omega arith) .0) (omega arith)
+
+    free-at : (r : ℕ) (t : Bool) → isFree (rowAt s r .condition) ≡ t → isFree (rowAt s (rowIn r) .condition) ≡ t
+    free-at r t f = let q : r ≡ rowIn r = omega arith in rw q at f
+
+    within : (r : ℕ) → r < 32 → isFree (rowAt s r .condition) ≡ false → (leb 1 (placeAt s (rowIn r)) ≡ true) × (leb (placeAt s (rowIn r)) (rowsNotFree (s .rows) (levelOf r)) ≡ true)
+    within r b f = and-true (leb 1 (placeAt s (rowIn r))) (leb (placeAt s (rowIn r)) (rowsNotFree (s .rows) (levelOf r))) (rw (free-at r false f) at (place r b))
+
+    once : (r q : ℕ) → r < 32 → q < 32 → levelOf r ≡ levelOf q → 1 ≤ placeAt s r → placeAt s r ≡ placeAt s q → r ≡ q
+    once r q b c l p m = elim (ℕ-discrete r q) [
+      | yes f ↦ f
+      | no f ↦
+          let x : placeAt s (rowOf (levelOf r) (numberOf r)) ≡ placeAt s r = ap (λ (k : ℕ). placeAt s k) (omega arith) in
+          let y : placeAt s (rowOf (levelOf r) (numberOf q)) ≡ placeAt s q = ap (λ (k : ℕ). placeAt s k) (omega arith) in
+          absurd (by-larger (λ x y. 1 ≤ placeAt s (rowOf (levelOf r) x) → placeAt s (rowOf (levelOf r) x) ≡ placeAt s (rowOf (levelOf r) y) → ⊥)
+          (λ x y h u v. h (rw (← v) u) (sym v)) 8
+          (λ x y g d u v. true-false (sym (both-true (lt-ltb 0 (placeAt s (rowOf (levelOf r) x)) u) (eq-eqb (placeAt s (rowOf (levelOf r) x)) (placeAt s (rowOf (levelOf r) y)) v))
+          ∙ not-true (samePlace s (levelOf r) x y) (pairs-each (λ number other. not (samePlace s (levelOf r) number other)) 8 x y (both (levelOf r) (omega arith) .1) g d)))
+          (numberOf r) (numberOf q) (omega arith) (omega arith) (λ w. f (omega arith)) (omega (arith, x, p)) (x ∙ m ∙ sym y))
+    ]
+
 pub facts : (s : State) → sound s ≡ true → Sound s
 unfolding sound soundNumbers soundRow
 facts s e = record {
@@ -214,6 +265,7 @@ facts s e = record {
     rows = eqb-true (length (s .rows)) 32 (search parts depth 20);
     slots = eqb-true (length (s .slots)) 64 (search parts depth 20);
     holdings = eqb-true (length (s .holdings)) 2048 (search parts depth 20);
+    places = eqb-true (length (s .places)) 32 (search parts depth 20);
   };
   size-least = leb-true 1 (s .size) (search parts depth 20);
   size-most = leb-true (s .size) 64 (search parts depth 20);
@@ -223,6 +275,7 @@ facts s e = record {
   slot = λ i b. slot-facts s i (all-each (soundSlot s) 64 i (search parts depth 20) b);
   one-slot = pages-facts s (search parts depth 20);
   row = λ q b. row-facts s q (rowAt s q .condition) (rowAt s q .deadline) (all-each (soundRow s) 32 q (search parts depth 20) b);
+  order = order-facts s (λ l b. all-each (soundOrder s) 4 l (search parts depth 20) b);
   held = λ i q a b. held-facts s i q (all-each (soundHolding s i) 32 q (all-each (λ slot. allBelow 32 (soundHolding s slot)) 64 i (search parts depth 20) a) b);
   unheld = λ i q a b. unheld-facts s i q (all-each (soundHolding s i) 32 q (all-each (λ slot. allBelow 32 (soundHolding s slot)) 64 i (search parts depth 20) a) b);
   no-conflict = λ i q o a. pins-facts s i (all-each (soundPins s) 64 i (search parts depth 20) a) q o;
@@ -247,6 +300,24 @@ borders-facts s e = record {
     before b =
         let k : s .begun || (allBelow 32 (λ row. isFree (rowAt s row .condition)) && allBelow 64 (λ slot. not (isFilled (slotAt s slot .content)))) ≡ true = search parts depth 20 in
         and-true (allBelow 32 (λ row. isFree (rowAt s row .condition))) (allBelow 64 (λ slot. not (isFilled (slotAt s slot .content)))) (rw b at k)
+
+-- a live row is not free
+pub live-taken : (x : Condition) → isLive x ≡ true → isFree x ≡ false
+live-taken Free e = true-false (sym e)
+live-taken Idle e = refl
+live-taken (Fetching due) e = refl
+live-taken (Waiting page mode) e = refl
+live-taken (Killed cause) e = refl
+
+-- a row that holds a slot is not free
+pub held-taken : (s : State) → Sound s → (i r : ℕ) → i < 64 → r < 32 → holds s i r ≡ true → isFree (rowAt s r .condition) ≡ false
+held-taken s z i r a b w = live-taken (rowAt s r .condition) (z .held i r a b w .live)
+
+-- of two rows of a sound state that are not free one outranks the other
+pub ranks-apart : (s : State) → Sound s → (r q : ℕ) → r < 32 → q < 32 → isFree (rowAt s r .condition) ≡ false → outranks s r q ≡ false → outranks s q r ≡ false → r ≡ q
+ranks-apart s z r q a b f g h =
+    let x = outranks-total s r q g h in
+    z .order .once r q a b (x .0) (z .order .least r a f) (x .1)
 
 -- an empty slot has no holder
 pub empty-unheld : (s : State) → Sound s → (i r : ℕ) → i < 64 → r < 32 → isFilled (slotAt s i .content) ≡ false → holds s i r ≡ false

@@ -31,9 +31,11 @@ other-row L me r a b = ne-eqb r me (λ e. let f : levelOf r ≡ levelOf me = ap 
 module _ (L : ℕ) (s : State) (z : Sized s) where
   module _ (most : s .size ≤ 64) (some : ℕ → Bool) (above : (r : ℕ) → r < 32 → levelOf r ≤ L → some r ≡ false) where
     pub killed-hidden : (cause : Cause) → Alike L s (killed some cause s)
+    unfolding killed released
     killed-hidden cause = alike-still L s (killed some cause s) (killed-size some cause s) (killed-delay some cause s) (killed-clock some cause s)
         (killed-slot-of some s z most cause)
         (λ r b l. killed-row some s z cause r b ∙ ap (λ (x : Bool). cond x (killedRow cause) (rowAt s r)) (above r b l))
+        (λ _ _ _. refl)
         (λ i r b l. killed-holding some s z cause i r b ∙ ap (λ (x : Bool). cond x emptyHolding (holdingAt s i r)) (above r b l))
 
     pub released-hidden : Alike L s (released some s)
@@ -41,6 +43,7 @@ module _ (L : ℕ) (s : State) (z : Sized s) where
     released-hidden = alike-still L s (released some s) refl refl refl
         (released-slot-of some s z most)
         (λ r b l. refl)
+        (λ _ _ _. refl)
         (λ i r b l. released-holding some s z i r b ∙ ap (λ (x : Bool). cond x emptyHolding (holdingAt s i r)) (above r b l))
 
   module _ (me : ℕ) (mine : me < 32) (higher : L < levelOf me) where
@@ -49,14 +52,17 @@ module _ (L : ℕ) (s : State) (z : Sized s) where
     row-hidden x = alike-still L s (putRow s me x) refl refl refl
         (λ page. refl)
         (λ r b l. row-put s z me x r mine ∙ ap (λ (e : Bool). cond e x (rowAt s r)) (other-row L me r higher l))
+        (λ _ _ _. refl)
         (λ i r b l. refl)
 
     module _ (slot : ℕ) (there : slot < 64) where
       pub granted-hidden : (mode : Mode) (arrival : ℕ) (back : Back) → Alike L s (granted s me slot mode arrival back .state)
+      unfolding granted
       granted-hidden mode arrival back = alike-still L s (granted s me slot mode arrival back .state)
           (granted-size s z me slot mine there mode arrival back) (granted-delay s z me slot mine there mode arrival back) (granted-clock s z me slot mine there mode arrival back)
           (granted-slot-of s z me slot mine there mode arrival back)
           (λ r b l. granted-row s z me slot mine there mode arrival back r ∙ ap (λ (e : Bool). cond e (grantedRow s me arrival) (rowAt s r)) (other-row L me r higher l))
+          (λ _ _ _. refl)
           (λ i r b l.
           granted-holding s z me slot mine there mode arrival back i r b
           ∙ ap (λ (e : Bool). cond e (grantedHolding s me slot mode arrival) (holdingAt s i r)) (and-false-right (eqb i slot) (eqb r me) (other-row L me r higher l)))
@@ -66,6 +72,7 @@ module _ (L : ℕ) (s : State) (z : Sized s) where
       unpinned-hidden = alike-still L s (unpinnedAt s me slot) refl refl refl
           (unpinned-slot-of s z me slot mine there)
           (λ r b l. refl)
+          (λ _ _ _. refl)
           (λ i r b l.
           unpinned-holding s z me slot mine there i r b
           ∙ ap (λ (e : Bool). cond e (unpinnedHolding (holdingAt s slot me)) (holdingAt s i r)) (and-false-right (eqb i slot) (eqb r me) (other-row L me r higher l)))

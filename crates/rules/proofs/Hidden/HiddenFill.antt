@@ -22,6 +22,7 @@ module _ (s : State) (z : Sized s) (most : s .size ≤ 64) (slot page level : �
     delay = refl;
     clock = refl;
     row = λ r b l. refl;
+    place = λ r b l. refl;
     holding = λ other r b l. sym (filled-on s z most slot page level there one nowhere other r b ∙ go other r (h r b l) (hasPage other (slotAt s slot .content)) refl);
   }
     where

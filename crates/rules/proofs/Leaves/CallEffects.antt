@@ -2,7 +2,6 @@
 use mathlib.Core.Path.{_≡_, refl, sym, _∙_}
 use mathlib.Core.Bool.{true, false}
 use Prim.Native.Nat.{ℕ, suc, _+_, _<_, _≤_}
-use lib.Dec.{eqb}
 use Rattle.seq.specs.Below.{atFound}
 use Rattle.seq.specs.declared.Found.{Found}
 use Rattle.seq.specs.declared.Found.the-variants.{At, Nowhere}
@@ -18,17 +17,16 @@ use Rattle.model.specs.declared.Mode.{Mode}
 use Rattle.model.specs.declared.Outcome.{Outcome}
 use Rattle.model.specs.declared.State.{State}
 use Rattle.model.specs.Parties.{rowOf, levelOf, modeOf, mayAccess, lastClock}
-use Rattle.model.specs.State.{freeRow, fresh, rowAt, withBorders, withBegun, putRow}
+use Rattle.model.specs.State.{fresh, rowAt, withBorders}
 use Rattle.model.specs.Words.{pins, slotOf}
-use Rattle.model.specs.Changes.{released}
 use Rattle.rules.specs.Refusals.{conditionAt, pinsPage, startRefusal, beginRefusal, requestRefusal, unpinRefusal, endRefusal, tickRefusal, lookRefusal, viewRefusal, countRefusal, bordersRefusal, StartTaken}
-use Rattle.rules.specs.Calls.{unless, started, begun, unpinnedAt, unpinned, ended, threeSteps, served, requested, looked, lookedAt, viewedIn, viewed, counted, bordered}
+use Rattle.rules.specs.Calls.{unless, started, rowBegun, begun, unpinnedAt, unpinned, rowEnded, ended, threeSteps, served, requested, looked, lookedAt, viewedIn, viewed, counted, bordered}
 use Rattle.rules.specs.Content.{isReading}
 use Rattle.rules.specs.Requests.{Asks}
 use Rattle.rules.specs.Run.{outcome}
 use Rattle.rules.specs.Tries.{allTried, ticked}
 use Rattle.rules.proofs.Leaves.ContentLaws.{request-own}
-use Rattle.rules.proofs.Leaves.RefusalFacts.{unless-is, Named, BeginTaken, UnpinTaken, BordersTaken, start-taken, begin-taken, request-taken, unpin-taken, end-taken, tick-taken, look-taken, borders-taken}
+use Rattle.rules.proofs.Leaves.RefusalFacts.{unless-is, Named, BeginTaken, UnpinTaken, EndTaken, BordersTaken, start-taken, begin-taken, request-taken, unpin-taken, end-taken, tick-taken, look-taken, borders-taken}
 
 -- the calls that leave the state: refused ones, and look, view and count
 pub data Still (s : State) (c : Call) (a : Answer) : Type 0 where
@@ -45,11 +43,11 @@ pub data Effect (s : State) (c : Call) (o : Outcome) : Type 0 where
   unchanged : (a : Answer) → Still s c a → o ≡ record { state = s; answer = a } → Effect s c o
   starts : (slots delay : ℕ) → c ≡ Start slots delay → StartTaken slots delay → o ≡ record { state = fresh slots delay; answer = Started } → Effect s c o
   begins : (level number deadline : ℕ) → c ≡ Begin level number deadline → BeginTaken s level number deadline
-      → o ≡ record { state = putRow (withBegun s) (rowOf level number) (record { condition = Idle; deadline = deadline }); answer = Begun } → Effect s c o
+      → o ≡ record { state = rowBegun s (rowOf level number) deadline; answer = Begun } → Effect s c o
   unpins : (level number page slot : ℕ) → c ≡ Unpin level number page → UnpinTaken s level number page → slotOf s page ≡ At slot → pins s slot (rowOf level number) ≡ true
       → o ≡ record { state = unpinnedAt s (rowOf level number) slot; answer = Unpinned } → Effect s c o
-  ends : (level number : ℕ) → c ≡ End level number → Named level number
-      → o ≡ record { state = putRow (released (eqb (rowOf level number)) s) (rowOf level number) freeRow; answer = Ended } → Effect s c o
+  ends : (level number : ℕ) → c ≡ End level number → EndTaken s level number
+      → o ≡ record { state = rowEnded s (rowOf level number); answer = Ended } → Effect s c o
   ticks : (room : ℕ) → c ≡ Tick room → tickRefusal s room ≡ 0 → s .clock < lastClock → o ≡ record { state = allTried (threeSteps s) .state; answer = Clock (s .clock + 1) } → Effect s c o
   sets : (b : Borders) → c ≡ Call.Borders (b .first) (b .second) (b .third) → BordersTaken s b → o ≡ record { state = withBorders s b; answer = Bordered } → Effect s c o
   serves : (row page : ℕ) (mode : Mode) → row < 32 → Asks c row page mode → MayAsk s row page mode → o ≡ served s row page mode → Effect s c o

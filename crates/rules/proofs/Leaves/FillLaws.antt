@@ -44,6 +44,10 @@ module _ (s : State) (z : Sized s) (most : s .size ≤ 64) (slot page level : �
   unfolding filled cleared
   filled-clock = refl
 
+  pub filled-places : filled s slot page level .places ≡ s .places
+  unfolding filled cleared
+  filled-places = refl
+
   pub filled-row : (r : ℕ) → rowAt (filled s slot page level) r ≡ rowAt s r
   unfolding filled cleared
   filled-row r = refl

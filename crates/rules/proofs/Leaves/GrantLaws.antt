@@ -73,6 +73,7 @@ module _ (s : State) (z : Sized s) (row slot : ℕ) (r : row < 32) (b : slot < 6
     rows = sized-put-row s z row (grantedRow s row arrival) .rows;
     slots = sized-put-slot s z slot (grantedSlot s row slot) .slots;
     holdings = sized-put-holding s z slot row (grantedHolding s row slot mode arrival) .holdings;
+    places = z .places;
   }
 
   pub granted-size : granted s row slot mode arrival back .state .size ≡ s .size

@@ -137,11 +137,15 @@ unpin-taken s level number page e =
       pinned = not-false (pinsPage s (rowOf level number) page) (busy .1 .1 .1 .0);
     }
 
-pub end-taken : (s : State) (level number : ℕ) → endRefusal s level number ≡ 0 → Named level number
+pub record EndTaken (s : State) (level number : ℕ) : Type 0 where
+  pub names : Named level number
+  pub taken : isFree (conditionAt s level number) ≡ false
+
+pub end-taken : (s : State) (level number : ℕ) → endRefusal s level number ≡ 0 → EndTaken s level number
 unfolding endRefusal
 end-taken s level number e =
     let n = none-apply ((4, ltb 3 level) ∷ (5, ltb 7 number) ∷ (9, isFree (conditionAt s level number)) ∷ []) (omega arith) e in
-    named level number (n .0) (n .1 .0)
+    record { names = named level number (n .0) (n .1 .0); taken = n .1 .1 .0 }
 
 pub look-taken : (level number : ℕ) → lookRefusal level number ≡ 0 → Named level number
 unfolding lookRefusal

@@ -49,21 +49,22 @@ module _ (s : State) (row page : ℕ) (mode : Mode) where
       go Nowhere e = absent e (chosen s row) refl
       go (At slot) e = there slot e (seen s (levelOf row) slot) (mustWait s row slot mode) (hitsDormant s row slot) refl refl refl
 
--- the clock, the number of slots, the borders and the mark that a row has begun are the same
+-- the clock, the number of slots, the borders, the mark that a row has begun and the begin orders are the same
 pub record Fixed (s t : State) : Type 0 where
   pub clock : t .clock ≡ s .clock
   pub size : t .size ≡ s .size
   pub borders : t .borders ≡ s .borders
   pub begun : t .begun ≡ s .begun
+  pub places : t .places ≡ s .places
 
 pub served-fixed : (s : State) (row page : ℕ) (mode : Mode) → Fixed s (served s row page mode .state)
 unfolding waiting granted step2 step3 pinnersKilled filled killed released cleared
 served-fixed s row page mode = go (served s row page mode) (step s row page mode)
   where
     go : (o : Outcome) → Step s row page mode o → Fixed s (o .state)
-    go o (wait-1 slot e v w q) = rw q (record { clock = refl; size = refl; borders = refl; begun = refl })
-    go o (grant-1 slot e v w q) = rw q (record { clock = refl; size = refl; borders = refl; begun = refl })
-    go o (grant-2 slot e d q) = rw q (record { clock = refl; size = refl; borders = refl; begun = refl })
-    go o (grant-3 slot e v q) = rw q (record { clock = refl; size = refl; borders = refl; begun = refl })
-    go o (wait-g e c q) = rw q (record { clock = refl; size = refl; borders = refl; begun = refl })
-    go o (fill slot e c q) = rw q (record { clock = refl; size = refl; borders = refl; begun = refl })
+    go o (wait-1 slot e v w q) = rw q (record { clock = refl; size = refl; borders = refl; begun = refl; places = refl })
+    go o (grant-1 slot e v w q) = rw q (record { clock = refl; size = refl; borders = refl; begun = refl; places = refl })
+    go o (grant-2 slot e d q) = rw q (record { clock = refl; size = refl; borders = refl; begun = refl; places = refl })
+    go o (grant-3 slot e v q) = rw q (record { clock = refl; size = refl; borders = refl; begun = refl; places = refl })
+    go o (wait-g e c q) = rw q (record { clock = refl; size = refl; borders = refl; begun = refl; places = refl })
+    go o (fill slot e c q) = rw q (record { clock = refl; size = refl; borders = refl; begun = refl; places = refl })

@@ -13,7 +13,7 @@ use Rattle.model.specs.declared.Mode.{Mode}
 use Rattle.model.specs.declared.Row.{Row}
 use Rattle.model.specs.declared.State.{State}
 use Rattle.model.specs.State.{freeRow, emptyHolding, rowAt, slotAt, holdingAt}
-use Rattle.model.specs.Words.{isLive}
+use Rattle.model.specs.Words.{isFree, isLive}
 use Rattle.model.specs.Changes.{dirtied, killedRow, wroteSlot}
 use Rattle.model.proofs.StateLaws.{Sized}
 use Rattle.model.proofs.ChangeLaws.{killed-row, killed-slot, killed-holding, killed-clock, killed-size}
@@ -24,17 +24,24 @@ use Rattle.rules.specs.Refusals.{isWaiting}
 abbrev pub later : State → State
 later s = deliveredRows (advanced s)
 
--- a delivered row is live as before
-pub delivered-live : (clock : ℕ) (x : Condition) → isLive (delivered clock x) ≡ isLive x
-delivered-live clock Free = refl
-delivered-live clock Idle = refl
-delivered-live clock (Waiting page mode) = refl
-delivered-live clock (Killed cause) = refl
-delivered-live clock (Fetching due) = go (leb due clock)
+-- what does not tell a fetching row from an idle one holds of a delivered row as before
+delivered-as : (p : Condition → Bool) → ((due : ℕ) → p (Fetching due) ≡ p Idle) → (clock : ℕ) (x : Condition) → p (delivered clock x) ≡ p x
+delivered-as p e clock Free = refl
+delivered-as p e clock Idle = refl
+delivered-as p e clock (Waiting page mode) = refl
+delivered-as p e clock (Killed cause) = refl
+delivered-as p e clock (Fetching due) = go (leb due clock)
   where
-    go : (b : Bool) → isLive (cond b Idle (Fetching due)) ≡ true
-    go true = refl
+    go : (b : Bool) → p (cond b Idle (Fetching due)) ≡ p (Fetching due)
+    go true = sym (e due)
     go false = refl
+
+-- a delivered row is live, and free, as before
+pub delivered-live : (clock : ℕ) (x : Condition) → isLive (delivered clock x) ≡ isLive x
+delivered-live = delivered-as isLive (λ _. refl)
+
+pub delivered-free : (clock : ℕ) (x : Condition) → isFree (delivered clock x) ≡ isFree x
+delivered-free = delivered-as isFree (λ _. refl)
 
 -- a row that waits is delivered nothing
 pub delivered-waiting : (clock : ℕ) (x : Row) (page : ℕ) (mode : Mode) → x .condition ≡ Waiting page mode → deliveredRow clock x ≡ x
@@ -44,7 +51,7 @@ delivered-waiting clock x page mode w = let e : delivered clock (x .condition) �
 module _ (s : State) (z : Sized s) where
   pub sized-later : Sized (later s)
   unfolding deliveredRows advanced
-  sized-later = record { rows = each-length _ (s .rows) ∙ z .rows; slots = z .slots; holdings = z .holdings }
+  sized-later = record { rows = each-length _ (s .rows) ∙ z .rows; slots = z .slots; holdings = z .holdings; places = z .places }
 
   pub later-row : (row : ℕ) → row < 32 → rowAt (later s) row ≡ deliveredRow (s .clock + 1) (rowAt s row)
   unfolding deliveredRows advanced

@@ -69,14 +69,14 @@ has-tried [] s row h = absurd h
 has-tried (r ∷ rows) s row (inl e) = (s, inl (refl, e))
 has-tried (r ∷ rows) s row (inr h) = let x = has-tried rows (tryRow (rowAt s r .condition) s r .state) row h in (x .0, inr (x .1))
 
--- the clock, the number of slots, the borders and the mark stay
+-- the clock, the number of slots, the borders, the mark and the begin orders stay
 pub tries-fixed : (rows : List ℕ) (s : State) → Fixed s (tries rows s .state)
 tries-fixed = by-tries (λ rows s y. Fixed s (y .state))
-    (λ s. record { clock = refl; size = refl; borders = refl; begun = refl })
+    (λ s. record { clock = refl; size = refl; borders = refl; begun = refl; places = refl })
     (λ row rows s y w more. more)
     (λ row rows s page mode y w more.
     let x = served-fixed s row page mode in
-    record { clock = more .clock ∙ x .clock; size = more .size ∙ x .size; borders = more .borders ∙ x .borders; begun = more .begun ∙ x .begun })
+    record { clock = more .clock ∙ x .clock; size = more .size ∙ x .size; borders = more .borders ∙ x .borders; begun = more .begun ∙ x .begun; places = more .places ∙ x .places })
 
 pub tried-fixed : (s : State) → Fixed s (allTried s .state)
 unfolding allTried

@@ -32,7 +32,7 @@ use Rattle.model.proofs.PinLaws.{not-written}
 use Rattle.model.proofs.BookLaws.{Booked, booked-same, booked-trans, booked-dropped}
 use Rattle.rules.specs.Answers.{word, pageBack, slotTold, backTold, isStarted, isClock}
 use Rattle.rules.specs.Choice.{chosen}
-use Rattle.rules.specs.Calls.{unpinnedAt, waiting, granted, pinnersKilled, writeBack, filled, lateKilled, isLate, deliveredRows, advanced, threeSteps, served}
+use Rattle.rules.specs.Calls.{rowBegun, unpinnedAt, waiting, granted, pinnersKilled, writeBack, filled, lateKilled, isLate, deliveredRows, advanced, threeSteps, served, rowEnded}
 use Rattle.rules.specs.Listed.{Some}
 use Rattle.rules.specs.Tries.{filledBy, allTried}
 use Rattle.model.specs.declared.Call.{Call}
@@ -88,8 +88,8 @@ unfolding writeBack
 back-reported page x h d = rw (d, page-has page (x .content) h .1)
 
 module _ (s : State) (z : Sound s) (page slot : ℕ) (b : slot < 64) where
-  pub ended-booked : (row : ℕ) → Booked (s .clock) page s (putRow (released (eqb row) s) row freeRow) slot
-  ended-booked row = booked-dropped page (eqb row) s (putRow (released (eqb row) s) row freeRow) slot (released-slot (eqb row) s (z .sized) slot b) (released-holding (eqb row) s (z .sized) slot)
+  pub ended-booked : (row : ℕ) → Booked (s .clock) page s (rowEnded s row) slot
+  ended-booked row = booked-dropped page (eqb row) s (rowEnded s row) slot (released-slot (eqb row) s (z .sized) slot b) (released-holding (eqb row) s (z .sized) slot)
 
   pub ticked-booked : Booked (s .clock + 1) page s (lateKilled (later s)) slot
   unfolding deliveredRows advanced
@@ -180,7 +180,7 @@ module _ (s : State) (z : Sound s) (y : BordersSound s) (page slot : ℕ) (b : s
   unfolding unpinnedAt released word
   writes c o n (unchanged a x e) = rw e (stay (s .clock) refl (booked-same (s .clock) page s s slot refl (λ _ _. refl)))
   writes c o n (starts slots delay q x e) = true-false (rw e at n)
-  writes c o n (begins level number deadline q t e) = rw e (stay (s .clock) refl (booked-same (s .clock) page s (putRow (withBegun s) (rowOf level number) (record { condition = Idle; deadline = deadline })) slot refl (λ _ _. refl)))
+  writes c o n (begins level number deadline q t e) = rw e (stay (s .clock) refl (booked-same (s .clock) page s (rowBegun s (rowOf level number) deadline) slot refl (λ _ _. refl)))
   writes c o n (unpins level number p i q t f x e) =
       rw e (stay (s .clock) refl (unpinned-booked s (z .sized) (rowOf level number) i (t .names .row-is) (found-below s z p i f) page slot))
   writes c o n (ends level number q m e) = rw e (stay (s .clock) refl (ended-booked s z page slot b (rowOf level number)))

@@ -331,7 +331,7 @@ module _ (s : State) (z : sound s ≡ true) (slot q page : ℕ) (b : slot < 64) 
       let y = facts s z .sized in
       true-false (sym (both-true (unpinned-holds s y (rowOf level number) i (t .names .row-is) x slot q m before) (unpinned-booked s y (rowOf level number) i (t .names .row-is) x page slot .has-it has)) ∙ (rw e at h))
   drop o same (ends level number k n e) h =
-      inl (rw e (ended-drop s (facts s z) slot q b m before (rowOf level number) (n .row-is) (not-held _ _ (rw e at h) (ended-booked s (facts s z) page slot b (rowOf level number) .has-it has))))
+      inl (rw e (ended-drop s (facts s z) slot q b m before (rowOf level number) (n .names .row-is) (not-held _ _ (rw e at h) (ended-booked s (facts s z) page slot b (rowOf level number) .has-it has))))
   drop o same (ticks room k w x e) h = rw e (ticked-lost room k w x (rw e at h))
   drop o same (sets b k t e) h = true-false (sym (both-true before has) ∙ (rw e at h))
   drop o same (serves row p mode r a x e) h = go (served-drop s (facts s z) slot q b m before page has row p mode r o (rw (← e) at (serving s row p mode)) h)

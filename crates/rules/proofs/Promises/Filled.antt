@@ -18,17 +18,19 @@ use Rattle.model.specs.declared.Holding.{Holding}
 use Rattle.model.specs.State.{rowAt, holdingAt}
 use Rattle.model.specs.Words.{isLive, isHeld, isPin, outranks}
 use Rattle.model.proofs.PinLaws.{pin-held}
-use Rattle.model.proofs.PriorityLaws.{outranks-trans, outranks-total, outranks-same}
+use Rattle.model.proofs.PriorityLaws.{outranks-trans, outranks-kept}
 use Rattle.rules.specs.Calls.{served}
 use Rattle.rules.specs.Listed.{isIdleOrFetching, Listed, PinnedFor, GrantedFor, WaitedFor, EachFill, Some, HasRow, OnceEach}
 use Rattle.rules.specs.Refusals.{isWaiting}
 use Rattle.rules.specs.Sound.{sound}
 use Rattle.rules.specs.Tries.{Fill, Tried, filledBy, tries, waiters, allTried}
+use Rattle.rules.proofs.Facts.SoundFacts.{facts, live-taken, ranks-apart}
+use Rattle.rules.proofs.Leaves.ServeCases.{served-fixed}
 use Rattle.rules.proofs.Leaves.TryLaws.{by-tries, waiters-rows}
 use Rattle.rules.proofs.Promises.BetterSafe.{LeftAlone, better-safe}
 use Rattle.rules.proofs.Promises.FillLists.{some-right, each-some, each-fill}
 use Rattle.rules.proofs.Promises.ServedRows.{SameOrTaken, Own, own-waits, own-ready, own-fetch, served-others, served-deadline, served-own}
-use Rattle.rules.proofs.Promises.TriedRows.{waits-unmade, live-after, served-after, still-waits, vain-still}
+use Rattle.rules.proofs.Promises.TriedRows.{waits-unmade, waiting-live, live-after, served-after, still-waits, vain-still}
 use Rattle.rules.proofs.Stays.StaysTries.{stored-sound}
 
 -- what a served row fills: nothing where it waits, or an entry that holds
@@ -118,19 +120,22 @@ still-granted s t mode f x g =
       rw e (g .1),
     )
 
--- tries of rows in the order of u, on a state in which the rows that wait are as in u
+-- tries of rows in the order of u, on a state in which the begin orders and the rows that wait are as in u
 module _ (u : State) where
   abbrev pub Old : State → Type 0
-  Old s = (q : ℕ) → q < 32 → isWaiting (rowAt s q .condition) ≡ true → rowAt s q ≡ rowAt u q
+  Old s = (s .places ≡ u .places) × ((q : ℕ) → q < 32 → isWaiting (rowAt s q .condition) ≡ true → rowAt s q ≡ rowAt u q)
 
   -- a row that outranks each of the rows
   abbrev pub Ahead : List ℕ → State → Tried → Type 0
   Ahead rows s y = (h : ℕ) → h < 32 → rowAt s h .deadline ≡ rowAt u h .deadline → Each (λ q. outranks u h q ≡ true) rows → LeftAlone s (y .state) h
 
   pub served-old : (s : State) → sound s ≡ true → (row : ℕ) → row < 32 → (page : ℕ) (mode : Mode) → rowAt s row .condition ≡ Waiting page mode → Old s → Old (served s row page mode .state)
-  served-old s z row b page mode w old q m k =
-      let e = still-waits s z row b page mode w q m k in
-      e ∙ old q m (ap (λ (x : Row). isWaiting (x .condition)) (sym e) ∙ k)
+  served-old s z row b page mode w old = (
+    served-fixed s row page mode .places ∙ old .0,
+    λ q m k.
+        let e = still-waits s z row b page mode w q m k in
+        e ∙ old .1 q m (ap (λ (x : Row). isWaiting (x .condition)) (sym e) ∙ k),
+  )
 
   ranked-hold : (rows : List ℕ) (s : State) → AreRows rows → sound s ≡ true → Old s → Ahead rows s (tries rows s) × (Ranked (outranks u) rows → EachFill (GrantedFor u (tries rows s .state)) (tries rows s .fills))
   ranked-hold = by-tries (λ rows s y. AreRows rows → sound s ≡ true → Old s → Ahead rows s y × (Ranked (outranks u) rows → EachFill (GrantedFor u (y .state)) (y .fills)))
@@ -141,10 +146,10 @@ module _ (u : State) where
       (λ row rows s page mode y w more b z old.
       let t : State = served s row page mode .state in
       let k = more (b .1) (stored-sound s z row (b .0) page mode w) (served-old s z row (b .0) page mode w old) in
-      let own : rowAt s row .deadline ≡ rowAt u row .deadline = ap (λ (x : Row). x .deadline) (old row (b .0) (rw w)) in
-      let waited : rowAt u row .condition ≡ Waiting page mode = ap (λ (x : Row). x .condition) (sym (old row (b .0) (rw w))) ∙ w in (
+      let own : rowAt s row .deadline ≡ rowAt u row .deadline = ap (λ (x : Row). x .deadline) (old .1 row (b .0) (rw w)) in
+      let waited : rowAt u row .condition ≡ Waiting page mode = ap (λ (x : Row). x .condition) (sym (old .1 row (b .0) (rw w))) ∙ w in (
         (λ h m d a.
-            let x = better-safe s z row (b .0) page mode h m (outranks-same s u h row d own ∙ a .0) in
+            let x = better-safe s z row (b .0) page mode h m (outranks-kept s u h row (old .0) d own ∙ a .0) in
             left-trans s t (y .state) h x (k .0 h m (ap (λ (c : Row). c .deadline) (x .row-same) ∙ d) (a .1))),
         (λ r.
             by-filled (λ xs. EachFill (GrantedFor u (y .state)) (xs ++ y .fills)) row page mode (served s row page mode) (served-own s z row (b .0) page mode)
@@ -165,7 +170,7 @@ module _ (u : State) where
   kills-worse : (s : State) → sound s ≡ true → (row : ℕ) → row < 32 → (page : ℕ) (mode : Mode) → rowAt s row .condition ≡ Waiting page mode → (q : ℕ) → q < 32
       → isLive (rowAt s q .condition) ≡ true → isLive (rowAt (served s row page mode .state) q .condition) ≡ false → outranks s row q ≡ true
   kills-worse s z row b page mode w q m l d = not-false-true (outranks s row q) (λ n.
-      let o = not-false-true (outranks s q row) (λ k. dead-other (outranks-total s row q n k)) in
+      let o = not-false-true (outranks s q row) (λ k. dead-other (ranks-apart s (facts s z) row q b m (rw w) n k)) in
       true-false (sym l ∙ ap (λ (r : Row). isLive (r .condition)) (sym (better-safe s z row b page mode q m o .row-same)) ∙ d))
     where
       own-lives : Own row page mode (served s row page mode) → isLive (rowAt (served s row page mode .state) row .condition) ≡ true
@@ -196,8 +201,8 @@ module _ (u : State) where
         where
           better : Outranker q row
           better =
-              let r = old row b (rw w) in
-              (b, ap (λ (x : Row). isWaiting (x .condition)) (sym r) ∙ rw w, outranks-same u s row q (ap (λ (x : Row). x .deadline) (sym r)) (sym e) ∙ kills-worse s z row b page mode w q m l k)
+              let r = old .1 row b (rw w) in
+              (b, ap (λ (x : Row). isWaiting (x .condition)) (sym r) ∙ rw w, outranks-kept u s row q (sym (old .0)) (ap (λ (x : Row). x .deadline) (sym r)) (sym e) ∙ kills-worse s z row b page mode w q m l k)
 
           entry : Own row page mode (served s row page mode) → Some (λ f. Outranker q (f .row)) (filledBy row page (served s row page mode .answer) ++ fs)
           entry (own-waits a c) = true-false (sym l ∙ ap (λ (x : State). isLive (rowAt x q .condition)) (sym (vain-still s row page mode w a)) ∙ k)
@@ -207,15 +212,16 @@ module _ (u : State) where
 -- ---- of a sound state
 
 -- the waiting rows stand in the order of their priority
-pub ranked : (u : State) → Ranked (outranks u) (waiters u)
+pub ranked : (u : State) → sound u ≡ true → Ranked (outranks u) (waiters u)
 unfolding waiters
-ranked u = sorted-ranked (λ r. isWaiting (rowAt u r .condition)) (outranks u) 32 (outranks-trans u) (λ i j a b p q. outranks-total u i j) 32 (omega arith)
+ranked u z = sorted-ranked (λ r. isWaiting (rowAt u r .condition)) (outranks u) 32 (outranks-trans u)
+    (λ i j a b p q. ranks-apart u (facts u z) i j a b (live-taken (rowAt u i .condition) (waiting-live (rowAt u i .condition) p))) 32 (omega arith)
 
 module _ (u : State) (z : sound u ≡ true) where
   -- the row of each entry waited for its page, and is granted it when all are tried
   pub fills-granted : EachFill (GrantedFor u (allTried u .state)) (allTried u .fills)
   unfolding allTried
-  fills-granted = ranked-hold u (waiters u) u (waiters-rows u) z (λ q m k. refl) .1 (ranked u)
+  fills-granted = ranked-hold u (waiters u) u (waiters-rows u) z (refl, λ q m k. refl) .1 (ranked u z)
 
   pub fills-hold : EachFill (Listed (allTried u .state)) (allTried u .fills)
   fills-hold = each-fill (GrantedFor u (allTried u .state)) (Listed (allTried u .state)) (λ f k. k .2 .0) (allTried u .fills) fills-granted
@@ -237,4 +243,4 @@ module _ (u : State) (z : sound u ≡ true) where
   -- a row that they kill is outranked by the row of an entry, which waited
   pub fills-taken : (q : ℕ) → q < 32 → isLive (rowAt u q .condition) ≡ true → isLive (rowAt (allTried u .state) q .condition) ≡ false → Some (λ f. Outranker u q (f .row)) (allTried u .fills)
   unfolding allTried
-  fills-taken q m = taken-by u q m (waiters u) u (waiters-rows u) z (λ r b k. refl) refl
+  fills-taken q m = taken-by u q m (waiters u) u (waiters-rows u) z (refl, λ r b k. refl) refl

@@ -31,7 +31,7 @@ use Rattle.model.specs.Words.{strength, strongestPin, leastArrival, hasPage, is
 use Rattle.model.proofs.ContentLaws.{has-page, page-has}
 use Rattle.model.proofs.PinLaws.{pin-held, conflict-pin}
 use Rattle.model.proofs.SeenLaws.{seen-by, by-seen}
-use Rattle.model.proofs.PriorityLaws.{outranks-trans, outranks-level, outranks-same}
+use Rattle.model.proofs.PriorityLaws.{outranks-trans, outranks-level, outranks-kept}
 use Rattle.rules.specs.Calls.{viewedPin, step1, waiting, conflicts, mustWait, served, viewedIn}
 use Rattle.rules.specs.Choice.{stepA, stepB, heldAbove, heldAtOwnLevel, seenPin, inC, inD, inE, inF, beforeHeld, stepHeld, chosen}
 use Rattle.rules.specs.Sound.{sound}
@@ -232,7 +232,7 @@ module _ (s : State) (z : sound s ≡ true) (worse : ℕ) (c : worse < 32) (aske
   still-holds h slot x i q = ap (λ (k : Holding). isHeld (k .pin)) (x .holding-same slot i) ∙ q
 
   still-better : (h : ℕ) → LeftAlone s t h → outranks s h row ≡ true → outranks t h row ≡ true
-  still-better h x q = outranks-same t s h row (ap (λ (k : Row). k .deadline) (x .row-same)) (ap (λ (k : Row). k .deadline) (safe row b o .row-same)) ∙ q
+  still-better h x q = outranks-kept t s h row (served-fixed s worse asked mode′ .places) (ap (λ (k : Row). k .deadline) (x .row-same)) (ap (λ (k : Row). k .deadline) (safe row b o .row-same)) ∙ q
 
   pins-still : (page : ℕ) (mode : Mode) → BetterPins s row page mode → BetterPins t row page mode
   pins-still page mode p =

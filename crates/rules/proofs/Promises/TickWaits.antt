@@ -22,9 +22,9 @@ use Rattle.model.specs.Parties.{levelOf}
 use Rattle.model.specs.State.{rowAt, holdingAt}
 use Rattle.model.specs.Words.{isLive, isPin, pinOf, pins, holds, outranks}
 use Rattle.model.proofs.PinLaws.{pin-held, conflict-pin}
-use Rattle.model.proofs.PriorityLaws.{outranks-once, outranks-other, outranks-same, level-outranks}
-use Rattle.model.specs.Changes.{killedRow}
-use Rattle.rules.specs.Calls.{deliveredRow, isLate, threeSteps, served}
+use Rattle.model.proofs.PriorityLaws.{outranks-once, outranks-other, outranks-kept, level-outranks}
+use Rattle.model.specs.Changes.{killedRow, killed, released}
+use Rattle.rules.specs.Calls.{deliveredRow, isLate, threeSteps, served, lateKilled, deliveredRows, advanced}
 use Rattle.rules.specs.Listed.{isIdleOrFetching, PinnedFor, GrantedFor, Some}
 use Rattle.rules.specs.Refusals.{isWaiting}
 use Rattle.rules.specs.Run.{outcome, fillsOf}
@@ -52,7 +52,7 @@ MadeOr s t row page mode =
     (isIdleOrFetching (rowAt t row .condition) ≡ true)
     ⊎ ((rowAt t row .condition ≡ Waiting page mode) × WaitReason t row page mode × ((slot : ℕ) → slot < 64 → holdingAt t slot row ≡ holdingAt s slot row))
 
--- tries of rows in the order of u, on a state in which the rows that wait are as in u
+-- tries of rows in the order of u, on a state in which the begin orders and the rows that wait are as in u
 module _ (u : State) where
   -- the reason of a row that outranks each of the rows
   reason-tries : (q : ℕ) → q < 32 → (page : ℕ) (mode : Mode) (rows : List ℕ) (s : State) → AreRows rows → sound s ≡ true → Old u s → rowAt s q .deadline ≡ rowAt u q .deadline
@@ -62,7 +62,7 @@ module _ (u : State) where
       (λ s b z old d a x. x)
       (λ row rows s y w more b z old d a. more (b .1) z old d (a .1))
       (λ row rows s p n y w more b z old d a x.
-      let o = outranks-same s u q row d (ap (λ (r : Row). r .deadline) (old row (b .0) (rw w))) ∙ a .0 in
+      let o = outranks-kept s u q row (old .0) d (ap (λ (r : Row). r .deadline) (old .1 row (b .0) (rw w))) ∙ a .0 in
       more (b .1) (stored-sound s z row (b .0) p n w) (served-old u s z row (b .0) p n w old)
       (ap (λ (r : Row). r .deadline) (better-safe s z row (b .0) p n q m o .row-same) ∙ d) (a .1) (reason-still s z row (b .0) p n w q m o page mode x))
 
@@ -79,7 +79,7 @@ module _ (u : State) where
     old-x = served-old u s z q m page mode w old
 
     deadline-x : rowAt x q .deadline ≡ rowAt u q .deadline
-    deadline-x = served-deadline s z q m page mode ∙ ap (λ (r : Row). r .deadline) (old q m (rw w))
+    deadline-x = served-deadline s z q m page mode ∙ ap (λ (r : Row). r .deadline) (old .1 q m (rw w))
 
     left-x : LeftAlone x (tries rows x .state) q
     left-x = tries-alone u rows x b sound-x old-x q m deadline-x a
@@ -144,6 +144,14 @@ module _ (s : State) (z : sound s ≡ true) (room clock : ℕ) (accepted : outco
   after : t ≡ allTried u .state
   after = ticked-is s z room clock accepted .0
 
+  -- no begin order changes
+  places-u : u .places ≡ s .places
+  unfolding lateKilled deliveredRows advanced killed released
+  places-u = refl
+
+  places-t : t .places ≡ s .places
+  places-t = rw after (tried-fixed u .places ∙ places-u)
+
   row-u : (q : ℕ) → q < 32 → rowAt u q ≡ cond (isLate (later s) q) (killedRow Late) (deliveredRow (s .clock + 1) (rowAt s q))
   row-u = ticked-row s (facts s z .sized)
 
@@ -157,7 +165,7 @@ module _ (s : State) (z : sound s ≡ true) (room clock : ℕ) (accepted : outco
   still-waiting row page mode b w =
       let v = waited (rowAt u row) (rowAt t row) (tried row b) w in (
         late-waits (isLate (later s) row) (s .clock + 1) (rowAt s row) page mode (rw (row-u row b) at v),
-        rw after (waits-tried u (waiters u) u (waiters-rows u) y (λ q m k. refl) (ranked u) row (waiters-have u row b (rw v)) page mode (rw after at w)),
+        rw after (waits-tried u (waiters u) u (waiters-rows u) y (refl, λ q m k. refl) (ranked u y) row (waiters-have u row b (rw v)) page mode (rw after at w)),
       )
     where
       waited : (x r : Row) → AfterTries x r → r .condition ≡ Waiting page mode → x .condition ≡ Waiting page mode
@@ -211,7 +219,7 @@ module _ (s : State) (z : sound s ≡ true) (room clock : ℕ) (accepted : outco
         taken-row d k =
             rw (listed s z room clock accepted)
             (some-fill (λ f. Outranker u row (f .row)) (λ f. outranks s (f .row) row ≡ true)
-            (λ f h. outranks-same s u (f .row) row (sym (live-steps (f .row) (h .0) (waiting-live (rowAt u (f .row) .condition) (h .1)) .1)) (ap (λ (r : Row). r .deadline) (sym d)) ∙ h .2)
+            (λ f h. outranks-kept s u (f .row) row (sym places-u) (sym (live-steps (f .row) (h .0) (waiting-live (rowAt u (f .row) .condition) (h .1)) .1)) (ap (λ (r : Row). r .deadline) (sym d)) ∙ h .2)
             (allTried u .fills) (fills-taken u y row b (rw (d, w)) (rw (← after, k))))
 
         go-on : rowAt u row ≡ rowAt s row → AfterTries (rowAt u row) (rowAt t row) → AfterWaiting s t (fillsOf s (Tick room)) row page mode
@@ -250,7 +258,7 @@ module _ (s : State) (z : sound s ≡ true) (room clock : ℕ) (accepted : outco
     best-still : isLive (rowAt t row .condition) ≡ true → BestLive t row
     best-still l = record {
       live = l;
-      best = λ h m n k. let x = live-before h m k in outranks-same t s row h (live-before row b l .1) (x .1) ∙ best .best h m n (x .0);
+      best = λ h m n k. let x = live-before h m k in outranks-kept t s row h places-t (live-before row b l .1) (x .1) ∙ best .best h m n (x .0);
     }
 
     -- where it is not late it is tried first
@@ -266,16 +274,16 @@ module _ (s : State) (z : sound s ≡ true) (room clock : ℕ) (accepted : outco
         later-one n (inr v) =
             let l = live-steps q (a .0 .0) (waiting-live (rowAt u q .condition) (a .0 .1)) in
             outranks-once u q row (each-has (λ r. outranks u q r ≡ true) rows row (k .0) v)
-            (outranks-same u s row q (ap (λ (r : Row). r .deadline) e) (l .1) ∙ best .best q (a .0 .0) n (l .0))
+            (outranks-kept u s row q places-u (ap (λ (r : Row). r .deadline) e) (l .1) ∙ best .best q (a .0 .0) n (l .0))
 
     best-tried : rowAt u row ≡ rowAt s row → MadeOr u (tries (waiters u) u .state) row page mode
     unfolding tries
     best-tried e =
         let c : rowAt u row .condition ≡ Waiting page mode = rw (e, w) in
-        let f = first (waiters u) e (ranked u) (waiters-wait u) (waiters-have u row b (rw c)) in
-        let k : Ranked (outranks u) (row ∷ f .0) = rw (f .1) at (ranked u) in
+        let f = first (waiters u) e (ranked u y) (waiters-wait u) (waiters-have u row b (rw c)) in
+        let k : Ranked (outranks u) (row ∷ f .0) = rw (f .1) at (ranked u y) in
         let m : AreRows (row ∷ f .0) = rw (f .1) at (waiters-rows u) in
-        rw (f .1) (go (f .0) c (first-tried u row b page mode (f .0) u (m .1) y (λ q n v. refl) c (k .0)))
+        rw (f .1) (go (f .0) c (first-tried u row b page mode (f .0) u (m .1) y (refl, λ q n v. refl) c (k .0)))
       where
         go : (rest : List ℕ) → rowAt u row .condition ≡ Waiting page mode → MadeOr u (tries rest (served u row page mode .state) .state) row page mode
             → MadeOr u (tries rest (tryRow (rowAt u row .condition) u row .state) .state) row page mode

@@ -1,6 +1,6 @@
 -- Every number of a sound state fits its word where the deadlines fit 32 bits, and they stay so under calls whose numbers do.
 use mathlib.Core.Path.{_≡_, refl}
-use mathlib.Core.Bool.{Bool, true, false, cond}
+use mathlib.Core.Bool.{Bool, true, false, cond, not}
 use mathlib.Core.List.{List}
 use Prim.Native.Nat.{ℕ, _+_, _*_, _/_, _%_, _<_, _≤_, _^_}
 use native.Mathlib.Omega.{arith}
@@ -9,6 +9,7 @@ use borrow.Author.Tests.{eqb-true}
 use lib.Dec.{eqb}
 use lib.ListN.{length, getD, List·getD-eq-default}
 use Rattle.seq.proofs.Tests.{and-true}
+use Rattle.seq.proofs.BelowLaws.{count-at-most}
 use Rattle.model.specs.declared.Back.{Back}
 use Rattle.model.specs.declared.Cause.{Cause}
 use Rattle.model.specs.declared.Cause.the-variants.{Late, Taken}
@@ -22,9 +23,9 @@ use Rattle.model.specs.declared.Row.{Row}
 use Rattle.model.specs.declared.Borders.{Borders}
 use Rattle.model.specs.declared.State.{State}
 use Rattle.model.specs.Parties.{rowOf, levelOf, areBorders}
-use Rattle.model.specs.State.{freeRow, emptySlot, emptyHolding, fresh, rowAt, slotAt, holdingAt}
-use Rattle.model.specs.Words.{holds, pins}
-use Rattle.model.specs.Changes.{killedRow, released, killed, cleared}
+use Rattle.model.specs.State.{freeRow, emptySlot, emptyHolding, fresh, rowAt, slotAt, holdingAt, placeAt}
+use Rattle.model.specs.Words.{holds, pins, isFree}
+use Rattle.model.specs.Changes.{killedRow, released, killed, cleared, rowsNotFree}
 use Rattle.model.proofs.StateLaws.{Sized, row-put, fresh-row}
 use Rattle.model.proofs.ChangeLaws.{killed-row, sized-released, sized-killed}
 use Rattle.model.proofs.BordersLaws.{in-order}
@@ -115,7 +116,7 @@ module _ (s : State) (z : Sound s) (y : BordersSound s) (narrow : Narrow s) (q :
   call-narrow c f o (unpins level number page slot k t i p e) = rw e (narrow q)
   call-narrow c f o (ends level number k n e) =
       let row = rowOf level number in
-      rw (e, row-put (released (eqb row) s) (sized-released (eqb row) s (z .sized)) row freeRow q (n .row-is)) (either (eqb q row) freeRow (rowAt s q) (omega arith) (narrow q))
+      rw (e, row-put (released (eqb row) s) (sized-released (eqb row) s (z .sized)) row freeRow q (n .names .row-is)) (either (eqb q row) freeRow (rowAt s q) (omega arith) (narrow q))
   call-narrow c f o (ticks room k w x e) = rw e (tried-narrow (threeSteps s) (ticked-sound s z x) (ticked-borders s z y) (steps-narrow s z narrow) q)
   call-narrow c f o (sets b k t e) = rw e (narrow q)
   call-narrow c f o (serves row page mode r a x e) = served-narrow s z narrow q b row page mode r o (rw (← e) at (serving s row page mode))
@@ -167,6 +168,7 @@ borders-fit b e =
 
 -- every number of the state fits its word
 pub sound-ok : (s : State) → sound s ≡ true → Narrow s → StateOk s
+unfolding rowsNotFree
 sound-ok s e narrow = record {
   size = omega (arith, z .size-most);
   delay = omega (arith, z .delay-most);
@@ -179,7 +181,12 @@ sound-ok s e narrow = record {
   holding = everywhere HoldingOk (s .holdings) emptyHolding 2048 (z .sized .holdings) (record { arrival = omega arith; touch = omega arith })
       (λ k b. let n : k / 32 * 32 + k % 32 ≡ k = omega arith in rw n at (holding-fits s z (k / 32) (k % 32) (omega arith) (omega arith)));
   borders = borders-fit (s .borders) (borders-facts s e .valid);
+  place = everywhere (λ n. n < 2 ^ 64) (s .places) 0 32 (z .sized .places) (omega arith) (λ i b. place-fits i b (isFree (rowAt s i .condition)) refl);
 }
   where
     z : Sound s
     z = facts s e
+
+    place-fits : (i : ℕ) → i < 32 → (x : Bool) → isFree (rowAt s i .condition) ≡ x → placeAt s i < 2 ^ 64
+    place-fits i b true f = omega (arith, z .order .none i b f)
+    place-fits i b false f = omega (arith, z .order .most i b f, count-at-most (λ n. not (isFree (rowAt s (rowOf (levelOf i) n) .condition))) 8)

@@ -6,7 +6,7 @@ use Rattle.model.specs.declared.Holding.{Holding}
 use Rattle.model.specs.declared.Outcome.{Outcome}
 use Rattle.model.specs.declared.State.{State}
 use Rattle.model.specs.Parties.{levelOf}
-use Rattle.model.specs.State.{emptyHolding, rowAt, holdingAt}
+use Rattle.model.specs.State.{emptyHolding, rowAt, holdingAt, placeAt}
 use Rattle.model.specs.Words.{slotOf}
 use Rattle.rules.specs.Answers.{told}
 
@@ -19,6 +19,7 @@ pub record Alike (L : ℕ) (s t : State) : Type 0 where
   pub delay : s .delay ≡ t .delay
   pub clock : s .clock ≡ t .clock
   pub row : (r : ℕ) → r < 32 → levelOf r ≤ L → rowAt s r ≡ rowAt t r
+  pub place : (r : ℕ) → r < 32 → levelOf r ≤ L → placeAt s r ≡ placeAt t r
   pub holding : (page r : ℕ) → r < 32 → levelOf r ≤ L → holdingOn s page r ≡ holdingOn t page r
 
 -- two outcomes that L cannot tell apart

@@ -7,6 +7,7 @@ use lib.Dec.{eqb}
 use Rattle.seq.specs.Below.{countBelow}
 use Rattle.seq.specs.declared.Found.{Found}
 use Rattle.seq.specs.declared.Found.the-variants.{At, Nowhere}
+use lib.ListN.{set}
 use Rattle.model.specs.declared.Answer.the-variants.{Begun, Ended}
 use Rattle.model.specs.declared.Cause.the-variants.{Late}
 use Rattle.model.specs.declared.Condition.the-variants.{Idle}
@@ -16,12 +17,12 @@ use Rattle.model.specs.declared.State.{State}
 use Rattle.model.specs.Parties.{rowOf, levelOf}
 use Rattle.model.specs.State.{freeRow, rowAt, withBegun, putRow}
 use Rattle.model.specs.Words.{isHeld, seen, isOpen, slotOf}
-use Rattle.model.specs.Changes.{released}
+use Rattle.model.specs.Changes.{released, closedUp}
 use Rattle.model.proofs.StateLaws.{Sized, sized-begun}
 use Rattle.model.proofs.ChangeLaws.{sized-released}
 use Rattle.model.proofs.SeenLaws.{no-dormant, none-seen}
 use Rattle.rules.specs.Answers.{told}
-use Rattle.rules.specs.Calls.{begun, ended, deliveredRows, isLate, lateKilled, advanced, threeSteps, looked, lookedAt, viewedIn, viewed, counted}
+use Rattle.rules.specs.Calls.{begun, ended, deliveredRows, isLate, lateKilled, advanced, threeSteps, looked, lookedAt, viewedIn, viewed, counted, lastPlace, rowBegun, rowEnded}
 use Rattle.rules.specs.Refusals.{beginRefusal, endRefusal, lookRefusal, viewRefusal, countRefusal}
 use Rattle.rules.proofs.Facts.SoundFacts.{Sound}
 use Rattle.rules.proofs.Same.Alike.{holdingOn, Alike, Same}
@@ -30,7 +31,7 @@ use Rattle.rules.proofs.Leaves.PageLaws.{on-slot, on-nowhere}
 use Rattle.rules.proofs.Leaves.TickLaws.{later, sized-later, later-row}
 use Rattle.rules.proofs.Leaves.RefusalFacts.{begin-taken, end-taken, look-taken}
 use Rattle.rules.proofs.Same.SamePages.{same-seen, same-strongest, same-least, same-holding}
-use Rattle.rules.proofs.Same.SameChanges.{same-unless, same-put-row, same-killed, same-released}
+use Rattle.rules.proofs.Same.SameChanges.{same-unless, same-put-row, same-killed, same-released, same-places, same-placed, same-closed}
 use Rattle.rules.proofs.Same.SameRefusals.{own-row, same-begin-refusal, same-end-refusal}
 
 -- a page that the other state has in no slot is held by no row up to L
@@ -41,7 +42,7 @@ unseen L s t alike page i at-s at-t level up = none-seen s level i (λ r h l.
 -- the mark that a row has begun is no part of it
 same-begun-mark : (L : ℕ) (s t : State) → Alike L s t → Alike L (withBegun s) (withBegun t)
 unfolding holdingOn slotOf
-same-begun-mark L s t a = record { size = a .size; delay = a .delay; clock = a .clock; row = a .row; holding = a .holding }
+same-begun-mark L s t a = record { size = a .size; delay = a .delay; clock = a .clock; row = a .row; place = a .place; holding = a .holding }
 
 -- ---- the three steps of a tick
 
@@ -52,6 +53,7 @@ same-delivered L s t y z a = record {
   delay = a .delay;
   clock = ap (λ (n : ℕ). n + 1) (a .clock);
   row = λ r h l. rw (later-row s y r h, later-row t z r h, a .row r h l, a .clock);
+  place = a .place;
   holding = a .holding;
 }
 
@@ -78,25 +80,37 @@ module _ (L : ℕ) (s t : State) (y : Sound s) (z : Sound t) (alike : Alike L s 
     unfolding begun
     same-begun number deadline =
         let x : Row = record { condition = Idle; deadline = deadline } in
+        let row = rowOf level number in
         same-unless L s t (beginRefusal s level number deadline) (beginRefusal t level number deadline)
-        (record { state = putRow (withBegun s) (rowOf level number) x; answer = Begun })
-        (record { state = putRow (withBegun t) (rowOf level number) x; answer = Begun })
+        (record { state = rowBegun s row deadline; answer = Begun })
+        (record { state = rowBegun t row deadline; answer = Begun })
         alike (same-begin-refusal L s t alike two level number low deadline)
-        (λ e. (refl, same-put-row L (withBegun s) (withBegun t) (sized-begun s (y .sized)) (sized-begun t (z .sized)) (same-begun-mark L s t alike) (rowOf level number) x x (begin-taken s level number deadline e .names .row-is) refl))
+        (λ e.
+        let n = begin-taken s level number deadline e .names in (
+          refl,
+          same-places L (putRow (withBegun s) row x) (putRow (withBegun t) row x)
+              (same-put-row L (withBegun s) (withBegun t) (sized-begun s (y .sized)) (sized-begun t (z .sized)) (same-begun-mark L s t alike) row x x (n .row-is) refl)
+              (set (s .places) row (lastPlace s (levelOf row))) (set (t .places) row (lastPlace t (levelOf row)))
+              (same-placed L s t (y .sized) (z .sized) alike row (n .row-is) (omega (arith, n .own-level))),
+        ))
 
     pub same-ended : (number : ℕ) → Same L (ended s level number) (ended t level number)
     unfolding ended
     same-ended number =
         let own : ℕ → Bool = eqb (rowOf level number) in
         same-unless L s t (endRefusal s level number) (endRefusal t level number)
-        (record { state = putRow (released own s) (rowOf level number) freeRow; answer = Ended })
-        (record { state = putRow (released own t) (rowOf level number) freeRow; answer = Ended })
+        (record { state = rowEnded s (rowOf level number); answer = Ended })
+        (record { state = rowEnded t (rowOf level number); answer = Ended })
         alike (same-end-refusal L s t alike two level number low)
-        (λ e. (
+        (λ e.
+        let n = end-taken s level number e .names in (
           refl,
-          same-put-row L (released own s) (released own t) (sized-released own s (y .sized)) (sized-released own t (z .sized))
+          same-places L (putRow (released own s) (rowOf level number) freeRow) (putRow (released own t) (rowOf level number) freeRow)
+              (same-put-row L (released own s) (released own t) (sized-released own s (y .sized)) (sized-released own t (z .sized))
               (same-released L s t (y .sized) (z .sized) alike (y .size-most) (z .size-most) own own (λ r h l. refl))
-              (rowOf level number) freeRow freeRow (end-taken s level number e .row-is) refl,
+              (rowOf level number) freeRow freeRow (n .row-is) refl)
+              (closedUp (rowOf level number) (s .places)) (closedUp (rowOf level number) (t .places))
+              (same-closed L s t (y .sized) (z .sized) alike (rowOf level number) (n .row-is) (omega (arith, n .own-level))),
         ))
 
     pub same-looked : (number : ℕ) → Same L (lookedAt s level number) (lookedAt t level number)

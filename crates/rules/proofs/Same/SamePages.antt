@@ -1,5 +1,5 @@
 -- Two states alike for L: what the rows up to L have on a page, and what a level up to L sees of it.
-use mathlib.Core.Path.{_≡_, refl, sym, _∙_}
+use mathlib.Core.Path.{_≡_, refl, sym, _∙_, ap}
 use mathlib.Core.Bool.{Bool, true, false, _&&_}
 use Prim.Native.Nat.{ℕ, _<_, _≤_}
 use native.Mathlib.Omega.{arith}
@@ -11,10 +11,12 @@ use Rattle.seq.proofs.BelowLaws.{any-same}
 use Rattle.seq.proofs.PickLaws.{picked-same}
 use Rattle.model.specs.declared.Mode.{Mode}
 use Rattle.model.specs.declared.Pin.the-variants.{Absent}
+use Rattle.model.specs.declared.Row.{Row}
 use Rattle.model.specs.declared.State.{State}
 use Rattle.model.specs.Parties.{levelOf}
 use Rattle.model.specs.State.{holdingAt}
 use Rattle.model.specs.Words.{holds, strength, seenHolder, seen, outranks, strongestPin, leastArrival, slotOf}
+use Rattle.model.proofs.PriorityLaws.{outranks-same}
 use Rattle.model.proofs.SeenLaws.{no-dormant}
 use Rattle.rules.specs.Calls.{conflicts, mustWait, hitsDormant}
 use Rattle.rules.proofs.Same.Alike.{Alike}
@@ -26,8 +28,8 @@ no-hit s me slot l = no-dormant s (levelOf me) slot l
 
 module _ (L : ℕ) (s t : State) (alike : Alike L s t) where
   pub same-rank : (r q : ℕ) → r < 32 → q < 32 → levelOf r ≤ L → levelOf q ≤ L → outranks s r q ≡ outranks t r q
-  unfolding outranks
-  same-rank r q h k l m = rw (alike .row r h l, alike .row q k m)
+  same-rank r q h k l m =
+      outranks-same s t r q (ap (λ (x : Row). x .deadline) (alike .row r h l)) (ap (λ (x : Row). x .deadline) (alike .row q k m)) (alike .place r h l) (alike .place q k m)
 
   pub same-holding : (page i j : ℕ) → slotOf s page ≡ At i → slotOf t page ≡ At j → (r : ℕ) → r < 32 → levelOf r ≤ L → holdingAt s i r ≡ holdingAt t j r
   same-holding page i j at-s at-t r h l = sym (on-slot s page i r at-s) ∙ alike .holding page r h l ∙ on-slot t page j r at-t

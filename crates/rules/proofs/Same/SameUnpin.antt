@@ -32,6 +32,7 @@ same-unpinned-at L s t y z alike row page i j r l at-s at-t =
       delay = alike .delay;
       clock = alike .clock;
       row = alike .row;
+      place = alike .place;
       holding = λ other q h m.
           rw (
             unpinned-on s (y .sized) row i r bi page at-s other q h,

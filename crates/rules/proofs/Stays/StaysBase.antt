@@ -1,8 +1,10 @@
--- What sound says but for the rows; and what a slot and a holding may become without harm to it.
+-- What sound says but for the rows and the begin orders; and what a slot and a holding may become without harm to it.
 use mathlib.Core.Path.{_≡_, refl, sym, _∙_}
 use mathlib.Core.Bool.{Bool, true, false, cond}
+use mathlib.Core.List.{List}
 use Prim.Native.Nat.{ℕ, _≤_}
 use native.Mathlib.Omega.{arith}
+use lib.ListN.{length}
 use Rattle.seq.proofs.Tests.{true-false}
 use Rattle.model.specs.declared.Content.{Content}
 use Rattle.model.specs.declared.Content.the-variants.{Empty, Filled}
@@ -10,20 +12,20 @@ use Rattle.model.specs.declared.Pin.the-variants.{Unpinned}
 use Rattle.model.specs.declared.Slot.{Slot}
 use Rattle.model.specs.declared.Holding.{Holding}
 use Rattle.model.specs.declared.State.{State}
-use Rattle.model.specs.State.{emptyHolding}
+use Rattle.model.specs.State.{emptyHolding, withPlaces}
 use Rattle.model.specs.Words.{isFilled, pageIn, arrivalIn, lowestIn, isHeld, conflict}
 use Rattle.model.specs.Changes.{dirtied, dirtiedContent}
 use Rattle.model.proofs.PinLaws.{no-pin}
 use Rattle.rules.specs.Sound.{pinAllowed}
 use Rattle.rules.specs.Calls.{withLowest}
-use Rattle.rules.proofs.Facts.SoundFacts.{Sound, Facts, RowsSound}
+use Rattle.rules.proofs.Facts.SoundFacts.{Sound, Facts, RowsSound, OrderSound}
 
--- what sound says but for the rows
+-- what sound says but for the rows and the begin orders
 abbrev pub Base : State → Type 0
-Base s = Facts Unit s
+Base s = Facts Unit Unit s
 
-with-rows : {R Q : Type 0} (s : State) → Facts R s → Q → Facts Q s
-with-rows s h rows = record {
+with-rows : {R Q O P : Type 0} (s : State) → Facts R O s → Q → P → Facts Q P s
+with-rows s h rows order = record {
   sized = h .sized;
   size-least = h .size-least;
   size-most = h .size-most;
@@ -33,16 +35,35 @@ with-rows s h rows = record {
   slot = h .slot;
   one-slot = h .one-slot;
   row = rows;
+  order = order;
   held = h .held;
   unheld = h .unheld;
   no-conflict = h .no-conflict;
 }
 
 pub base : (s : State) → Sound s → Base s
-base s h = with-rows s h tt
+base s h = with-rows s h tt tt
 
-pub whole : (s : State) → Base s → RowsSound s → Sound s
-whole s h rows = with-rows s h rows
+-- the places are no part of it but for their number
+pub base-places : (s : State) (places : List ℕ) → Base s → length places ≡ 32 → Base (withPlaces s places)
+base-places s places h l = record {
+  sized = record { rows = h .sized .rows; slots = h .sized .slots; holdings = h .sized .holdings; places = l };
+  size-least = h .size-least;
+  size-most = h .size-most;
+  delay-least = h .delay-least;
+  delay-most = h .delay-most;
+  clock-most = h .clock-most;
+  slot = λ i b. let x = h .slot i b in record { empty = x .empty; page = x .page; lowest = x .lowest; touch = x .touch; arrival = x .arrival; started = x .started };
+  one-slot = h .one-slot;
+  row = tt;
+  order = tt;
+  held = λ i r a b w. let x = h .held i r a b w in record { live = x .live; filled = x .filled; allowed = x .allowed; after = x .after; arrival = x .arrival; touch = x .touch; lowest = x .lowest };
+  unheld = h .unheld;
+  no-conflict = h .no-conflict;
+}
+
+pub whole : (s : State) → Base s → RowsSound s → OrderSound s → Sound s
+whole s h rows order = with-rows s h rows order
 
 -- a slot with the same page, but for the dirty mark, a lower lowest level and a later touch
 pub record SlotStays (x y : Slot) : Type 0 where

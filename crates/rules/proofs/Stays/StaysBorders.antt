@@ -14,7 +14,7 @@ use Rattle.model.specs.State.{freeRow, rowAt, slotAt, putRow}
 use Rattle.model.specs.Changes.{wroteSlot, released, killed}
 use Rattle.model.proofs.StateLaws.{row-put}
 use Rattle.model.proofs.ChangeLaws.{released-slot, sized-released}
-use Rattle.rules.specs.Calls.{unpinnedAt, deliveredRow, deliveredRows, advanced, isLate, lateKilled, threeSteps, served}
+use Rattle.rules.specs.Calls.{rowEnded, unpinnedAt, deliveredRow, deliveredRows, advanced, isLate, lateKilled, threeSteps, served}
 use Rattle.rules.specs.Run.{outcome}
 use Rattle.rules.proofs.Facts.SoundFacts.{Sound, BordersSound}
 use Rattle.rules.proofs.Leaves.CallEffects.{Effect, unchanged, starts, begins, unpins, ends, ticks, sets, serves, effect}
@@ -27,7 +27,7 @@ use Rattle.rules.proofs.Stays.StaysTick.{ticked-sound}
 use Rattle.rules.proofs.Stays.StaysTries.{tried-facts}
 
 module _ (s : State) (z : Sound s) (h : BordersSound s) where
-  ended-borders : (row : ℕ) → row < 32 → BordersSound (putRow (released (eqb row) s) row freeRow)
+  ended-borders : (row : ℕ) → row < 32 → BordersSound (rowEnded s row)
   unfolding released
   ended-borders row b = record {
     valid = h .valid;
@@ -60,7 +60,7 @@ stays-borders s c z h = go (outcome s c) (effect s c)
     go o (begins level number deadline q t e) = rw e (record { valid = h .valid; free = λ w. true-false w; empty = λ w. true-false w })
     go o (unpins level number page slot q t f p e) =
         rw e (begun-still s h (unpinnedAt s (rowOf level number) slot) (refl, refl) (row-begun s h (rowOf level number) (t .names .row-is) (rw (t .idle))))
-    go o (ends level number q n e) = rw e (ended-borders s z h (rowOf level number) (n .row-is))
+    go o (ends level number q n e) = rw e (ended-borders s z h (rowOf level number) (n .names .row-is))
     go o (ticks room q w k e) = rw e (tried-facts (threeSteps s) (ticked-sound s z k) (ticked-borders s z h) .1)
     go o (sets b q t e) = rw e (record { valid = t .valid; free = h .free; empty = h .empty })
     go o (serves row page mode b a m e) = rw e (begun-still s h (served s row page mode .state) (served-unset s row page mode) (row-begun s h row b (rw (m .0))))

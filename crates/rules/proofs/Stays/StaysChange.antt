@@ -95,6 +95,7 @@ module _ (s t : State) (b : Base s) (c : Change s t) where
     slot = λ i h. slot-change i h (c .slot i h);
     one-slot = λ i j h g. pages-change i j h g (c .slot i h) (c .slot j g);
     row = tt;
+    order = tt;
     held = λ i r h g. held-change i r h g (c .slot i h) (c .holding i r h g);
     unheld = λ i r h g. unheld-change i r h g (c .holding i r h g);
     no-conflict = λ i r q h g f m. conflict-change i r q h g f m (c .holding i r h g) (c .holding i q h f);

@@ -14,6 +14,7 @@ use Rattle.rules.specs.Calls.{filled}
 use Rattle.rules.proofs.Facts.SoundFacts.{Sound}
 use Rattle.rules.proofs.Leaves.FillLaws.{filledSlot, sized-filled, filled-slot, filled-at, filled-holding, filled-empty}
 use Rattle.rules.proofs.Stays.StaysBase.{base, whole, slot-stays, HoldingStays, same, gone}
+use Rattle.rules.proofs.Stays.StaysOrder.{order-stays}
 use Rattle.rules.proofs.Stays.StaysChange.{SlotChange, old-slot, new-slot, old-holding, base-change}
 use Rattle.rules.proofs.Stays.StaysRows.{settled-stays, row-stays}
 use Rattle.rules.proofs.Stays.StaysNew.{Asking}
@@ -93,3 +94,4 @@ module _ (s : State) (slot page level : ℕ) (h : Sound s) (b : slot < s .size) 
           | no e ↦ other-holding i r g e
         ])
         refl (λ _. refl) refl (h .row r g))
+        (order-stays s t (h .order) refl (λ _ _. refl))

@@ -4,6 +4,7 @@ use mathlib.Core.Bool.{true}
 use Prim.Native.Nat.{ℕ, _≤_}
 use native.Mathlib.Omega.{arith}
 use Rattle.seq.proofs.Tests.{true-false}
+use Rattle.seq.proofs.EachLaws.{replicate-at}
 use Rattle.model.specs.declared.Row.{Row}
 use Rattle.model.specs.declared.Slot.{Slot}
 use Rattle.model.specs.Parties.{areBorders}
@@ -37,6 +38,12 @@ module _ (slots delay : ℕ) where
     };
     one-slot = λ i j _ _ e _ _. absurd (empty i e);
     row = λ r _. rw (fresh-row slots delay r) refl;
+    order = record {
+      none = λ r _ _. replicate-at {A = ℕ} 32 r 0;
+      least = λ r _ e. true-false (rw (fresh-row slots delay r) at e);
+      most = λ r _ e. true-false (rw (fresh-row slots delay r) at e);
+      once = λ r q _ _ _ p _. absurd (omega (arith, replicate-at {A = ℕ} 32 r 0, p));
+    };
     held = λ i r _ _ e. true-false (sym (rw (fresh-holding slots delay i r) at e));
     unheld = λ i r _ _ _. fresh-holding slots delay i r;
     no-conflict = λ i r q _ _ _ _. rw (fresh-holding slots delay i r) refl;

@@ -17,14 +17,15 @@ use Rattle.model.specs.Parties.{levelOf}
 use Rattle.model.specs.State.{rowAt, slotAt, holdingAt, putHolding}
 use Rattle.model.specs.Words.{isLive, holds, pins}
 use Rattle.model.proofs.StateLaws.{Sized, sized-put-slot, sized-put-holding}
-use Rattle.model.proofs.PutLaws.{slot-same, slot-other, holding-same, holding-other-slot, holding-other-row}
+use Rattle.model.proofs.PutLaws.{row-same, row-other, slot-same, slot-other, holding-same, holding-other-slot, holding-other-row}
 use Rattle.model.proofs.PinLaws.{pin-held}
 use Rattle.rules.specs.Sound.{awaits}
 use Rattle.rules.specs.Calls.{touched, granted}
-use Rattle.rules.proofs.Facts.SoundFacts.{RowSound, Held, Sound}
+use Rattle.rules.proofs.Facts.SoundFacts.{RowSound, Held, Sound, live-taken}
 use Rattle.rules.proofs.Leaves.GrantLaws.{grantedHolding, grantedSlot, grantedRow}
 use Rattle.rules.proofs.Stays.StaysBase.{Base, base, SlotStays, slot-stays, slot-touched, same}
 use Rattle.rules.proofs.Stays.StaysChange.{old-slot, HoldingChange, old-holding, new-holding, base-change}
+use Rattle.rules.proofs.Stays.StaysOrder.{order-stays}
 use Rattle.rules.proofs.Stays.StaysRows.{row-stays}
 use Rattle.rules.proofs.Stays.StaysOwn.{put-row-sound}
 use Rattle.rules.proofs.Stays.StaysNew.{Grantable, New, new-is, lowest-least}
@@ -160,7 +161,14 @@ module _ (s : State) (row slot : ℕ) (mode : Mode) (arrival : ℕ) (h : Sound s
       put-row-sound t row (grantedRow s row arrival) (g .asking .row-is) held-base
       (live (leb arrival (s .clock))) own-row
       (λ r b m. row-stays s t r (λ i _. same (at-other-row i r b m)) (λ i _ _. at-other-row i r b m) refl (λ _. refl) refl (h .row r b))
+      (order-stays s (granted s row slot mode arrival back .state) (h .order) refl (λ r b. elim (ℕ-discrete r row) [
+        | yes e ↦ rw (e, row-same t tz row (grantedRow s row arrival) (g .asking .row-is)) (live-taken (cond (leb arrival (s .clock)) Idle (Fetching arrival)) (live (leb arrival (s .clock))) ∙ sym (live-taken (rowAt s row .condition) (g .asking .live)))
+        | no e ↦ rw (row-other t tz row (grantedRow s row arrival) r e)
+      ]))
     where
+      tz : Sized t
+      tz = sized-put-holding u uz slot row k
+
       live : (b : Bool) → isLive (cond b Idle (Fetching arrival)) ≡ true
       live true = refl
       live false = refl

@@ -1,9 +1,10 @@
 -- A call that changes one row's condition, or takes the pin of one of its holdings, leaves a sound state sound: begin, a wait, unpin.
-use mathlib.Core.Path.{_≡_, refl, sym, ap}
+use mathlib.Core.Path.{_≡_, refl, sym, _∙_, ap}
 use mathlib.Core.Bool.{true, false}
 use Prim.Native.Nat.{ℕ, _<_, _≤_}
 use native.Mathlib.Omega.{arith}
 use native.Mathlib.Decide.{ℕ-discrete}
+use lib.ListN.{set, length-set}
 use Rattle.seq.proofs.Tests.{true-false, false-not}
 use Rattle.model.specs.declared.Mode.{Mode}
 use Rattle.model.specs.declared.Condition.the-variants.{Free, Idle, Waiting}
@@ -12,23 +13,24 @@ use Rattle.model.specs.declared.Slot.{Slot}
 use Rattle.model.specs.declared.Holding.{Holding}
 use Rattle.model.specs.declared.State.{State}
 use Rattle.model.specs.Parties.{levelOf, mayAccess, isPast}
-use Rattle.model.specs.State.{rowAt, slotAt, holdingAt, withBegun, putRow, putSlot, putHolding}
-use Rattle.model.specs.Words.{isLive, holds}
+use Rattle.model.specs.State.{rowAt, slotAt, holdingAt, withBegun, withPlaces, putRow, putSlot, putHolding}
+use Rattle.model.specs.Words.{isFree, isLive, holds}
 use Rattle.model.specs.Changes.{written}
 use Rattle.model.proofs.StateLaws.{Sized, sized-put-row, sized-put-slot, sized-put-holding}
 use Rattle.model.proofs.PutLaws.{row-same, row-other, slot-same, slot-other, holding-same, holding-other-slot, holding-other-row}
-use Rattle.rules.specs.Calls.{unpinnedAt, waiting}
-use Rattle.rules.proofs.Facts.SoundFacts.{Settled, RowSound, Sound}
+use Rattle.rules.specs.Calls.{lastPlace, rowBegun, unpinnedAt, waiting}
+use Rattle.rules.proofs.Facts.SoundFacts.{Settled, RowSound, OrderSound, Sound, live-taken}
 use Rattle.rules.proofs.Leaves.UnpinLaws.{unpinnedHolding, unpinnedSlot}
-use Rattle.rules.proofs.Stays.StaysBase.{Base, base, whole, SlotStays, slot-stays, slot-marked, marked-touch, HoldingStays, same, loose}
+use Rattle.rules.proofs.Stays.StaysBase.{Base, base, base-places, whole, SlotStays, slot-stays, slot-marked, marked-touch, HoldingStays, same, loose}
 use Rattle.rules.proofs.Stays.StaysChange.{old-slot, old-holding, base-change}
+use Rattle.rules.proofs.Stays.StaysOrder.{order-stays, order-begun}
 use Rattle.rules.proofs.Stays.StaysRows.{settled-stays, condition-stays, row-stays}
 use Rattle.rules.proofs.Stays.StaysSetting.{set-sound}
 
--- another row put in place of one: it is live, and its condition is sound
+-- another row put in place of one: it is live, its condition is sound, and so are the begin orders then
 pub put-row-sound : (s : State) (row : ℕ) (x : Row) → row < 32 → Base s → isLive (x .condition) ≡ true → RowSound s row (x .condition) (x .deadline)
-    → ((r : ℕ) → r < 32 → (r ≡ row → ⊥) → RowSound s r (rowAt s r .condition) (rowAt s r .deadline)) → Sound (putRow s row x)
-put-row-sound s row x b h live own others =
+    → ((r : ℕ) → r < 32 → (r ≡ row → ⊥) → RowSound s r (rowAt s r .condition) (rowAt s r .deadline)) → OrderSound (putRow s row x) → Sound (putRow s row x)
+put-row-sound s row x b h live own others order =
     whole (putRow s row x) (base-change s (putRow s row x) h (record {
       sized = sized-put-row s (h .sized) row x;
       size = refl;
@@ -47,25 +49,36 @@ put-row-sound s row x b h live own others =
       | yes e ↦ rw (e, row-same s (h .sized) row x b) (condition-stays s (putRow s row x) row (λ i _. same refl) (λ i _ _. refl) refl (x .condition) (x .deadline) (λ _. refl) own)
       | no e ↦ row-stays s (putRow s row x) r (λ i _. same refl) (λ i _ _. refl) refl (λ _. refl) (row-other s (h .sized) row x r e) (others r g e)
     ])
+    order
 
 -- begin: a free row has no holdings
 pub begun-sound : (s : State) (row deadline : ℕ) → row < 32 → Sound s → rowAt s row .condition ≡ Free → isPast (s .clock) deadline ≡ false
-    → Sound (putRow (withBegun s) row (record { condition = Idle; deadline = deadline }))
+    → Sound (rowBegun s row deadline)
 begun-sound s row deadline b h free e =
     let m = set-sound s (s .borders) true h (λ _ _ _. refl) in
-    put-row-sound (withBegun s) row (record { condition = Idle; deadline = deadline }) b (base (withBegun s) m) refl
+    let x : Row = record { condition = Idle; deadline = deadline } in
+    let places = set (s .places) row (lastPlace s (levelOf row)) in
+    let long = length-set (s .places) row (lastPlace s (levelOf row)) ∙ h .sized .places in
+    put-row-sound (withPlaces (withBegun s) places) row x b (base-places (withBegun s) places (base (withBegun s) m) long) refl
     (record {
       deadline = false-not (isPast (s .clock) deadline) e;
       arrived = λ i g w. true-false (sym (rw free at (h .held i row g b w .live)));
     })
-    (λ r g _. m .row r g)
+    (λ r g _. row-stays (withBegun s) (withPlaces (withBegun s) places) r (λ i _. same refl) (λ i _ _. refl) refl (λ _. refl) refl (m .row r g))
+    (order-begun s (rowBegun s row deadline) (h .sized) (h .order) row b (λ r g n. ap (λ (y : Row). isFree (y .condition)) (row-other s (h .sized) row x r n)) refl (rw free)
+    (ap (λ (y : Row). isFree (y .condition)) (row-same s (h .sized) row x b)))
 
 -- a wait
-pub waiting-sound : (s : State) (row page : ℕ) (mode : Mode) → row < 32 → Sound s → Settled s row (rowAt s row .deadline) → page ≤ 4095 → mayAccess (s .borders) (levelOf row) page mode ≡ true
+pub waiting-sound : (s : State) (row page : ℕ) (mode : Mode) → row < 32 → Sound s → isLive (rowAt s row .condition) ≡ true → Settled s row (rowAt s row .deadline) → page ≤ 4095 → mayAccess (s .borders) (levelOf row) page mode ≡ true
     → Sound (waiting s row page mode .state)
 unfolding waiting
-waiting-sound s row page mode b h own p m =
-    put-row-sound s row (record { condition = Waiting page mode; deadline = rowAt s row .deadline }) b (base s h) refl (own, p, m) (λ r g _. h .row r g)
+waiting-sound s row page mode b h live own p m =
+    let x : Row = record { condition = Waiting page mode; deadline = rowAt s row .deadline } in
+    put-row-sound s row x b (base s h) refl (own, p, m) (λ r g _. h .row r g)
+    (order-stays s (putRow s row x) (h .order) refl (λ r g. elim (ℕ-discrete r row) [
+      | yes e ↦ rw (e, row-same s (h .sized) row x b) (sym (live-taken (rowAt s row .condition) live))
+      | no e ↦ rw (row-other s (h .sized) row x r e)
+    ]))
 
 -- unpin, of an idle row
 pub unpinned-sound : (s : State) (row slot : ℕ) → row < 32 → slot < 64 → Sound s → rowAt s row .condition ≡ Idle → holds s slot row ≡ true → Sound (unpinnedAt s row slot)
@@ -89,6 +102,7 @@ unpinned-sound s row slot b c h idle own =
       | yes e ↦ rw (e, idle) (settled-stays s t row (λ i f. holdings i row f b) (rowAt s row .deadline) (rowAt s row .deadline) (omega arith) (own-row .deadline) own-row)
       | no e ↦ row-stays s t r (λ i f. holdings i r f g) (λ i f _. holding-other-row u uz slot row k i r b g e) refl (λ _. refl) refl (h .row r g)
     ])
+    (order-stays s t (h .order) refl (λ _ _. refl))
   where
     y : Slot
     y = unpinnedSlot s row slot

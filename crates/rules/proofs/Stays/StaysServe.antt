@@ -17,12 +17,12 @@ use Rattle.model.specs.Words.{isFilled, pageIn, arrivalIn, isPin, pinOf, pins, 
 use Rattle.model.specs.Changes.{released, killed, cleared, wroteSlot}
 use Rattle.model.proofs.ChangeLaws.{killed-slot, killed-holding}
 use Rattle.model.proofs.ContentLaws.{has-page}
-use Rattle.model.proofs.PinLaws.{no-pin, not-pinned}
+use Rattle.model.proofs.PinLaws.{no-pin, not-pinned, pin-held}
 use Rattle.model.proofs.SeenLaws.{dormant-unheld, not-seen}
 use Rattle.model.proofs.ArrivalLaws.{least-is, least-first}
 use Rattle.rules.specs.Calls.{waiting, granted, conflicts, step2, step3, pinnersKilled, writeBack, filled, unseenAt, hitsDormant, served}
 use Rattle.rules.specs.Choice.{chosen}
-use Rattle.rules.proofs.Facts.SoundFacts.{Sound}
+use Rattle.rules.proofs.Facts.SoundFacts.{Sound, held-taken}
 use Rattle.rules.proofs.Leaves.PageLaws.{found-slot, not-found}
 use Rattle.rules.proofs.Leaves.FillLaws.{filled-at, filled-empty}
 use Rattle.rules.proofs.Leaves.ServeCases.{Step, wait-1, grant-1, grant-2, grant-3, wait-g, fill, step}
@@ -37,7 +37,7 @@ use Rattle.rules.proofs.Stays.StaysTaken.{asking-killed, killed-granted
 
 module _ (s : State) (row page : ℕ) (mode : Mode) (h : Sound s) (a : Asking s row) (p : page ≤ 4095) (m : mayAccess (s .borders) (levelOf row) page mode ≡ true) where
   wait-sound : Sound (waiting s row page mode .state)
-  wait-sound = waiting-sound s row page mode (a .row-is) h (a .settled) p m
+  wait-sound = waiting-sound s row page mode (a .row-is) h (a .live) (a .settled) p m
 
   module _ (slot : ℕ) (b : slot < 64) (f : isFilled (slotAt s slot .content) ≡ true) (e : pageIn (slotAt s slot .content) ≡ page) where
     -- granted by each of the steps 1 to 3
@@ -96,7 +96,7 @@ module _ (s : State) (row page : ℕ) (mode : Mode) (h : Sound s) (a : Asking s 
     unfolding pinnersKilled killed released filled cleared
     fill-sound =
         let x = chosen-free s row (a .row-is) h slot c in
-        let k = killed-sound (pins s slot) Taken s h in
+        let k = killed-sound (pins s slot) Taken s h (λ r b w. held-taken s h slot r (omega (arith, x .0, h .size-most)) b (pin-held (holdingAt s slot r .pin) w)) in
         let y = asking-killed (pins s slot) Taken s row h (x .1) a in
         granted-sound (filled n slot page (levelOf row)) row slot mode (s .clock + s .delay)
         (filled-sound n slot page (levelOf row) k (x .0) p (omega (arith, a .row-is)) loose absent)

@@ -35,7 +35,7 @@ stays-facts s c h y = go (outcome s c) (effect s c)
     go o (unpins level number page slot q t f p e) =
         let row = rowOf level number in
         rw e (unpinned-sound s row slot (t .names .row-is) (found-below s h page slot f) h (t .idle) (pin-held (holdingAt s slot row .pin) p))
-    go o (ends level number q n e) = rw e (ended-sound s (rowOf level number) (n .row-is) h)
+    go o (ends level number q n e) = rw e (ended-sound s (rowOf level number) (n .names .row-is) h (n .taken))
     go o (ticks room q w k e) = rw e (tried-facts (threeSteps s) (ticked-sound s h k) (ticked-borders s h y) .0)
     go o (sets b q t e) = rw e (bordered-sound s b h y (t .unbegun))
     go o (serves row page mode b a i e) =

@@ -4,6 +4,7 @@ use mathlib.Core.Bool.{Bool, true, false, cond}
 use Prim.Native.Nat.{ℕ, _+_, _<_, _≤_}
 use native.Mathlib.Omega.{arith}
 use borrow.Author.Tests.{ne-eqb}
+use Rattle.seq.proofs.Tests.{true-false, not-false-true}
 use Rattle.model.specs.declared.Back.the-variants.{Nothing}
 use Rattle.model.specs.declared.Cause.{Cause}
 use Rattle.model.specs.declared.Cause.the-variants.{Taken}
@@ -16,8 +17,8 @@ use Rattle.model.specs.Changes.{killed, wroteSlot}
 use Rattle.model.proofs.ChangeLaws.{killed-row, killed-slot, killed-holding, killed-clock, killed-delay, killed-borders}
 use Rattle.model.proofs.PinLaws.{no-pin}
 use Rattle.rules.specs.Calls.{granted, conflicts}
-use Rattle.rules.proofs.Facts.SoundFacts.{Sound}
-use Rattle.rules.proofs.Leaves.GrantLaws.{own-spared}
+use Rattle.rules.proofs.Facts.SoundFacts.{Sound, held-taken}
+use Rattle.rules.proofs.Leaves.GrantLaws.{own-spared, unheld-spared}
 use Rattle.rules.proofs.Stays.StaysBase.{slot-marked, same}
 use Rattle.rules.proofs.Stays.StaysRows.{settled-stays}
 use Rattle.rules.proofs.Stays.StaysDrop.{killed-sound}
@@ -53,7 +54,7 @@ module _ (s : State) (row : ℕ) (mode : Mode) (h : Sound s) (a : Asking s row) 
       let some = conflicts s row slot mode in
       let k = slot-marked (wroteSlot some s slot) (slotAt s slot) (slotAt (killed some Taken s) slot) (killed-slot some s (h .sized) Taken slot b) in
       let own : holdingAt (killed some Taken s) slot row ≡ holdingAt s slot row = killed-holding some s (h .sized) Taken slot row (a .row-is) ∙ rw (own-spared s row slot mode) in
-      granted-sound (killed some Taken s) row slot mode arrival (killed-sound some Taken s h)
+      granted-sound (killed some Taken s) row slot mode arrival (killed-sound some Taken s h (λ r g w. held-taken s h slot r b g (not-false-true (holds s slot r) (λ e. true-false (sym w ∙ unheld-spared s row slot mode r e)))))
       (record {
         asking = asking-killed some Taken s row h (own-spared s row slot mode) a;
         slot-is = b;

@@ -15,10 +15,11 @@ use Rattle.model.specs.State.{rowAt, slotAt, holdingAt}
 use Rattle.model.specs.Words.{isLive, holds, pins}
 use Rattle.rules.specs.Sound.{awaits, inTime}
 use Rattle.rules.specs.Calls.{delivered, deliveredRow, deliveredRows, isLate, lateKilled, advanced}
-use Rattle.rules.proofs.Facts.SoundFacts.{RowSound, Sound}
-use Rattle.rules.proofs.Leaves.TickLaws.{later, delivered-live, sized-later, later-row}
+use Rattle.rules.proofs.Facts.SoundFacts.{RowSound, OrderSound, Sound, live-taken}
+use Rattle.rules.proofs.Leaves.TickLaws.{later, delivered-live, delivered-free, sized-later, later-row}
 use Rattle.rules.proofs.Stays.StaysBase.{Base, base, slot-stays, same}
 use Rattle.rules.proofs.Stays.StaysChange.{old-slot, old-holding, base-change}
+use Rattle.rules.proofs.Stays.StaysOrder.{order-stays}
 use Rattle.rules.proofs.Stays.StaysRows.{settled-stays, awaiting-stays}
 use Rattle.rules.proofs.Stays.StaysDrop.{killed-rest}
 
@@ -65,6 +66,13 @@ module _ (s : State) (h : Sound s) where
   unfolding isLate deliveredRows advanced deliveredRow
   next-rows r b e = rw (later-row s (h .sized) r b) (delivered-sound r (rowAt s r .condition) (rowAt s r .deadline) (h .row r b) (rw (later-row s (h .sized) r b) at e))
 
+  -- no row is delivered from free or to it
+  next-order : OrderSound (later s)
+  unfolding deliveredRows advanced deliveredRow
+  next-order = order-stays s (later s) (h .order) refl (λ r b. rw (later-row s (h .sized) r b) (delivered-free (s .clock + 1) (rowAt s r .condition)))
+
   pub ticked-sound : s .clock < lastClock → Sound (lateKilled (later s))
-  unfolding lateKilled
-  ticked-sound early = killed-rest (isLate (later s)) Late (later s) (next-base early) next-rows
+  unfolding lateKilled isLate
+  ticked-sound early =
+      killed-rest (isLate (later s)) Late (later s) (next-base early) next-rows next-order
+      (λ r b e. live-taken (rowAt (later s) r .condition) (and-true (isLive (rowAt (later s) r .condition)) (isPast (later s .clock) (rowAt (later s) r .deadline)) e .0))

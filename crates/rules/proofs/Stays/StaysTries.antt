@@ -17,14 +17,15 @@ use Rattle.model.specs.declared.Mode.{Mode}
 use Rattle.model.specs.declared.Outcome.{Outcome}
 use Rattle.model.specs.declared.State.{State}
 use Rattle.model.specs.Parties.{levelOf}
-use Rattle.model.specs.State.{rowAt, slotAt}
+use Rattle.model.specs.State.{rowAt, slotAt, holdingAt}
 use Rattle.model.specs.Words.{pins}
+use Rattle.model.proofs.PinLaws.{pin-held}
 use Rattle.model.specs.Changes.{killed}
 use Rattle.rules.specs.Answers.{pageBack, slotTold, backTold}
 use Rattle.rules.specs.Calls.{waiting, granted, pinnersKilled, writeBack, filled, served}
 use Rattle.rules.specs.Sound.{sound}
 use Rattle.rules.specs.Tries.{Tried, triedAs, tryRow, tries, waiters, allTried}
-use Rattle.rules.proofs.Facts.SoundFacts.{Sound, BordersSound, facts, borders-facts}
+use Rattle.rules.proofs.Facts.SoundFacts.{Sound, BordersSound, facts, borders-facts, held-taken}
 use Rattle.rules.proofs.Facts.SoundBack.{back}
 use Rattle.rules.proofs.Leaves.PageLaws.{found-below}
 use Rattle.rules.proofs.Leaves.SettingLaws.{served-unset}
@@ -113,6 +114,6 @@ served-told s h row page mode b = go (served s row page mode) (serving s row pag
     go o (fills slot e n k) =
         let x = chosen-free s row b h slot n .0 in
         let w : slot < 64 = omega (arith, h .size-most) in
-        let m = back-most (killed (pins s slot) Taken s) (killed-sound (pins s slot) Taken s h) slot w in
+        let m = back-most (killed (pins s slot) Taken s) (killed-sound (pins s slot) Taken s h (λ r g v. held-taken s h slot r w g (pin-held (holdingAt s slot r .pin) v))) slot w in
         let t = granted-told (filled (pinnersKilled s slot) slot page (levelOf row)) row slot mode (s .clock + s .delay) (writeBack (slotAt (pinnersKilled s slot) slot)) in
         rw k (omega (arith, t .0), omega (arith, t .1))

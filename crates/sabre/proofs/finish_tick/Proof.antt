@@ -20,7 +20,7 @@ fill-requires c κs =
     let o = t .before .before .before .before in
     let n = ne-eqb (word (o .args .r .answer)) 0 (λ q. e .if1 .left (told-word _ _ (t .tell .ensures .1) ∙ q)) in
     let f = o .pre .3 n in
-    (o .pre .0, o .pre .1, f .0, f .1)
+    (o .pre .0, o .pre .1, f .0, f .1, f .2)
 
 returns-2 : tie.Need-returns-2
 returns-2 c =

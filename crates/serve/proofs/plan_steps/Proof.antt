@@ -29,7 +29,7 @@ least-arrival-requires c κs = search needs
 
 returns : tie.Need-returns
 returns c = let a = c .before .before .before .before .before .before .args in
-    plan-seen (a .held) (a .rows) (a .x) (a .row) (a .mode) (a .due) (c .before .before .before .before .before .mark-rows .result) (c .before .before .before .before .before .mark-rows .ensures) (c .before .before .before .before .see .result) (c .before .before .before .before .see .ensures) (c .before .before .before .if1 .taken)
+    plan-seen (a .held) (a .rows) (a .places) (a .x) (a .row) (a .mode) (a .due) (c .before .before .before .before .before .mark-rows .result) (c .before .before .before .before .before .mark-rows .ensures) (c .before .before .before .before .see .result) (c .before .before .before .before .see .ensures) (c .before .before .before .if1 .taken)
     (c .before .before .ranks .result) (c .before .must-wait .result) (c .least-arrival .result) (c .before .before .ranks .ensures) (c .before .must-wait .ensures) (c .least-arrival .ensures)
 
 see-dormant-requires : tie.Need-see-dormant-requires
@@ -40,12 +40,12 @@ arrival-in-requires c κs = search needs
 
 returns-2 : tie.Need-returns-2
 returns-2 c = let a = c .before .before .before .before .before .before .args in
-    plan-dormant (a .held) (a .rows) (a .x) (a .row) (a .mode) (a .due) (c .before .before .before .before .before .mark-rows .result) (c .before .before .before .before .before .mark-rows .ensures) (c .before .before .before .before .see .result) (c .before .before .before .before .see .ensures) (c .before .before .before .if1 .left)
+    plan-dormant (a .held) (a .rows) (a .places) (a .x) (a .row) (a .mode) (a .due) (c .before .before .before .before .before .mark-rows .result) (c .before .before .before .before .before .mark-rows .ensures) (c .before .before .before .before .see .result) (c .before .before .before .before .see .ensures) (c .before .before .before .if1 .left)
     (c .before .before .see-dormant .result) (c .before .before .see-dormant .ensures) (c .before .if2 .taken) (c .arrival-in .result) (c .arrival-in .ensures)
 
 returns-3 : tie.Need-returns-3
 returns-3 c = let a = c .before .before .before .before .before .args in
-    plan-unseen (a .held) (a .rows) (a .x) (a .row) (a .mode) (a .due) (c .before .before .before .before .mark-rows .result) (c .before .before .before .before .mark-rows .ensures) (c .before .before .before .see .result) (c .before .before .before .see .ensures) (c .before .before .if1 .left)
+    plan-unseen (a .held) (a .rows) (a .places) (a .x) (a .row) (a .mode) (a .due) (c .before .before .before .before .mark-rows .result) (c .before .before .before .before .mark-rows .ensures) (c .before .before .before .see .result) (c .before .before .before .see .ensures) (c .before .before .if1 .left)
     (c .before .see-dormant .result) (c .before .see-dormant .ensures) (c .if2 .left)
 
 pub plan-steps-spec : {M : Type 1} → statement M

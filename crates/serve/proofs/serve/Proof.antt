@@ -89,9 +89,9 @@ wait-requires-2 : tie.Need-wait-requires-2
 wait-requires-2 c κs = search needs
 
 returns-3 : tie.Need-returns-3
-returns-3 c = let o = c .before .before .before .before .before .before .before .before .before .before .before .before in
+returns-3 c = let o = c .before .before .before .before .before .before .before .before .before .before .before .before .before in
     serve-plan-wait (o .args .t1) (o .args .row) (o .args .page) (o .args .mode) (state-ok (o .args .t1) _ (o .good .0) .sized) (o .pre .1)
-    (c .before .before .before .before .before .before .before .before .before .find-page .result) (c .before .before .before .before .before .before .before .before .before .find-page .ensures) (c .before .before .before .before .before .before .before .slot .given .0 .0) (c .before .before .before .before .before .before .before .slot .given .1) (c .before .before .before .before .before .holdings-on2 .result) (c .before .before .before .before .before .holdings-on2 .ensures)
+    (c .before .before .before .before .before .before .before .before .before .before .find-page .result) (c .before .before .before .before .before .before .before .before .before .before .find-page .ensures) (c .before .before .before .before .before .before .before .before .slot .given .0 .0) (c .before .before .before .before .before .before .before .before .slot .given .1) (c .before .before .before .before .before .before .holdings-on2 .result) (c .before .before .before .before .before .before .holdings-on2 .ensures)
     (c .before .before .before .plan-steps .result) (c .before .before .before .plan-steps .ensures) (c .before .before .if1 .taken) (c .wait2 .result) (c .wait2 .ensures)
 
 released-slots-requires-2 : tie.Need-released-slots-requires-2
@@ -101,18 +101,18 @@ take-rows-requires : tie.Need-take-rows-requires
 take-rows-requires c κs = search needs
 
 grant-requires : tie.Need-grant-requires
-grant-requires c κs = let o = c .before .before .before .before .before .before .before .before .before .before .before .before .before in (
-  taken-slot (leaving (o .args .t1) (c .before .released-slots2 .result) (c .before .before .before .before .plan-steps .result .marks) (c .before .before .before .before .before .before .before .before .slot .given .0 .0) (c .before .before .before .before .before .before .holdings-on2 .result)) (c .take-rows .result) (c .take-rows .ensures)
-      (found-at (o .args .t1) (o .args .row) (o .args .page) (o .args .mode) (c .before .before .before .before .before .before .before .before .before .before .find-page .result) (c .before .before .before .before .before .before .before .before .slot .given .0 .0) (o .pre .0) (c .before .before .before .before .before .before .before .before .before .before .find-page .ensures) (c .before .before .before .before .before .before .before .before .slot .given .1)),
+grant-requires c κs = let o = c .before .before .before .before .before .before .before .before .before .before .before .before .before .before in (
+  taken-slot (leaving (o .args .t1) (c .before .released-slots2 .result) (c .before .before .before .before .plan-steps .result .marks) (c .before .before .before .before .before .before .before .before .before .slot .given .0 .0) (c .before .before .before .before .before .before .before .holdings-on2 .result)) (c .take-rows .result) (c .take-rows .ensures)
+      (found-at (o .args .t1) (o .args .row) (o .args .page) (o .args .mode) (c .before .before .before .before .before .before .before .before .before .before .before .find-page .result) (c .before .before .before .before .before .before .before .before .before .slot .given .0 .0) (o .pre .0) (c .before .before .before .before .before .before .before .before .before .before .before .find-page .ensures) (c .before .before .before .before .before .before .before .before .before .slot .given .1)),
   o .pre .1,
 )
 
 returns-4 : tie.Need-returns-4
-returns-4 c = let o = c .before .before .before .before .before .before .before .before .before .before .before .before .before .before in
+returns-4 c = let o = c .before .before .before .before .before .before .before .before .before .before .before .before .before .before .before in
     serve-plan-grant (o .args .t1) (o .args .row) (o .args .page) (o .args .mode) (state-ok (o .args .t1) _ (o .good .0) .sized) (o .pre .1)
-    (c .before .before .before .before .before .before .before .before .before .before .before .find-page .result) (c .before .before .before .before .before .before .before .before .before .before .before .find-page .ensures) (c .before .before .before .before .before .before .before .before .before .slot .given .0 .0) (c .before .before .before .before .before .before .before .before .before .slot .given .1) (c .before .before .before .before .before .before .before .holdings-on2 .result) (c .before .before .before .before .before .before .before .holdings-on2 .ensures)
+    (c .before .before .before .before .before .before .before .before .before .before .before .before .find-page .result) (c .before .before .before .before .before .before .before .before .before .before .before .before .find-page .ensures) (c .before .before .before .before .before .before .before .before .before .before .slot .given .0 .0) (c .before .before .before .before .before .before .before .before .before .before .slot .given .1) (c .before .before .before .before .before .before .before .before .holdings-on2 .result) (c .before .before .before .before .before .before .before .before .holdings-on2 .ensures)
     (c .before .before .before .before .before .plan-steps .result) (c .before .before .before .before .before .plan-steps .ensures) (c .before .before .before .before .if1 .left)
-    (found-at (o .args .t1) (o .args .row) (o .args .page) (o .args .mode) (c .before .before .before .before .before .before .before .before .before .before .before .find-page .result) (c .before .before .before .before .before .before .before .before .before .slot .given .0 .0) (o .pre .0) (c .before .before .before .before .before .before .before .before .before .before .before .find-page .ensures) (c .before .before .before .before .before .before .before .before .before .slot .given .1))
+    (found-at (o .args .t1) (o .args .row) (o .args .page) (o .args .mode) (c .before .before .before .before .before .before .before .before .before .before .before .before .find-page .result) (c .before .before .before .before .before .before .before .before .before .before .slot .given .0 .0) (o .pre .0) (c .before .before .before .before .before .before .before .before .before .before .before .before .find-page .ensures) (c .before .before .before .before .before .before .before .before .before .before .slot .given .1))
     (c .before .before .released-slots2 .result) (c .before .take-rows .result) (c .grant .result) (c .before .before .released-slots2 .ensures) (c .before .take-rows .ensures) (c .grant .ensures)
 
 pub serve-spec : {M : Type 1} → statement M

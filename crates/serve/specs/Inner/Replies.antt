@@ -35,12 +35,12 @@ waitReply clock rows slots row page mode = record {
   answer = Wait;
 }
 
--- steps 1 to 3 in the slot that has the page, from the slot, its 32 holdings and the rows
-unfoldable pub planned : List Holding → List Row → Slot → ℕ → Mode → ℕ → Plan
-planned held rows x row mode due =
+-- steps 1 to 3 in the slot that has the page, from the slot, its 32 holdings, the rows and their places
+unfoldable pub planned : List Holding → List Row → List ℕ → Slot → ℕ → Mode → ℕ → Plan
+planned held rows places x row mode due =
     let marks = marksOf held (Conflicting row mode) in
     cond (seenIn held (levelOf row))
-    (record { wait = mustWaitIn marks (ranksOf rows) row; marks = marks; arrival = leastIn held (levelOf row) })
+    (record { wait = mustWaitIn marks (ranksOf rows places) row; marks = marks; arrival = leastIn held (levelOf row) })
     (cond (seesDormantIn held x (levelOf row)) (record { wait = false; marks = replicate 32 false; arrival = arrivalIn (x .content) })
     (record { wait = false; marks = marks; arrival = due }))
 

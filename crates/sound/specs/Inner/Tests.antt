@@ -1,4 +1,4 @@
--- For the code; proved equal to soundSlot, soundRow, soundHolding, soundPins, soundPages and soundBorders, proofs/ElementLaws, PinLaws and PageLaws: the tests of what sound means, most of
+-- For the code; proved equal to soundSlot, soundRow, soundHolding, soundPins, soundPages, soundBorders and soundOrder, proofs/ElementLaws, PinLaws and PageLaws: the tests of what sound means, most of
 -- one element of the state and the numbers that it is compared with. `latest` is the tick clock + delay.
 use mathlib.Core.Bool.{Bool, false, cond, _&&_, _||_, not}
 use mathlib.Core.List.{List}
@@ -17,9 +17,10 @@ use Rattle.model.specs.declared.Row.{Row}
 use Rattle.model.specs.declared.Slot.{Slot}
 use Rattle.model.specs.declared.Holding.{Holding}
 use Rattle.model.specs.declared.Borders.{Borders}
-use Rattle.model.specs.Parties.{areBorders, mayAccess, lastClock, isPast}
+use Rattle.model.specs.Parties.{rowOf, areBorders, mayAccess, lastClock, isPast}
 use Rattle.model.specs.State.{freeRow, emptySlot}
 use Rattle.model.specs.Words.{isFree, isLive, isFilled, arrivalIn, lowestIn, isHeld, isPin}
+use Rattle.model.specs.Changes.{rowsNotFree}
 use Rattle.rules.specs.Sound.{pinAllowed}
 
 unfoldable pub inRange : ℕ → ℕ → ℕ → Bool
@@ -105,6 +106,26 @@ unfoldable pub bordersTest : Borders → Bool → List Row → List Slot → Boo
 bordersTest b begun rows slots =
     areBorders b
     && (begun || (allBelow 32 (λ row. isFree (getD rows row freeRow .condition)) && allBelow 64 (λ slot. not (isFilled (getD slots slot emptySlot .content)))))
+
+-- a row's place in the begin order of its level, by whether it is free and the most that the place may be
+unfoldable pub placeTest : Bool → ℕ → ℕ → Bool
+placeTest free place most = cond free (eqb place 0) (leb 1 place && leb place most)
+
+-- a row of a level has a place from 1 to the most, or is free and has none
+abbrev pub placedAt : List Row → List ℕ → ℕ → ℕ → ℕ → Bool
+placedAt rows places level most number = placeTest (isFree (getD rows (rowOf level number) freeRow .condition)) (getD places (rowOf level number) 0) most
+
+-- two rows of a level have one place
+abbrev pub samePlaceAt : List ℕ → ℕ → ℕ → ℕ → Bool
+samePlaceAt places level number other = ltb 0 (getD places (rowOf level number) 0) && eqb (getD places (rowOf level number) 0) (getD places (rowOf level other) 0)
+
+-- no row of a level before this one has its place
+abbrev pub aloneAt : List ℕ → ℕ → ℕ → Bool
+aloneAt places level number = allBelow number (λ other. not (samePlaceAt places level number other))
+
+-- the begin order of a level, by the rows and their places
+unfoldable pub orderTest : List Row → List ℕ → ℕ → Bool
+orderTest rows places level = allBelow 8 (placedAt rows places level (rowsNotFree rows level)) && allBelow 8 (aloneAt places level)
 
 -- the weight of a pin: the pins of 32 rows weigh at most 64 together just where no two of them conflict
 abbrev pub pinWeight : Pin → ℕ
