@@ -7,6 +7,13 @@
  * written. The area may stand at any address, with any alignment. The library
  * keeps no state of its own: two areas are two buffer managers.
  *
+ * An older area. Ticks and deadlines have 64 bits, in layout version 4. A sound area of
+ * version 3, the last with 32 bits, is taken as well: sabre_look, sabre_view and
+ * sabre_count answer from it and leave it as it is, as every refused call does; any other
+ * call that is accepted, but sabre_start, goes on from its state, and leaves an area of
+ * version 4, which the library of version 3 refuses. Every call but sabre_start refuses
+ * an area of another version.
+ *
  * The answer. Each call, refused or not, fills all of `answer`:
  *   answer[0]  the word, of enum sabre_word
  *   answer[1]  the value, 0 if the word has none:
@@ -55,9 +62,9 @@
  * a call runs on the machine is no part of an answer, and may depend on the whole
  * state.
  *
- * The stack. A tick needs up to 246 KiB of the caller's stack, any other call up to
- * 160 KiB. Nothing is allocated elsewhere, and no call recurses. `host stack` measures
- * it (host/README.md) and fails at 512 KiB.
+ * The stack. A tick needs up to 343 KiB of the caller's stack, a request up to 290 KiB,
+ * any other call up to 169 KiB. Nothing is allocated elsewhere, and no call recurses.
+ * `host stack` measures it (host/README.md) and fails at 512 KiB.
  */
 #ifndef SABRE_H
 #define SABRE_H
@@ -77,8 +84,8 @@ extern "C" {
 #define SABRE_ENTRY_SIZE 8
 #define SABRE_ENTRIES 32
 
-/* The version of the layout of docs/LAYOUT.md, which stands in an area from byte 8 on. */
-#define SABRE_LAYOUT_VERSION 3
+/* The version of the layout of docs/LAYOUT.md that is written; it stands in an area from byte 8 on. */
+#define SABRE_LAYOUT_VERSION 4
 
 /* answer[0]. Other words may be added at the end. */
 enum sabre_word {
@@ -108,7 +115,7 @@ enum sabre_word {
 /* What a call returns. */
 enum sabre_refusal {
     SABRE_ACCEPTED = 0,
-    SABRE_REFUSAL_AREA = 1,         /* area under 65,536 bytes, or (not for start) unsound */
+    SABRE_REFUSAL_AREA = 1,         /* area under 65,536 bytes, or (not for start) unsound in versions 4 and 3 */
     SABRE_REFUSAL_SLOTS = 2,        /* slots not 1 to 64 */
     SABRE_REFUSAL_DELAY = 3,        /* delay not 1 to 255 */
     SABRE_REFUSAL_LEVEL = 4,        /* level above 3 */
@@ -124,7 +131,7 @@ enum sabre_refusal {
     SABRE_REFUSAL_WRITE_BELOW = 14, /* the page's class is below the level */
     SABRE_REFUSAL_NOT_PINNED = 15,  /* the row does not pin the page */
                                     /* 16 is not used */
-    SABRE_REFUSAL_LAST_CLOCK = 17,  /* the clock is 4,000,000,000 */
+    SABRE_REFUSAL_LAST_CLOCK = 17,  /* the clock is 9,000,000,000,000,000,000 */
     SABRE_REFUSAL_RECORD = 18,      /* bad record: the player's, no call returns it */
     SABRE_REFUSAL_BORDERS = 19,     /* the borders fall, or exceed 4,096 */
     SABRE_REFUSAL_HAS_BEGUN = 20,   /* a row has begun since the start */
@@ -144,7 +151,7 @@ enum sabre_mode {
  * delay  1 to 255, the ticks charged for every page that a level does not see
  * Answers started. Refusals 1 (a short area alone), 2, 3.
  */
-uint32_t sabre_start(uint8_t *area, size_t len, uint32_t slots, uint32_t delay, uint64_t answer[4]);
+uint32_t sabre_start(uint8_t *area, size_t len, uint32_t slots, uint64_t delay, uint64_t answer[4]);
 
 /*
  * Begins a transaction in a free row. Of rows of one level with equal deadlines the one that
@@ -155,7 +162,7 @@ uint32_t sabre_start(uint8_t *area, size_t len, uint32_t slots, uint32_t delay, 
  *           above it kills the row as late
  * Answers begun. Refusals 1, 4, 5, 8, 12.
  */
-uint32_t sabre_begin(uint8_t *area, size_t len, uint32_t level, uint32_t row, uint32_t deadline, uint64_t answer[4]);
+uint32_t sabre_begin(uint8_t *area, size_t len, uint32_t level, uint32_t row, uint64_t deadline, uint64_t answer[4]);
 
 /*
  * An idle row asks for a page.

@@ -1,7 +1,7 @@
-//! Time for each call as a ratio to copying 65,536 bytes, and to src/plain.rs, in the same run.
+//! Time for each call as a ratio to src/plain.rs, which has a limit, and to copying 65,536 bytes, which
+//! depends on the machine and has none, in the same run.
 
 use crate::calls::*;
-use crate::model::{Condition, Row};
 use crate::plain::PLAIN;
 use crate::states::{calls_on, more_states, states};
 use std::hint::black_box;
@@ -53,31 +53,39 @@ fn time_call(manager: &Manager, from: &[u8], area: &mut [u8], call: &Call) -> f6
     begun.elapsed().as_nanos() as f64
 }
 
-/// The most copies that a call may take. A tick may take 16 more for each row that it tries.
-fn limit(call: &Call, waiting: usize) -> Option<f64> {
-    match call {
-        Call::Start { .. } => None,
-        Call::Look { .. } | Call::View { .. } | Call::Count { .. } => Some(8.0),
-        Call::Tick { .. } => Some(12.0 + 16.0 * waiting as f64),
-        _ => Some(12.0),
-    }
-}
-
-const TIMES_PLAIN: f64 = 3.0;
+/// The most times plain Rust that a call may take.
+const TIMES_PLAIN: f64 = 2.5;
 
 /// One line of the table.
 struct Entry {
-    state: &'static str,
+    state: String,
     sort: String,
     call: Call,
-    /// The rows that wait before it.
-    waiting: usize,
     bytes: Vec<u8>,
     /// Of each round: copy, call and plain in nanoseconds.
     rounds: Vec<[f64; 3]>,
 }
 
 impl Entry {
+    fn new(state: String, sort: String, call: Call, bytes: Vec<u8>) -> Entry {
+        Entry { state, sort, call, bytes, rounds: Vec::new() }
+    }
+
+    /// Both managers must do the same, so that their times can be compared.
+    fn check(&self, manager: &Manager) -> Result<(), String> {
+        let [one, other] = [manager, &PLAIN].map(|manager| {
+            let mut area = self.bytes.clone();
+            let mut list = vec![0; self.call.list_length()];
+            let outcome = manager.call(&mut area, &mut list, &self.call);
+            (outcome, area, list)
+        });
+        if one == other {
+            return Ok(());
+        }
+        let part = if one.0 != other.0 { "answer" } else { "bytes" };
+        Err(format!("bench: {}, {}: {} and plain differ in the {part}", self.state, self.sort, manager.name))
+    }
+
     fn round(&mut self, manager: &Manager, from: &mut [u8], area: &mut [u8]) {
         from.copy_from_slice(&self.bytes);
         let mut times = [const { Vec::new() }; 3];
@@ -101,6 +109,7 @@ fn entries() -> Vec<Entry> {
     let names = ["dormant", "late", "fresh", "in vain", "served"];
     all.extend(names.into_iter().zip(more_states()).map(|(name, (_, state))| (name, state)));
     let mut list = Vec::new();
+    let mut old = Vec::new();
     for (name, state) in all {
         for (sort, call) in calls_on(&state) {
             match name {
@@ -109,12 +118,20 @@ fn entries() -> Vec<Entry> {
                 "fresh" if sort != "borders" => continue,
                 _ => {}
             }
-            let waits = |row: &&Row| matches!(row.condition, Condition::Waiting { .. });
-            let waiting = state.rows.values().filter(waits).count();
-            let bytes = state.bytes();
-            list.push(Entry { state: name, sort, call, waiting, bytes, rounds: Vec::new() });
+            // In the last 32-bit layout: a full state, and begin and borders where they are accepted.
+            let in_old = match (name, call) {
+                (_, Call::Start { .. }) => false,
+                ("full" | "fresh", _) | ("half", Call::Begin { .. }) => true,
+                _ => false,
+            };
+            if in_old {
+                let bytes = state.old_bytes().unwrap();
+                old.push(Entry::new(format!("old {name}"), sort.clone(), call, bytes));
+            }
+            list.push(Entry::new(name.to_string(), sort, call, state.bytes()));
         }
     }
+    list.append(&mut old);
     list
 }
 
@@ -124,6 +141,9 @@ pub fn bench(manager: &Manager) -> Result<(), String> {
         manager.name
     );
     let mut list = entries();
+    for entry in &list {
+        entry.check(manager)?;
+    }
     let (mut from, mut area) = (Aligned::new(), Aligned::new());
     for _ in 0..ROUNDS {
         for entry in &mut list {
@@ -131,41 +151,34 @@ pub fn bench(manager: &Manager) -> Result<(), String> {
         }
     }
     println!(
-        "  {:<8} {:<24} {:>8} {:>8} {:>9} {:>7} {:>8} {:>8}  limits",
-        "state", "call", "copy ns", "call ns", "plain ns", "copies", "times", "plain in"
+        "  {:<9} {:<25} {:>8} {:>8} {:>9} {:>7} {:>8} {:>8}  limit",
+        "state", "call", "copy ns", "call ns", "plain ns", "copies", "plain in", "times"
     );
-    println!("  {:<8} {:<24} {:>8} {:>8} {:>9} {:>7} {:>8} {:>8}", "", "", "", "", "", "", "plain", "copies");
+    println!("  {:<9} {:<25} {:>8} {:>8} {:>9} {:>7} {:>8} {:>8}", "", "", "", "", "", "", "copies", "plain");
     let mut failed = Vec::new();
     for entry in &list {
-        let copies = entry.median_of(|times| times[1] / times[0]);
         let times_plain = entry.median_of(|times| times[1] / times[2]);
-        let verdict = match limit(&entry.call, entry.waiting) {
-            None => "none",
-            Some(limit) if copies <= limit && (times_plain <= TIMES_PLAIN || entry.waiting > 0) => "pass",
-            Some(_) => "FAIL",
-        };
+        let pass = times_plain <= TIMES_PLAIN;
         println!(
-            "  {:<8} {:<24} {:>8.0} {:>8.0} {:>9.0} {:>7.2} {:>8.2} {:>8.2}  {}",
+            "  {:<9} {:<25} {:>8.0} {:>8.0} {:>9.0} {:>7.2} {:>8.2} {:>8.2}  {}",
             entry.state,
             entry.sort,
             entry.median_of(|times| times[0]),
             entry.median_of(|times| times[1]),
             entry.median_of(|times| times[2]),
-            copies,
-            times_plain,
+            entry.median_of(|times| times[1] / times[0]),
             entry.median_of(|times| times[2] / times[0]),
-            verdict
+            times_plain,
+            if pass { "pass" } else { "FAIL" }
         );
-        if verdict == "FAIL" {
-            failed.push(format!("{}, {}", entry.state, entry.sort));
+        if !pass {
+            failed.push(format!("{}, {}: {times_plain:.2}", entry.state, entry.sort));
         }
     }
-    println!(
-        "  limits: look, view and count at most 8 copies, the others but start 12, a tick 16 more for each row that waits; at most 3 times plain, but for a tick that tries rows"
-    );
+    println!("  limit: each line at most {TIMES_PLAIN} times plain; copies have none");
     if failed.is_empty() {
         Ok(())
     } else {
-        Err(format!("bench: over the limits: {}", failed.join("; ")))
+        Err(format!("bench: over {TIMES_PLAIN} times plain: {}", failed.join("; ")))
     }
 }

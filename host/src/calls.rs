@@ -5,7 +5,9 @@ pub const SIZE: usize = 65_536;
 /// The bytes of the list that it lends to a tick, and those of an entry.
 pub const LIST: usize = 256;
 pub const ENTRY: usize = 8;
-pub const LAST_CLOCK: u64 = 4_000_000_000;
+pub const LAST_CLOCK: u64 = 9_000_000_000_000_000_000;
+/// The last clock of the last 32-bit layout.
+pub const OLD_LAST_CLOCK: u64 = 4_000_000_000;
 
 pub const REFUSED: u64 = 0;
 pub const STARTED: u64 = 1;
@@ -37,8 +39,8 @@ pub const WORDS: [&str; 20] = [
 
 #[derive(Clone, Copy, Debug, PartialEq, Eq)]
 pub enum Call {
-    Start { slots: u32, delay: u32 },
-    Begin { level: u32, row: u32, deadline: u32 },
+    Start { slots: u32, delay: u64 },
+    Begin { level: u32, row: u32, deadline: u64 },
     Request { level: u32, row: u32, page: u32, mode: u32 },
     Unpin { level: u32, row: u32, page: u32 },
     End { level: u32, row: u32 },
@@ -95,6 +97,11 @@ impl Call {
             | Call::Look { row, .. } => Some(row),
             _ => None,
         }
+    }
+
+    /// Look, view and count, which change nothing.
+    pub fn asks(&self) -> bool {
+        matches!(self, Call::Look { .. } | Call::View { .. } | Call::Count { .. })
     }
 
     /// The length of the list that is lent, 0 where none is.
@@ -184,8 +191,8 @@ impl Outcome {
 /// One implementation of the ten calls over lent bytes. A tick has the area and the list.
 pub struct Manager {
     pub name: &'static str,
-    pub start: fn(&mut [u8], u32, u32, &mut [u64; 4]) -> u32,
-    pub begin: fn(&mut [u8], u32, u32, u32, &mut [u64; 4]) -> u32,
+    pub start: fn(&mut [u8], u32, u64, &mut [u64; 4]) -> u32,
+    pub begin: fn(&mut [u8], u32, u32, u64, &mut [u64; 4]) -> u32,
     pub request: fn(&mut [u8], u32, u32, u32, u32, &mut [u64; 4]) -> u32,
     pub unpin: fn(&mut [u8], u32, u32, u32, &mut [u64; 4]) -> u32,
     pub end: fn(&mut [u8], u32, u32, &mut [u64; 4]) -> u32,

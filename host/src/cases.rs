@@ -1,13 +1,13 @@
-//! Session S, M1 to M11, the borders, the fills of ticks, the begin order and the examples of the
-//! refusals of documents 01 and 02 (T-01, T-02, T-04, T-06), call by call. 16 is not used, and 18 is the
-//! player's.
+//! Session S, M1 to M11, the borders, the fills of ticks, the begin order, late clocks, areas of the last
+//! 32-bit layout and the examples of the refusals of documents 01 and 02 (T-01, T-02, T-04, T-06, T-07),
+//! call by call. 16 is not used, and 18 is the player's.
 
 use crate::calls::*;
 use crate::compare::check;
 use crate::lent::{difference, Lent};
 use crate::model::{
     self, set_word, word, Cause, Condition, Holding, Mode, Pin, Row, RowId, Slot, State, Tally,
-    BEGUN_AT, BORDERS_AT, HEADER_END, ORDER_AT,
+    BEGUN_AT, BORDERS_AT, HEADER_END, ORDER_AT, SHORT,
 };
 
 /// A call and the player's lines for it, with `; ` between them; without a bar, no slot and no page to
@@ -16,16 +16,27 @@ type Step = (Call, &'static str);
 
 struct Case {
     name: &'static str,
-    /// The clock at which the case begins, if not by its own start.
-    clock: Option<u64>,
+    /// The slots, delay and clock with which the case begins, if not by its own start.
+    fresh: Option<[u64; 3]>,
     steps: Vec<Step>,
 }
 
-fn start(slots: u32, delay: u32) -> Call {
+impl Case {
+    /// The state before its first step, if that is not its own start.
+    fn first_state(&self) -> Option<State> {
+        self.fresh.map(|[slots, delay, clock]| {
+            let mut state = State::fresh(slots, delay);
+            state.clock = clock;
+            state
+        })
+    }
+}
+
+fn start(slots: u32, delay: u64) -> Call {
     Call::Start { slots, delay }
 }
 
-fn begin(level: u32, row: u32, deadline: u32) -> Call {
+fn begin(level: u32, row: u32, deadline: u64) -> Call {
     Call::Begin { level, row, deadline }
 }
 
@@ -102,11 +113,12 @@ fn both_sides(name: &'static str, set: bool, first: u32, second: u32, third: u32
         (read(2, 1, third - 1), "fetch 1 | 4 -"),
         (write(3, 0, third), "fetch 1 | 5 -"),
     ]);
-    Case { name, clock: None, steps }
+    Case { name, fresh: None, steps }
 }
 
 fn cases() -> Vec<Case> {
-    let case = |name, steps: Vec<Step>| Case { name, clock: None, steps };
+    let case = |name, steps: Vec<Step>| Case { name, fresh: None, steps };
+    let late = |name, fresh, steps: Vec<Step>| Case { name, fresh: Some(fresh), steps };
     vec![
         case(
             "session S",
@@ -158,66 +170,8 @@ fn cases() -> Vec<Case> {
                 (look(0, 0), "late 0"),
             ],
         ),
-        case(
-            "M6 row 2 begun first, row 3 waits",
-            vec![
-                (start(1, 1), "started 0"),
-                (begin(0, 2, 50), "begun 0"),
-                (begin(0, 3, 50), "begun 0"),
-                (read(0, 2, 7), "fetch 1 | 0 -"),
-                (TICK, "clock 1"),
-                (read(0, 3, 8), "wait 0"),
-                (look(0, 2), "idle 0"),
-                (look(0, 3), "wait 0"),
-                (TICK, "clock 2"),
-                (look(0, 3), "wait 0"),
-                (end(0, 2), "ended 0"),
-                (TICK, "clock 3; fill 3 | 0 -"),
-                (look(0, 3), "fetch 4"),
-            ],
-        ),
-        case(
-            "M6 row 2 begun first, row 3 is taken",
-            vec![
-                (start(1, 1), "started 0"),
-                (begin(0, 2, 50), "begun 0"),
-                (begin(0, 3, 50), "begun 0"),
-                (read(0, 3, 7), "fetch 1 | 0 -"),
-                (TICK, "clock 1"),
-                (read(0, 2, 8), "fetch 2 | 0 -"),
-                (look(0, 3), "taken 0"),
-            ],
-        ),
-        case(
-            "M6 row 3 begun first, row 2 waits",
-            vec![
-                (start(1, 1), "started 0"),
-                (begin(0, 3, 50), "begun 0"),
-                (begin(0, 2, 50), "begun 0"),
-                (read(0, 3, 7), "fetch 1 | 0 -"),
-                (TICK, "clock 1"),
-                (read(0, 2, 8), "wait 0"),
-                (look(0, 3), "idle 0"),
-                (look(0, 2), "wait 0"),
-                (TICK, "clock 2"),
-                (look(0, 2), "wait 0"),
-                (end(0, 3), "ended 0"),
-                (TICK, "clock 3; fill 2 | 0 -"),
-                (look(0, 2), "fetch 4"),
-            ],
-        ),
-        case(
-            "M6 row 3 begun first, row 2 is taken",
-            vec![
-                (start(1, 1), "started 0"),
-                (begin(0, 3, 50), "begun 0"),
-                (begin(0, 2, 50), "begun 0"),
-                (read(0, 2, 7), "fetch 1 | 0 -"),
-                (TICK, "clock 1"),
-                (read(0, 3, 8), "fetch 2 | 0 -"),
-                (look(0, 2), "taken 0"),
-            ],
-        ),
+        m6("M6 row 2 begun first", 2, 3, "clock 3; fill 3 | 0 -"),
+        m6("M6 row 3 begun first", 3, 2, "clock 3; fill 2 | 0 -"),
         case(
             "M7",
             vec![
@@ -304,7 +258,23 @@ fn cases() -> Vec<Case> {
             ],
         ),
         case("refusal 2", vec![(start(65, 1), "refused 2"), (start(0, 256), "refused 2")]),
-        case("refusal 3", vec![(start(64, 256), "refused 3"), (start(64, 0), "refused 3")]),
+        case(
+            "refusal 3",
+            vec![
+                (start(64, 256), "refused 3"),
+                (start(64, 0), "refused 3"),
+                (start(64, SHORT), "refused 3"),
+                // 0, 1 and 255 by their lower halves
+                (start(64, 1 << 32), "refused 3"),
+                (start(64, (1 << 32) + 1), "refused 3"),
+                (start(64, (1 << 63) + 255), "refused 3"),
+                (start(64, u64::MAX), "refused 3"),
+                (start(65, (1 << 32) + 1), "refused 2"),
+                (start(1, 255), "started 0"),
+                (start(64, (1 << 32) + 1), "refused 3"),
+                (count(0), "open 1"),
+            ],
+        ),
         case(
             "refusals 4 to 7",
             vec![
@@ -397,20 +367,28 @@ fn cases() -> Vec<Case> {
                 (unpin(0, 0, 7), "refused 15"),
             ],
         ),
-        Case {
-            name: "refusal 17",
-            clock: Some(LAST_CLOCK - 1),
-            steps: vec![
-                (begin(0, 0, u32::MAX), "begun 0"),
-                (TICK, "clock 4000000000"),
+        late(
+            "refusal 17",
+            [1, 1, 8_999_999_999_999_999_998],
+            vec![
+                (TICK, "clock 8999999999999999999"),
+                (begin(0, 0, u64::MAX), "begun 0"),
+                (begin(0, 2, 9_000_000_000_000_000_001), "begun 0"),
+                (TICK, "clock 9000000000000000000"),
                 (TICK, "refused 17"),
-                (read(0, 0, 7), "fetch 4000000001 | 0 -"),
+                (read(0, 0, 7), "fetch 9000000000000000001 | 0 -"),
                 (TICK, "refused 17"),
-                (look(0, 0), "fetch 4000000001"),
-                (begin(0, 1, 3_999_999_999), "refused 12"),
-                (begin(0, 1, 4_000_000_000), "begun 0"),
+                (look(0, 0), "fetch 9000000000000000001"),
+                (view(3, 7), "read 9000000000000000001"),
+                (begin(0, 1, SHORT), "refused 12"),
+                (begin(0, 1, 8_999_999_999_999_999_999), "refused 12"),
+                (begin(0, 1, 9_000_000_000_000_000_000), "begun 0"),
+                (read(0, 2, 8), "fetch 9000000000000000001 | 0 -"),
+                (look(0, 0), "taken 0"),
+                (start(1, 1), "started 0"),
+                (TICK, "clock 1"),
             ],
-        },
+        ),
         case(
             "refusal 21",
             vec![
@@ -440,16 +418,16 @@ fn cases() -> Vec<Case> {
                 (look(0, 1), "fetch 3"),
             ],
         ),
-        Case {
-            name: "refusal 21 comes before 17",
-            clock: Some(LAST_CLOCK),
-            steps: vec![
+        late(
+            "refusal 21 comes before 17",
+            [1, 1, LAST_CLOCK],
+            vec![
                 (tick_with(255), "refused 21"),
                 (tick_with(0), "refused 21"),
                 (tick_with(256), "refused 17"),
                 (tick_with(1000), "refused 17"),
             ],
-        },
+        ),
         case(
             "refusal 19",
             vec![
@@ -670,16 +648,137 @@ fn cases() -> Vec<Case> {
                 (read(0, 0, 1023), "fetch 1 | 0 -"),
             ],
         ),
-        Case {
-            name: "borders at the last clock",
-            clock: Some(LAST_CLOCK),
-            steps: vec![
+        late(
+            "borders at the last clock",
+            [1, 1, LAST_CLOCK],
+            vec![
                 (TICK, "refused 17"),
                 (borders(4096, 4096, 4096), "borders 0"),
-                (begin(0, 0, u32::MAX), "begun 0"),
-                (read(0, 0, 4095), "fetch 4000000001 | 0 -"),
+                (begin(0, 0, u64::MAX), "begun 0"),
+                (read(0, 0, 4095), "fetch 9000000000000000001 | 0 -"),
             ],
-        },
+        ),
+        // A clock for years.
+        late(
+            "clock 4,000,000,000 is passed",
+            [1, 1, 3_999_999_999],
+            vec![
+                (begin(0, 0, 4_000_000_001), "begun 0"),
+                (begin(0, 1, SHORT), "begun 0"),
+                (read(0, 0, 7), "fetch 4000000000 | 0 -"),
+                (TICK, "clock 4000000000"),
+                (look(0, 0), "idle 0"),
+                (write(0, 0, 7), "ready 0 | 0 -"),
+                (begin(0, 2, 3_999_999_999), "refused 12"),
+                (TICK, "clock 4000000001"),
+                (look(0, 0), "idle 0"),
+                (view(0, 7), "write 4000000000"),
+                (TICK, "clock 4000000002"),
+                (look(0, 0), "late 0"),
+                (view(3, 7), "dormant 4000000000"),
+                (read(0, 1, 8), "fetch 4000000003 | 0 7"),
+                (begin(0, 2, 4_000_000_001), "refused 12"),
+                (begin(0, 2, 4_000_000_002), "begun 0"),
+            ],
+        ),
+        late(
+            "2^32 is passed",
+            [1, 1, SHORT - 1],
+            vec![
+                (begin(0, 0, 1 << 32), "begun 0"),
+                (begin(0, 1, SHORT), "begun 0"),
+                (begin(0, 2, 1), "refused 12"),
+                (read(0, 1, 7), "fetch 4294967295 | 0 -"),
+                (TICK, "clock 4294967295"),
+                (look(0, 1), "idle 0"),
+                (begin(0, 2, 0), "refused 12"),
+                (unpin(0, 1, 7), "unpinned 0"),
+                // Row 1 is better, but not by the lower halves of the deadlines.
+                (read(0, 0, 8), "wait 0"),
+                (TICK, "clock 4294967296; fill 0 | 0 -"),
+                (look(0, 1), "late 0"),
+                (look(0, 0), "fetch 4294967297"),
+                (TICK, "clock 4294967297"),
+                (look(0, 0), "late 0"),
+                (view(3, 8), "dormant 4294967297"),
+                (begin(0, 2, 1), "refused 12"),
+                (begin(0, 2, 1 << 32), "refused 12"),
+                (begin(0, 2, (1 << 32) + 1), "begun 0"),
+                (read(0, 2, 8), "fetch 4294967298 | 0 -"),
+            ],
+        ),
+        case(
+            "deadlines of 2^32 or more",
+            vec![
+                (start(1, 1), "started 0"),
+                (begin(0, 0, (1 << 32) + 5), "begun 0"),
+                (begin(0, 1, 6), "begun 0"),
+                (begin(0, 2, u64::MAX), "begun 0"),
+                (begin(0, 3, 1 << 63), "begun 0"),
+                (read(0, 2, 5), "fetch 1 | 0 -"),
+                (TICK, "clock 1"),
+                (read(0, 3, 6), "fetch 2 | 0 -"),
+                (look(0, 2), "taken 0"),
+                (TICK, "clock 2"),
+                (read(0, 0, 7), "fetch 3 | 0 -"),
+                (look(0, 3), "taken 0"),
+                (TICK, "clock 3"),
+                (read(0, 1, 8), "fetch 4 | 0 -"),
+                (look(0, 0), "taken 0"),
+                (begin(0, 4, (1 << 32) + 2), "begun 0"),
+                (TICK, "clock 4"),
+                (look(0, 4), "idle 0"),
+                (read(0, 4, 9), "wait 0"),
+                (TICK, "clock 5"),
+                (TICK, "clock 6"),
+                (look(0, 1), "idle 0"),
+                (TICK, "clock 7; fill 4 | 0 -"),
+                (look(0, 1), "late 0"),
+                (look(0, 4), "fetch 8"),
+            ],
+        ),
+        late(
+            "a dormant slot by the touch, across 2^32",
+            [2, 1, SHORT],
+            vec![
+                (begin(0, 0, u64::MAX), "begun 0"),
+                (begin(0, 1, u64::MAX), "begun 0"),
+                (read(0, 0, 7), "fetch 4294967296 | 0 -"),
+                (read(0, 1, 8), "fetch 4294967296 | 1 -"),
+                (TICK, "clock 4294967296"),
+                (read(0, 0, 7), "ready 0 | 0 -"),
+                (end(0, 0), "ended 0"),
+                (end(0, 1), "ended 0"),
+                (begin(0, 2, u64::MAX), "begun 0"),
+                (read(0, 2, 9), "fetch 4294967297 | 1 -"),
+            ],
+        ),
+        late(
+            "a held slot by the touch, across 2^32",
+            [2, 1, SHORT],
+            vec![
+                (begin(0, 0, u64::MAX), "begun 0"),
+                (read(0, 0, 9), "fetch 4294967296 | 0 -"),
+                (TICK, "clock 4294967296"),
+                (read(0, 0, 8), "fetch 4294967297 | 1 -"),
+                (TICK, "clock 4294967297"),
+                (unpin(0, 0, 9), "unpinned 0"),
+                (unpin(0, 0, 8), "unpinned 0"),
+                (read(0, 0, 7), "fetch 4294967298 | 0 -"),
+            ],
+        ),
+        late(
+            "the longest delay at the last clock",
+            [1, 255, LAST_CLOCK - 1],
+            vec![
+                (begin(3, 7, u64::MAX), "begun 0"),
+                (TICK, "clock 9000000000000000000"),
+                (write(3, 7, 4095), "fetch 9000000000000000255 | 0 -"),
+                (view(3, 4095), "write 9000000000000000255"),
+                (end(3, 7), "ended 0"),
+                (view(3, 4095), "dormant 9000000000000000255"),
+            ],
+        ),
         // Points that the readings settle.
         case(
             "a look answered fetch names no slot",
@@ -1117,6 +1216,37 @@ fn cases() -> Vec<Case> {
     ]
 }
 
+/// The row begun first pins 7, and the other waits for 8 until it has ended; then from the start again,
+/// the other pins 7 and is taken.
+fn m6(name: &'static str, first: u32, second: u32, filled: &'static str) -> Case {
+    let begins = [
+        (start(1, 1), "started 0"),
+        (begin(0, first, 50), "begun 0"),
+        (begin(0, second, 50), "begun 0"),
+    ];
+    let mut steps = begins.to_vec();
+    steps.extend([
+        (read(0, first, 7), "fetch 1 | 0 -"),
+        (TICK, "clock 1"),
+        (read(0, second, 8), "wait 0"),
+        (look(0, first), "idle 0"),
+        (look(0, second), "wait 0"),
+        (TICK, "clock 2"),
+        (look(0, second), "wait 0"),
+        (end(0, first), "ended 0"),
+        (TICK, filled),
+        (look(0, second), "fetch 4"),
+    ]);
+    steps.extend(begins);
+    steps.extend([
+        (read(0, second, 7), "fetch 1 | 0 -"),
+        (TICK, "clock 1"),
+        (read(0, first, 8), "fetch 2 | 0 -"),
+        (look(0, second), "taken 0"),
+    ]);
+    Case { name, fresh: None, steps }
+}
+
 /// Two rows of a level with equal deadlines, begun in this turn, hold a slot each, and row 0 of level 0
 /// takes the slot of the second. Its page is the larger one, and its touch is no earlier.
 fn which_slot(name: &'static str, level: u32, rows: [u32; 2], unpinned: bool) -> Case {
@@ -1139,7 +1269,7 @@ fn which_slot(name: &'static str, level: u32, rows: [u32; 2], unpinned: bool) ->
         (look(level, second), if unpinned { "idle 0" } else { "taken 0" }),
         (view(level, 8), "unseen 0"),
     ]);
-    Case { name, clock: None, steps }
+    Case { name, fresh: None, steps }
 }
 
 /// Calls, and after them the places of docs/LAYOUT.md: those rows, of all levels, that have one.
@@ -1377,9 +1507,23 @@ fn play_list(manager: &Manager, calls: &[Call], entries: &[[u8; ENTRY]]) -> Resu
     Ok(calls.len() as u64)
 }
 
-/// Areas by their names, and whether they are sound.
+fn idle(deadline: u64) -> Row {
+    Row { condition: Condition::Idle, deadline }
+}
+
+fn put(state: &mut State, id: RowId, row: Row) {
+    state.joins(id);
+    state.rows.insert(id, row);
+}
+
+/// The bytes with another word.
+fn with(mut bytes: Vec<u8>, at: usize, value: u64) -> Vec<u8> {
+    set_word(&mut bytes, at, value);
+    bytes
+}
+
+/// Areas by their names, and whether they are sound. The same holds of them in the old layout.
 fn areas() -> Vec<(&'static str, Vec<u8>, bool)> {
-    let idle = |deadline| Row { condition: Condition::Idle, deadline };
     let begun = |change: &dyn Fn(&mut State)| {
         let mut state = State::fresh(64, 1);
         state.clock = 5;
@@ -1397,10 +1541,6 @@ fn areas() -> Vec<(&'static str, Vec<u8>, bool)> {
     };
     let dormant = |state: &mut State| {
         state.filled.insert(63, Slot { page: 7, arrival: 5, dirty: false, lowest: 0, touch: 5 });
-    };
-    let put = |state: &mut State, id: RowId, row: Row| {
-        state.joins(id);
-        state.rows.insert(id, row);
     };
     let killed = |cause| Row { condition: Condition::Killed(cause), deadline: 0 };
     // A row of that level that pins page 7, under those borders.
@@ -1425,10 +1565,6 @@ fn areas() -> Vec<(&'static str, Vec<u8>, bool)> {
     let deadline = |deadline| {
         begun(&|state: &mut State| put(state, (0, 0), idle(deadline))).bytes()
     };
-    let with = |mut bytes: Vec<u8>, at, value| {
-        set_word(&mut bytes, at, value);
-        bytes
-    };
     // Idle rows 0, 1 and so on of level 1, with these places.
     let placed = |places: &[u64]| {
         let mut state = begun(&|_: &mut State| {});
@@ -1449,22 +1585,10 @@ fn areas() -> Vec<(&'static str, Vec<u8>, bool)> {
     })
     .bytes();
     let after_ends = with(begun(&|_: &mut State| {}).bytes(), ORDER_AT, 1);
-    let mut version_1 = with(State::fresh(64, 1).bytes(), 8, 1);
-    version_1[BORDERS_AT..HEADER_END].fill(0);
-    let mut version_2 = with(placed(&[2, 1]), 8, 2);
-    version_2[ORDER_AT..HEADER_END].fill(0);
     let none = |_: &mut State| {};
     vec![
         ("a deadline below the clock", deadline(4), false),
         ("a deadline at the clock", deadline(5), true),
-        ("version 1 of the layout", version_1.clone(), false),
-        ("the words of version 1 under version 3", with(version_1, 8, 3), true),
-        ("version 1 and borders", with(State::fresh(64, 1).bytes(), 8, 1), false),
-        ("version 2 of the layout, nothing begun", with(State::fresh(64, 1).bytes(), 8, 2), false),
-        ("version 2 of the layout, two rows", version_2.clone(), false),
-        ("version 2 and places", with(placed(&[2, 1]), 8, 2), false),
-        ("two rows of version 2 under version 3", with(version_2, 8, 3), false),
-        ("version 4", with(State::fresh(64, 1).bytes(), 8, 4), false),
         ("order: 1", placed(&[1]), true),
         ("order: 1 2", placed(&[1, 2]), true),
         ("order: 2 1", placed(&[2, 1]), true),
@@ -1543,27 +1667,306 @@ fn areas() -> Vec<(&'static str, Vec<u8>, bool)> {
     ]
 }
 
+/// Areas of other versions and with ticks at the ends of their ranges; whether they are sound under their
+/// own version and, if they are new, whether the same words are under version 3.
+fn versions() -> Vec<(String, Vec<u8>, bool, Option<bool>)> {
+    let fresh = State::fresh(64, 1).bytes();
+    // Two rows begun, the second with the smaller number.
+    let mut rows = State::fresh(64, 1);
+    rows.begun = true;
+    put(&mut rows, (1, 1), idle(9));
+    put(&mut rows, (1, 0), idle(9));
+    let rows = rows.bytes();
+    let mut version_1 = with(fresh.clone(), 8, 1);
+    version_1[BORDERS_AT..HEADER_END].fill(0);
+    let mut version_2 = with(rows.clone(), 8, 2);
+    version_2[ORDER_AT..HEADER_END].fill(0);
+    let mut list = vec![
+        ("version 1 of the layout".to_string(), version_1.clone(), false, None),
+        ("the words of version 1".to_string(), with(version_1, 8, 4), true, Some(true)),
+        ("version 1 and borders".to_string(), with(fresh.clone(), 8, 1), false, None),
+        ("version 2 of the layout, nothing begun".to_string(), with(fresh.clone(), 8, 2), false, None),
+        ("version 2 of the layout, two rows".to_string(), version_2.clone(), false, None),
+        ("version 2 and places".to_string(), with(rows.clone(), 8, 2), false, None),
+        ("two rows of version 2".to_string(), with(version_2, 8, 4), false, Some(false)),
+    ];
+    let far = [0, 5, 6, 7, 256 + 3, 256 + 4, (1 << 32) + 3, (1 << 32) + 4, (1 << 63) + 3, (1 << 63) + 4, u64::MAX];
+    for version in far {
+        for bytes in [&fresh, &rows] {
+            list.push((format!("version {version}"), with(bytes.clone(), 8, version), false, None));
+        }
+    }
+    // A mark that is right by half alone.
+    for old in [3, 4] {
+        let name = format!("no mark, version {old}");
+        list.push((name, with(with(fresh.clone(), 8, old), 0, 0x4552_4253), false, None));
+    }
+    // Clocks, with no row and with one that has the largest deadline of the old layout.
+    let clocks = [
+        (0, true, true),
+        (OLD_LAST_CLOCK, true, true),
+        (OLD_LAST_CLOCK + 1, true, false),
+        (SHORT, true, false),
+        (SHORT + 1, true, false),
+        (SHORT + 6, true, false),
+        (LAST_CLOCK, true, false),
+        (LAST_CLOCK + 1, false, false),
+        (1 << 63, false, false),
+        (u64::MAX - 1, false, false),
+        (u64::MAX, false, false),
+    ];
+    for (clock, new, old) in clocks {
+        list.push((format!("clock {clock}"), with(fresh.clone(), 32, clock), new, Some(old)));
+        let row = with(with(rows.clone(), 536 + 64 * 8, u64::MAX), 536 + 64 * 9, clock);
+        list.push((format!("clock {clock}, deadlines"), with(row, 32, clock), new, Some(false)));
+    }
+    for (deadline, new, old) in [
+        (0, true, true),
+        (SHORT, true, true),
+        (SHORT + 1, true, false),
+        (SHORT + 10, true, false),
+        (1 << 63, true, false),
+        (u64::MAX, true, false),
+    ] {
+        // Row 0 of level 1.
+        let bytes = with(rows.clone(), 512 + 64 * 8 + 24, deadline);
+        list.push((format!("a deadline of {deadline}"), bytes, new, Some(old)));
+    }
+    // At each clock a page in slot 2 that row 0 of level 0 reads and that has just come, and a page in
+    // slot 3 that row 1 fetches; then the ticks one or more off.
+    for clock in [5, OLD_LAST_CLOCK, OLD_LAST_CLOCK + 1, SHORT, LAST_CLOCK] {
+        let mut state = State::fresh(64, 2);
+        state.begun = true;
+        state.clock = clock;
+        put(&mut state, (0, 0), idle(clock));
+        put(&mut state, (0, 1), Row { condition: Condition::Fetching { due: clock + 2 }, deadline: clock + 1 });
+        for (slot, row, arrival) in [(2, 0, clock), (3, 1, clock + 2)] {
+            state.filled.insert(slot, Slot { page: slot, arrival, dirty: false, lowest: 0, touch: clock });
+            state.holdings.insert((slot, (0, row)), Holding { pin: Pin::Read, arrival, touch: clock });
+        }
+        let right = state.bytes();
+        list.push((format!("ticks at clock {clock}"), right.clone(), true, Some(clock <= OLD_LAST_CLOCK)));
+        let words = [
+            ("a due tick", 512 + 64 + 8, clock + 2),
+            ("the arrival of slot 2", 2_560 + 64 * 2 + 16, clock),
+            ("the touch of slot 2", 2_560 + 64 * 2 + 40, clock),
+            ("the arrival of slot 3", 2_560 + 64 * 3 + 16, clock + 2),
+            ("the arrival of a holding of row 0", 6_656 + 24 * (32 * 2) + 8, clock),
+            ("the touch of a holding of row 0", 6_656 + 24 * (32 * 2) + 16, clock),
+            ("the arrival of a holding of row 1", 6_656 + 24 * (32 * 3 + 1) + 8, clock + 2),
+        ];
+        for (name, at, value) in words {
+            assert!(word(&right, at) == value);
+            for wrong in [value + 1, value + 3, value + (1 << 32), value ^ (1 << 63), u64::MAX] {
+                let bytes = with(right.clone(), at, wrong);
+                list.push((format!("{name} of {wrong} at clock {clock}"), bytes, false, Some(false)));
+            }
+        }
+    }
+    list
+}
+
+/// The words of an area of the last 32-bit layout, the others being zero: clock 5, 3 slots, delay 2. Row 0
+/// of level 0 is idle and writes page 7 in slot 0; row 1 fetches page 8 in slot 1 until 7; row 3 is late.
+/// Row 0 of level 1 waits to write page 1,030, row 6 of level 2 is idle. Page 6 is dormant and dirty in
+/// slot 2.
+const OLD_WORDS: &[(usize, u64)] = &[
+    (0, u64::from_le_bytes(*b"SABREBUF")), (8, 3), (16, 3), (24, 2), (32, 5),
+    (40, 1024), (48, 2048), (56, 3072), (64, 1),
+    // places: rows 0, 1 and 3 of level 0, row 0 of level 1, row 6 of level 2
+    (72, 1), (80, 2), (96, 3), (136, 1), (248, 1),
+    (512, 1), (536, 9),
+    (576, 2), (584, 7), (600, 4_294_967_295),
+    (704, 4),
+    (1_024, 3), (1_032, 1_030), (1_040, 1), (1_048, 8),
+    (1_920, 1), (1_944, 50),
+    (2_560, 1), (2_568, 7), (2_576, 4), (2_600, 5),
+    (2_624, 1), (2_632, 8), (2_640, 7), (2_664, 5),
+    (2_688, 1), (2_696, 6), (2_704, 3), (2_712, 1), (2_720, 1), (2_728, 4),
+    (6_656, 3), (6_664, 4), (6_672, 5),
+    (7_448, 2), (7_456, 7), (7_464, 5),
+];
+
+/// An old area of the last old clock on which nothing has begun.
+const OLD_LATE_WORDS: &[(usize, u64)] = &[
+    (0, u64::from_le_bytes(*b"SABREBUF")), (8, 3), (16, 1), (24, 1), (32, 4_000_000_000),
+    (40, 1024), (48, 2048), (56, 3072),
+];
+
+/// What a call leaves of an old area: every byte as before, or these words changed.
+type Left = Option<Vec<(usize, u64)>>;
+
+/// The words of old areas, calls on them, each on the area itself, the player's lines and what is left.
+/// Where the area is new after it, the version is among the words.
+fn old_calls() -> Vec<(&'static [(usize, u64)], Vec<(Call, &'static str, Left)>)> {
+    let left = |words: &[(usize, u64)]| Some([&[(8, 4)], words].concat());
+    let on_words = vec![
+        (look(0, 0), "idle 0", None),
+        (look(0, 1), "fetch 7", None),
+        (look(0, 3), "late 0", None),
+        (look(1, 0), "wait 0", None),
+        (look(3, 7), "none 0", None),
+        (view(0, 7), "write 4", None),
+        (view(3, 8), "read 7", None),
+        (view(3, 6), "dormant 3", None),
+        (view(2, 6), "unseen 0", None),
+        (count(0), "open 1", None),
+        // refused
+        (start(65, 1), "refused 2", None),
+        (start(1, 256), "refused 3", None),
+        (start(1, (1 << 32) + 1), "refused 3", None),
+        (look(4, 0), "refused 4", None),
+        (look(0, 8), "refused 5", None),
+        (view(0, 4096), "refused 6", None),
+        (Call::Request { level: 0, row: 0, page: 7, mode: 2 }, "refused 7", None),
+        (begin(0, 0, 9), "refused 8", None),
+        (begin(0, 3, 9), "refused 8", None),
+        (end(0, 4), "refused 9", None),
+        (read(0, 3, 7), "refused 10", None),
+        (read(0, 1, 7), "refused 11", None),
+        (unpin(1, 0, 1030), "refused 11", None),
+        (begin(0, 4, 4), "refused 12", None),
+        (read(0, 0, 1024), "refused 13", None),
+        (write(2, 6, 7), "refused 14", None),
+        (unpin(0, 0, 8), "refused 15", None),
+        (borders(1, 0, 0), "refused 19", None),
+        (borders(1, 2, 3), "refused 20", None),
+        (tick_with(255), "refused 21", None),
+        // accepted
+        (begin(0, 4, 9), "begun 0", left(&[(104, 4), (768, 1), (792, 9)])),
+        (begin(0, 4, 1 << 32), "begun 0", left(&[(104, 4), (768, 1), (792, 1 << 32)])),
+        (begin(3, 7, u64::MAX), "begun 0", left(&[(320, 1), (2_496, 1), (2_520, u64::MAX)])),
+        (read(0, 0, 7), "ready 0 | 0 -", left(&[])),
+        (
+            read(0, 0, 3),
+            "fetch 7 | 2 6",
+            left(&[
+                (512, 2), (520, 7),
+                (2_696, 3), (2_704, 7), (2_712, 0), (2_720, 0), (2_728, 5),
+                (8_192, 2), (8_200, 7), (8_208, 5),
+            ]),
+        ),
+        (read(2, 6, 7), "wait 0", left(&[(1_920, 3), (1_928, 7)])),
+        (unpin(0, 0, 7), "unpinned 0", left(&[(2_584, 1), (6_656, 1)])),
+        (
+            end(0, 0),
+            "ended 0",
+            left(&[
+                (72, 0), (80, 1), (96, 2), (512, 0), (536, 0), (2_584, 1),
+                (6_656, 0), (6_664, 0), (6_672, 0),
+            ]),
+        ),
+        (end(0, 3), "ended 0", left(&[(96, 0), (704, 0)])),
+        (
+            TICK,
+            "clock 6; fill 8 | 2 6",
+            left(&[
+                (32, 6), (1_024, 2), (1_032, 8), (1_040, 0),
+                (2_696, 1_030), (2_704, 8), (2_712, 0), (2_728, 6),
+                (8_384, 3), (8_392, 8), (8_400, 6),
+            ]),
+        ),
+    ];
+    let on_late = vec![
+        (count(3), "open 1", None),
+        (look(0, 0), "none 0", None),
+        (view(0, 7), "unseen 0", None),
+        (begin(0, 0, 3_999_999_999), "refused 12", None),
+        (borders(0, 0, 4097), "refused 19", None),
+        (tick_with(255), "refused 21", None),
+        (borders(1, 2, 3), "borders 0", left(&[(40, 1), (48, 2), (56, 3)])),
+        (TICK, "clock 4000000001", left(&[(32, 4_000_000_001)])),
+        (
+            begin(0, 0, 4_000_000_000),
+            "begun 0",
+            left(&[(64, 1), (72, 1), (512, 1), (536, 4_000_000_000)]),
+        ),
+        (start(64, 255), "started 0", left(&[(16, 64), (24, 255), (32, 0)])),
+        (start(64, 256), "refused 3", None),
+    ];
+    vec![(OLD_WORDS, on_words), (OLD_LATE_WORDS, on_late)]
+}
+
+fn area_of(words: &[(usize, u64)]) -> Vec<u8> {
+    words.iter().fold(vec![0; SIZE], |bytes, (at, value)| with(bytes, *at, *value))
+}
+
+/// Makes a call on an old area, and compares what it leaves.
+fn play_old(manager: &Manager, area: &[u8], call: &Call, line: &str, left: &Left) -> Result<(), String> {
+    let wanted = left.iter().flatten().fold(area.to_vec(), |bytes, (at, value)| with(bytes, *at, *value));
+    let mut bytes = area.to_vec();
+    let expected = model::call(&mut bytes, call, &mut Tally::default());
+    as_said(&expected, line).map_err(|text| format!("model: {text}"))?;
+    if bytes != wanted {
+        return Err(format!("model: {}", difference(&bytes, &wanted)));
+    }
+    let mut lent = Lent::new(6, SIZE + 3, 0xEE);
+    lent.area()[..SIZE].copy_from_slice(area);
+    check(manager, &mut lent, &wanted, call, &expected)
+}
+
+/// Calls on an area that is sound or not.
+fn play_area(manager: &Manager, area: &[u8], sound: bool) -> Result<u64, String> {
+    let calls = [
+        look(0, 0),
+        borders(1, 0, 0),
+        borders(1, 2, 3),
+        TICK,
+        tick_with(255),
+        begin(1, 7, 50),
+        begin(1, 7, u64::MAX),
+        end(1, 0),
+        read(1, 0, 7),
+        unpin(0, 0, 7),
+        view(3, 7),
+        count(3),
+    ];
+    for call in calls {
+        let mut lent = Lent::new(0, SIZE, 0xEE);
+        lent.area().copy_from_slice(area);
+        let mut bytes = area.to_vec();
+        let expected = model::call(&mut bytes, &call, &mut Tally::default());
+        if (expected == Outcome::refused(1)) == sound {
+            return Err(format!("model: {expected:?}"));
+        }
+        check(manager, &mut lent, &bytes, &call, &expected)?;
+    }
+    Ok(calls.len() as u64)
+}
+
+/// Plays a case. If `old`, the area is written in the old layout before each call, where that has room
+/// for it.
+fn play_case(manager: &Manager, case: &Case, old: bool) -> Result<u64, String> {
+    let mut lent = Lent::new(3, SIZE + 5, 0xEE);
+    if let Some(state) = case.first_state() {
+        lent.area()[..SIZE].copy_from_slice(&state.bytes());
+    }
+    for (number, (call, line)) in case.steps.iter().enumerate() {
+        let fault = |text: String| format!("step {}: {text}", number + 1);
+        let state = model::read(lent.state_bytes()).ok().filter(|_| old);
+        if let Some(bytes) = state.and_then(|state| state.old_bytes()) {
+            lent.area()[..SIZE].copy_from_slice(&bytes);
+        }
+        let mut bytes = lent.state_bytes().to_vec();
+        let expected = model::call(&mut bytes, call, &mut Tally::default());
+        as_said(&expected, line).map_err(|text| fault(format!("model: {text}")))?;
+        check(manager, &mut lent, &bytes, call, &expected).map_err(fault)?;
+    }
+    Ok(case.steps.len() as u64)
+}
+
 /// Plays every case through a manager and through the model.
 pub fn play_cases(manager: &Manager) -> Result<(), String> {
     println!(
-        "cases: session S, M1 to M11, the borders, fills, the begin order, the refusals; {}",
+        "cases: session S, M1 to M11, the borders, fills, the begin order, late clocks, old areas, the refusals; {}",
         manager.name
     );
     let mut made = 0;
     for case in cases() {
-        let mut lent = Lent::new(3, SIZE + 5, 0xEE);
-        if let Some(clock) = case.clock {
-            let mut state = State::fresh(1, 1);
-            state.clock = clock;
-            lent.area()[..SIZE].copy_from_slice(&state.bytes());
-        }
-        for (number, (call, line)) in case.steps.iter().enumerate() {
-            let mut bytes = lent.state_bytes().to_vec();
-            let fault = |text: String| format!("cases: {}, step {}: {text}", case.name, number + 1);
-            let expected = model::call(&mut bytes, call, &mut Tally::default());
-            as_said(&expected, line).map_err(|text| fault(format!("model: {text}")))?;
-            check(manager, &mut lent, &bytes, call, &expected).map_err(fault)?;
-            made += 1;
+        for old in [false, true] {
+            made += play_case(manager, &case, old).map_err(|text| {
+                format!("cases: {}{}: {text}", case.name, if old { ", old areas" } else { "" })
+            })?;
         }
     }
     // Refusal 1: an area of 100 bytes.
@@ -1579,30 +1982,19 @@ pub fn play_cases(manager: &Manager) -> Result<(), String> {
         }
         made += 1;
     }
-    for (name, area, sound) in areas() {
-        let calls = [
-            look(0, 0),
-            borders(1, 0, 0),
-            borders(1, 2, 3),
-            TICK,
-            tick_with(255),
-            begin(1, 7, 50),
-            end(1, 0),
-            read(1, 0, 7),
-            unpin(0, 0, 7),
-            view(3, 7),
-            count(3),
-        ];
-        for call in calls {
-            let mut lent = Lent::new(0, SIZE, 0xEE);
-            lent.area().copy_from_slice(&area);
-            let mut bytes = area.clone();
-            let fault = |text: String| format!("cases: {name}: {text}");
-            let expected = model::call(&mut bytes, &call, &mut Tally::default());
-            if (expected == Outcome::refused(1)) == sound {
-                return Err(fault(format!("model: {expected:?}")));
-            }
-            check(manager, &mut lent, &bytes, &call, &expected).map_err(fault)?;
+    let twins = areas().into_iter().map(|(name, area, sound)| (name.to_string(), area, sound, Some(sound)));
+    for (name, area, new, old) in twins.chain(versions()) {
+        made += play_area(manager, &area, new).map_err(|text| format!("cases: {name}: {text}"))?;
+        if let Some(sound) = old {
+            made += play_area(manager, &with(area, 8, 3), sound)
+                .map_err(|text| format!("cases: {name}, version 3: {text}"))?;
+        }
+    }
+    for (words, calls) in old_calls() {
+        let area = area_of(words);
+        for (call, line, left) in calls {
+            play_old(manager, &area, &call, line, &left)
+                .map_err(|text| format!("cases: old area at clock {}, {call:?}: {text}", word(&area, 32)))?;
             made += 1;
         }
     }
@@ -1614,20 +2006,20 @@ pub fn play_cases(manager: &Manager) -> Result<(), String> {
         made += play_order(manager, &calls, &places)
             .map_err(|text| format!("cases: order, {name}: {text}"))?;
     }
-    println!("  {made} calls as documents 01 and 02 (T-01, T-02, T-04, T-06) say");
+    println!("  {made} calls as documents 01 and 02 (T-01, T-02, T-04, T-06, T-07) say");
     Ok(())
 }
 
 #[cfg(test)]
 mod tests {
     use super::*;
+    use crate::model::Layout;
     use crate::waits;
 
     /// The model alone, on states, against the lines of the documents.
     fn play_model(name: &str) {
         let case = cases().into_iter().find(|case| case.name == name).unwrap();
-        let mut state = State::fresh(1, 1);
-        state.clock = case.clock.unwrap_or(0);
+        let mut state = case.first_state().unwrap_or(State::fresh(1, 1));
         for (number, (call, line)) in case.steps.iter().enumerate() {
             let before = state.clone();
             let outcome = state.call(call, &mut Tally::default());
@@ -1640,6 +2032,11 @@ mod tests {
                 assert_eq!(judged, Ok(()), "{name}, step {}", number + 1);
             }
             assert_eq!(model::read(&state.bytes()), Ok(state.clone()));
+            if let Some(old) = state.old_bytes() {
+                assert_eq!(model::read_either(&old), Ok(state.clone()));
+                assert!(model::read(&old).is_err());
+                assert!(model::read_as(Layout::Old, &state.bytes()).is_err());
+            }
             if outcome.status != 0 {
                 assert!(state == before, "{name}, step {}: a refused call changed the state", number + 1);
             }
@@ -1659,11 +2056,7 @@ mod tests {
         m3: "M3";
         m4: "M4";
         m5: "M5";
-        m6:
-            "M6 row 2 begun first, row 3 waits",
-            "M6 row 2 begun first, row 3 is taken",
-            "M6 row 3 begun first, row 2 waits",
-            "M6 row 3 begun first, row 2 is taken";
+        m6: "M6 row 2 begun first", "M6 row 3 begun first";
         m7: "M7";
         m8: "M8 level 0 fetches", "M8 level 3 is ready";
         m9: "M9";
@@ -1708,6 +2101,13 @@ mod tests {
             "a refused start leaves the borders",
             "a start sets the borders back",
             "borders at the last clock";
+        late_clocks:
+            "clock 4,000,000,000 is passed",
+            "2^32 is passed",
+            "deadlines of 2^32 or more",
+            "a dormant slot by the touch, across 2^32",
+            "a held slot by the touch, across 2^32",
+            "the longest delay at the last clock";
         readings:
             "a look answered fetch names no slot",
             "due and late on one tick leaves the page dirty",
@@ -1786,7 +2186,6 @@ mod tests {
             (
                 model::ORDER_NONE,
                 &[
-                    "two rows of version 2 under version 3",
                     "order: an idle row has none",
                     "order: a waiting row has none",
                     "order: a late row has none",
@@ -1837,6 +2236,59 @@ mod tests {
         state.call(&begin(0, 0, 9), &mut Tally::default());
         state.joins((0, 0));
         assert_eq!(state.broken().into_iter().collect::<Vec<_>>(), [model::ORDER_AGAIN]);
+    }
+
+    /// What versions and late ticks break is named by itself.
+    #[test]
+    fn versions_and_late_ticks() {
+        let named = |name: &str, version: u64| -> Vec<&'static str> {
+            let versions = versions();
+            let (_, bytes, ..) = versions.iter().find(|(other, ..)| other == name).unwrap();
+            let bytes = if version == 3 { with(bytes.clone(), 8, 3) } else { bytes.clone() };
+            model::read_either(&bytes).unwrap_err().into_iter().collect()
+        };
+        for name in ["version 2 of the layout, nothing begun", "version 0", "version 5", "version 4294967299"] {
+            assert_eq!(named(name, 4), [model::VERSION], "{name}");
+        }
+        assert_eq!(named("two rows of version 2", 4), [model::ORDER_NONE]);
+        assert_eq!(named("two rows of version 2", 3), [model::ORDER_NONE]);
+        assert_eq!(named("clock 9000000000000000001", 4), [model::CLOCK_RANGE]);
+        for name in ["clock 4000000001", "clock 4294967296", "clock 9000000000000000000"] {
+            assert_eq!(named(name, 3), [model::OLD_CLOCK], "{name}");
+        }
+        assert_eq!(named("a deadline of 4294967296", 3), [model::OLD_DEADLINE]);
+        assert_eq!(named("a deadline of 18446744073709551615", 3), [model::OLD_DEADLINE]);
+        let due = ["a due tick of 4294967303 at clock 5", "a due tick of 18446744073709551615 at clock 5"];
+        assert_eq!(named(due[0], 3), [model::OLD_DUE]);
+        assert_eq!(named(due[1], 4), [model::FETCH_PIN]);
+    }
+
+    /// No area is sound in both layouts, and a state that the old one has no room for has no old bytes.
+    #[test]
+    fn layouts() {
+        for (name, area, new, _) in versions() {
+            let old = with(area.clone(), 8, 3);
+            let read = [&area, &old].map(|area| {
+                [Layout::New, Layout::Old].map(|layout| model::read_as(layout, area).ok())
+            });
+            assert_eq!(read[0][0].is_some(), new, "{name}");
+            assert!(read[0][1].is_none() && read[1][0].is_none(), "{name}");
+            if let Some(state) = &read[0][0] {
+                assert_eq!(state.bytes(), area, "{name}");
+                assert_eq!(state.old_bytes(), read[1][1].as_ref().map(|_| old), "{name}");
+                assert_eq!(read[1][1].as_ref().unwrap_or(state), state, "{name}");
+            }
+        }
+        for (words, calls) in old_calls() {
+            let state = model::read_as(Layout::Old, &area_of(words)).unwrap();
+            assert_eq!(state.old_bytes(), Some(area_of(words)));
+            assert_eq!(state.bytes(), with(area_of(words), 8, 4));
+            for (call, _, left) in calls {
+                // Calls that may change something, and no others, make the area new.
+                let outcome = state.clone().call(&call, &mut Tally::default());
+                assert_eq!(left.is_some(), outcome.status == 0 && !call.asks(), "{call:?}");
+            }
+        }
     }
 
     #[test]
@@ -1914,12 +2366,14 @@ mod tests {
         assert_eq!(&bytes[..8], b"SABREBUF");
         let mut expected = vec![0; 65_536];
         expected[..8].copy_from_slice(b"SABREBUF");
-        expected[8] = 3;
+        expected[8] = 4;
         expected[16] = 64;
         expected[24] = 255;
         expected[41] = 4;
         expected[49] = 8;
         expected[57] = 12;
         assert_eq!(bytes, expected);
+        expected[8] = 3;
+        assert_eq!(State::fresh(64, 255).old_bytes(), Some(expected));
     }
 }

@@ -1,15 +1,17 @@
-//! Damaged areas. Unsound ones must be refused with 1, whatever list a tick is lent, and left as they
-//! are, and so the list; sound ones must be answered as the model answers them.
+//! Damaged areas, new ones and those of the last 32-bit layout. Unsound ones must be refused with 1,
+//! whatever list a tick is lent, and left as they are, and so the list; sound ones must be answered as the
+//! model answers them.
 
 use crate::calls::*;
 use crate::compare::check;
 use crate::lent::Lent;
 use crate::model::{
-    self, holding_at, place_at, row_at, set_word, slot_at, word, State, Tally, BEGUN_AT, BORDERS_AT,
-    CLAUSES, HEADER_END, HOLDINGS_AT, ORDER_AT, ROWS_AT, SLOTS_AT, TAIL_AT,
+    self, holding_at, place_at, row_at, set_word, slot_at, word, Layout, State, Tally, BEGUN_AT,
+    BORDERS_AT, CLOCK_AT, HEADER_END, HOLDINGS_AT, ORDER_AT, ROWS_AT, SHORT, SLOTS_AT, TAIL_AT,
+    VERSION_AT,
 };
 use crate::random::Random;
-use crate::scenario::{made_up, wild, Scenario, KIND_BORDERS, KIND_TICK};
+use crate::scenario::{made_up, wild_wide, Scenario, KIND_BORDERS, KIND_TICK};
 use crate::waits;
 use std::collections::BTreeMap;
 
@@ -34,9 +36,19 @@ fn number(random: &mut Random, state: &State) -> u64 {
             random.pick(&near)
         }
         6 => random.pick(&[0, 1, 63, 64, 65, 255, 256, 1023, 1024, 2048, 3072, 4095, 4096]),
-        7 => u64::from(wild(random)),
+        7 => wild_wide(random),
         8 => random.next(),
-        9 => random.pick(&[1 << 32, (1 << 32) + 1, 1 << 40, 1 << 63, u64::MAX, u64::MAX - 1]),
+        9 => random.pick(&[
+            SHORT,
+            SHORT + 1,
+            SHORT + 1 + clock % SHORT,
+            1 << 63,
+            (1 << 63) + clock % SHORT,
+            u64::MAX,
+            u64::MAX - 1,
+            u64::MAX - state.delay,
+            u64::MAX - clock,
+        ]),
         10 => (random.between(1, 255) << 32) | random.below(5),
         _ => {
             let pages: Vec<u64> = state.filled.values().map(|slot| slot.page).collect();
@@ -156,6 +168,40 @@ fn damage_order(random: &mut Random, bytes: &mut [u8], state: &State) {
     }
 }
 
+/// Changes the clock, to others that a layout has or has not.
+fn damage_clock(random: &mut Random, bytes: &mut [u8], state: &State) {
+    let clocks = [
+        0,
+        OLD_LAST_CLOCK,
+        OLD_LAST_CLOCK + 1,
+        SHORT,
+        SHORT + 1,
+        SHORT + 1 + state.clock % SHORT,
+        LAST_CLOCK,
+        LAST_CLOCK + 1,
+        (1 << 63) + state.clock % SHORT,
+        u64::MAX - state.delay,
+        u64::MAX,
+    ];
+    set_word(bytes, CLOCK_AT, random.pick(&clocks));
+}
+
+/// Moves every tick on by one number, so that nothing but a range can be broken; or one deadline alone.
+fn damage_ticks(random: &mut Random, bytes: &mut [u8], state: &State) {
+    if random.percent(30) {
+        let row = row_at(some_row(random, state));
+        let deadline = random.pick(&[SHORT, SHORT + 1, SHORT + 1 + state.clock, 1 << 40, 1 << 63, u64::MAX]);
+        return set_word(bytes, row + 24, deadline);
+    }
+    let last = random.pick(&[OLD_LAST_CLOCK, SHORT, LAST_CLOCK, LAST_CLOCK]);
+    let to = last - 2 + random.below(5);
+    let mut moved = state.clone();
+    moved.later(to.saturating_sub(state.clock));
+    let version = word(bytes, VERSION_AT);
+    bytes.copy_from_slice(&moved.bytes());
+    set_word(bytes, VERSION_AT, version);
+}
+
 /// Changes something in the bytes.
 fn damage(random: &mut Random, bytes: &mut [u8], state: &State) {
     match random.below(31) {
@@ -176,13 +222,11 @@ fn damage(random: &mut Random, bytes: &mut [u8], state: &State) {
             };
             set_word(bytes, at, value);
         }
-        4 => match random.below(3) {
+        4 => match random.below(4) {
             0 => set_word(bytes, 16, random.pick(&[0, 1, 64, 65, 256, (1 << 32) + 1])),
             1 => set_word(bytes, 24, random.pick(&[0, 1, 255, 256, 511, (1 << 32) + 1])),
-            _ => {
-                let far = (1 << 32) + state.clock;
-                set_word(bytes, 32, random.pick(&[0, LAST_CLOCK, LAST_CLOCK + 1, 1 << 32, far]));
-            }
+            2 => damage_clock(random, bytes, state),
+            _ => damage_ticks(random, bytes, state),
         },
         // unused bytes, the first and the last of them often
         5 => {
@@ -310,12 +354,25 @@ fn damage(random: &mut Random, bytes: &mut [u8], state: &State) {
                 bytes[HOLDINGS_AT..TAIL_AT].fill(0);
             }
         }
-        // versions 1 and 2 of the layout, which have no order, and version 1 no borders and no begun mark
-        25 => {
-            let (version, from) = random.pick(&[(1, BORDERS_AT), (2, ORDER_AT)]);
-            set_word(bytes, 8, version);
-            bytes[from..HEADER_END].fill(0);
-        }
+        // versions 1 and 2 of the layout, which have no order, and version 1 no borders and no begun mark;
+        // other versions, some of them right by their lower bytes; the other layout that is taken
+        25 => match random.below(4) {
+            0 => {
+                let (version, from) = random.pick(&[(1, BORDERS_AT), (2, ORDER_AT)]);
+                set_word(bytes, VERSION_AT, version);
+                bytes[from..HEADER_END].fill(0);
+            }
+            1 => {
+                let version = word(bytes, VERSION_AT);
+                set_word(bytes, VERSION_AT, if version == 3 { 4 } else { 3 });
+            }
+            _ => {
+                let right = random.pick(&[3, 4]);
+                let upper = random.pick(&[1 << 8, 1 << 32, 1 << 63]);
+                let other = random.pick(&[0, 1, 2, 5, 6, 7, 12, right + upper, u64::MAX]);
+                set_word(bytes, VERSION_AT, other);
+            }
+        },
         26..=29 => damage_order(random, bytes, state),
         // a row whose numbers belong to another condition
         _ => {
@@ -347,13 +404,16 @@ struct Found {
     sound: u64,
     accepted: u64,
     unsound: u64,
+    /// Of old areas: refused with 1, taken over, left by a look, view or count, left by another refusal.
+    old: [u64; 4],
     /// Ticks on unsound areas, with a list that is too short and with one that is not.
     ticks: [u64; 2],
     /// Ticks on sound areas that are refused by 21, and ticks that filled something.
     short: u64,
     filled: u64,
     started: u64,
-    alone: BTreeMap<&'static str, u64>,
+    /// By the layout that the area names.
+    alone: [BTreeMap<&'static str, u64>; 2],
 }
 
 fn one_area(
@@ -366,7 +426,8 @@ fn one_area(
     tally: &mut Tally,
 ) -> Result<(), String> {
     let mut lent = Lent::new(random.below(8) as usize, SIZE + random.below(9) as usize, 0xC3);
-    lent.area()[..SIZE].copy_from_slice(&state.bytes());
+    let old = if random.percent(50) { state.old_bytes() } else { None };
+    lent.area()[..SIZE].copy_from_slice(&old.unwrap_or_else(|| state.bytes()));
     for _ in 0..times {
         damage(random, &mut lent.area()[..SIZE], state);
     }
@@ -383,7 +444,8 @@ fn call_on(
     found: &mut Found,
     tally: &mut Tally,
 ) -> Result<(), String> {
-    let read = model::read(lent.state_bytes());
+    let read = model::read_either(lent.state_bytes());
+    let old = Layout::of(lent.state_bytes()) == Layout::Old;
     let call = some_call(random, scenario, read.as_ref().unwrap_or(state));
     let before = lent.state_bytes().to_vec();
     let mut bytes = before.clone();
@@ -394,8 +456,11 @@ fn call_on(
             let expected = next.call(&call, tally);
             found.short += (expected.status == 21) as u64;
             found.filled += !expected.fills.is_empty() as u64;
-            if expected.status == 0 {
-                found.accepted += 1;
+            if old && !matches!(call, Call::Start { .. }) {
+                found.old[if expected.status != 0 { 3 } else { 1 + call.asks() as usize }] += 1;
+            }
+            found.accepted += (expected.status == 0) as u64;
+            if expected.status == 0 && !call.asks() {
                 bytes = next.bytes();
                 if let Err(broken) = model::read(&bytes) {
                     return Err(format!("{call:?}: the model leaves an unsound area: {broken:?}"));
@@ -408,13 +473,15 @@ fn call_on(
         }
         Err(broken) => {
             if broken.len() == 1 {
-                *found.alone.entry(broken.first().unwrap()).or_insert(0) += 1;
+                let alone = &mut found.alone[old as usize];
+                *alone.entry(broken.first().unwrap()).or_insert(0) += 1;
             }
             let expected = model::call(&mut bytes, &call, tally);
             match call {
                 Call::Start { .. } => found.started += 1,
                 _ => {
                     found.unsound += 1;
+                    found.old[0] += old as u64;
                     if let Call::Tick { list } = call {
                         found.ticks[(list >= LIST) as usize] += 1;
                     }
@@ -432,8 +499,8 @@ fn call_on(
     })
 }
 
-/// Changes each byte of an area in turn. The area is another one for each word of the header, and
-/// then every 256 bytes.
+/// Changes each byte of a new and of an old area in turn. The area is another one for each word of the
+/// header, and then every 256 bytes.
 fn sweep(manager: &Manager, seed: u64, found: &mut Found, tally: &mut Tally) -> Result<(), String> {
     let random = &mut Random::new(seed, u64::MAX);
     let mut scenario = Scenario::random(random);
@@ -441,24 +508,26 @@ fn sweep(manager: &Manager, seed: u64, found: &mut Found, tally: &mut Tally) -> 
     for at in 0..SIZE {
         if at % 256 == 0 || at < HEADER_END && at % 8 == 0 {
             scenario = Scenario::random(random);
-            state = State::fresh(scenario.slots.into(), scenario.delay.into());
+            state = State::fresh(scenario.slots.into(), scenario.delay);
             for _ in 0..random.below(200) {
                 let call = scenario.call(random, &state, LEVELS);
                 state.call(&call, &mut Tally::default());
             }
         }
-        let mut lent = Lent::new(random.below(8) as usize, SIZE, 0x3C);
-        lent.area().copy_from_slice(&state.bytes());
-        lent.area()[at] ^= random.between(1, 255) as u8;
-        call_on(manager, random, &scenario, &state, &mut lent, found, tally)
-            .map_err(|text| format!("damage: seed {seed}, byte {at}: {text}"))?;
+        for bytes in [state.bytes(), state.old_bytes().unwrap()] {
+            let mut lent = Lent::new(random.below(8) as usize, SIZE, 0x3C);
+            lent.area().copy_from_slice(&bytes);
+            lent.area()[at] ^= random.between(1, 255) as u8;
+            call_on(manager, random, &scenario, &state, &mut lent, found, tally)
+                .map_err(|text| format!("damage: seed {seed}, byte {at}: {text}"))?;
+        }
     }
     Ok(())
 }
 
 pub fn damage_areas(manager: &Manager, areas: u64, seed: u64) -> Result<(), String> {
     println!(
-        "damage: each byte in turn and {areas} areas, seed {seed}, model against {}",
+        "damage: each byte in turn, new and old, and {areas} areas, seed {seed}, model against {}",
         manager.name
     );
     let mut found = Found::default();
@@ -468,8 +537,9 @@ pub fn damage_areas(manager: &Manager, areas: u64, seed: u64) -> Result<(), Stri
     let mut run = 0;
     while made < areas {
         let random = &mut Random::new(seed, run);
-        let scenario = Scenario::random(random);
-        let mut state = State::fresh(scenario.slots.into(), scenario.delay.into());
+        let mut scenario = Scenario::random(random);
+        scenario.wide = random.percent(50);
+        let mut state = State::fresh(scenario.slots.into(), scenario.delay);
         for step in 0..scenario.length.min(400) {
             let call = scenario.call(random, &state, LEVELS);
             state.call(&call, &mut Tally::default());
@@ -496,13 +566,20 @@ pub fn damage_areas(manager: &Manager, areas: u64, seed: u64) -> Result<(), Stri
     );
     let (waiting, best) = waits::judged(&tally);
     println!("  T-05 holds of {waiting} rows that wait after a tick and of {best} that waited as the best");
-    println!("  how often each clause of soundness was the only one named as broken");
+    println!(
+        "  old areas: {} refused by 1, {} taken over, {} answered from and left, {} left by other refusals",
+        found.old[0], found.old[1], found.old[2], found.old[3]
+    );
     let mut missing = Vec::new();
-    for clause in CLAUSES {
-        let times = found.alone.get(clause).copied().unwrap_or(0);
-        println!("    {times:>9}  {clause}");
-        if times == 0 {
-            missing.push(*clause);
+    for (layout, alone) in [Layout::New, Layout::Old].into_iter().zip(&found.alone) {
+        let which = if layout == Layout::New { "new" } else { "old" };
+        println!("  how often each clause of soundness was the only one named as broken in {which} areas");
+        for clause in layout.clauses() {
+            let times = alone.get(clause).copied().unwrap_or(0);
+            println!("    {times:>9}  {clause}");
+            if times == 0 {
+                missing.push(format!("{clause} ({which})"));
+            }
         }
     }
     if !missing.is_empty() {
@@ -513,6 +590,9 @@ pub fn damage_areas(manager: &Manager, areas: u64, seed: u64) -> Result<(), Stri
     }
     if found.ticks.contains(&0) || found.short == 0 || found.filled == 0 {
         return Err(format!("damage: seed {seed}: a sort of tick never occurred"));
+    }
+    if found.old.contains(&0) {
+        return Err(format!("damage: seed {seed}: a sort of call on old areas never occurred"));
     }
     if waiting == 0 || best == 0 {
         return Err(format!("damage: seed {seed}: nothing was judged by T-05"));

@@ -4,7 +4,7 @@
 use crate::calls::*;
 use crate::compare::check;
 use crate::lent::Lent;
-use crate::model::{self, list_after, State, Tally};
+use crate::model::{self, list_after, word, State, Tally, CLOCK_AT};
 use crate::random::Random;
 use crate::scenario::Scenario;
 use crate::states::more_states;
@@ -16,9 +16,11 @@ fn every_call() -> Vec<Call> {
     let mut calls = Vec::new();
     for wild in [0, u32::MAX] {
         let n = |tame: u32| tame | wild;
+        // Such a delay is right by its lower half.
+        let wide = |tame: u64| tame + (u64::from(wild) << 32);
         calls.extend([
-            Call::Start { slots: n(4), delay: n(2) },
-            Call::Begin { level: n(1), row: n(2), deadline: n(50) },
+            Call::Start { slots: n(4), delay: wide(2) },
+            Call::Begin { level: n(1), row: n(2), deadline: wide(50) },
             Call::Request { level: n(1), row: n(0), page: n(1024), mode: n(0) },
             Call::Unpin { level: n(1), row: n(0), page: n(1024) },
             Call::End { level: n(1), row: n(0) },
@@ -32,11 +34,17 @@ fn every_call() -> Vec<Call> {
     calls
 }
 
+/// The states' areas, new and then, where there is room for them, old.
+fn both_layouts(states: &[State]) -> Vec<Vec<u8>> {
+    let new = states.iter().map(State::bytes);
+    new.chain(states.iter().filter_map(State::old_bytes)).collect()
+}
+
 /// A state that a random run reaches.
 fn reached(seed: u64, slots: u64) -> State {
     let random = &mut Random::new(seed, slots);
     let scenario = Scenario::with_slots(slots, random);
-    let mut state = State::fresh(slots, scenario.delay.into());
+    let mut state = State::fresh(slots, scenario.delay);
     for _ in 0..300 {
         let call = scenario.call(random, &state, LEVELS);
         if !matches!(call, Call::Start { .. }) {
@@ -55,16 +63,17 @@ fn compare_on(manager: &Manager, lent: &mut Lent, call: &Call) -> Result<(), Str
 pub fn lengths(manager: &Manager, seed: u64) -> Result<(), String> {
     println!("lengths: {}, seed {seed}", manager.name);
     let random = &mut Random::new(seed, 0);
-    let sound = [State::fresh(4, 2), reached(seed, 3), reached(seed, 64)];
+    let reached = [State::fresh(4, 2), reached(seed, 3), reached(seed, 64)];
+    let sound = both_layouts(&reached);
     let mut made = 0;
 
     // Short areas: refusal 1 for every call, every byte as before.
     for length in [0, 1, 2, 7, 8, 40, 71, 72, 100, 327, 328, 511, 512, 4_096, 32_768, 65_528, 65_534, 65_535] {
-        for state in &sound {
+        for area in &sound {
             for call in every_call() {
                 for offset in [0, 1] {
                     let mut lent = Lent::new(offset, length, 0xA7);
-                    lent.area().copy_from_slice(&state.bytes()[..length]);
+                    lent.area().copy_from_slice(&area[..length]);
                     let before = lent.state_bytes().to_vec();
                     check(manager, &mut lent, &before, &call, &Outcome::refused(1))
                         .map_err(|text| format!("lengths: {length} bytes: {text}"))?;
@@ -79,11 +88,11 @@ pub fn lengths(manager: &Manager, seed: u64) -> Result<(), String> {
     made = 0;
     for length in [SIZE, SIZE + 1, SIZE + 8, SIZE + 1000, 2 * SIZE, 1 << 20] {
         for offset in 0..16 {
-            for state in &sound {
+            for area in &sound {
                 for call in every_call() {
                     // Past the area stand other bytes each time, so that none can matter.
                     let mut lent = Lent::new(offset, length, random.next() as u8);
-                    lent.area()[..SIZE].copy_from_slice(&state.bytes());
+                    lent.area()[..SIZE].copy_from_slice(area);
                     compare_on(manager, &mut lent, &call).map_err(|text| {
                         format!("lengths: {length} bytes at offset {offset}: {text}")
                     })?;
@@ -107,23 +116,22 @@ pub fn lengths(manager: &Manager, seed: u64) -> Result<(), String> {
                 let byte = random.next() as u8;
                 lent.area()[..SIZE].fill(byte);
             }
-            2 => lent.area()[..SIZE].copy_from_slice(&sound[round % 3].bytes()),
+            2 => lent.area()[..SIZE].copy_from_slice(&sound[round % sound.len()]),
             3 => {
                 let half = random.below(SIZE as u64) as usize;
-                let bytes = sound[round % 3].bytes();
-                lent.area()[..half].copy_from_slice(&bytes[..half]);
+                lent.area()[..half].copy_from_slice(&sound[round % sound.len()][..half]);
             }
             _ => {}
         }
         let slots = random.between(0, 66) as u32;
-        let delay = random.between(0, 257) as u32;
+        let delay = random.between(0, 257) + random.pick(&[0, 0, 0, 1 << 32, 1 << 63]);
         for call in [Call::Start { slots, delay }, Call::Start { slots: slots.clamp(1, 64), delay: delay.clamp(1, 255) }] {
             compare_on(manager, &mut lent, &call)
                 .map_err(|text| format!("lengths: start, round {round}: {text}"))?;
             made += 1;
         }
         let fresh = lent.state_bytes();
-        if model::read(fresh) != Ok(State::fresh(slots.clamp(1, 64).into(), delay.clamp(1, 255).into())) {
+        if model::read(fresh) != Ok(State::fresh(slots.clamp(1, 64).into(), delay.clamp(1, 255))) {
             return Err(format!("lengths: start, round {round}: the area is not fresh"));
         }
     }
@@ -133,7 +141,7 @@ pub fn lengths(manager: &Manager, seed: u64) -> Result<(), String> {
     let mut numbers = [0x5A5A_5A5A_5A5A_5A5A_u64; 12];
     let (before, rest) = numbers.split_at_mut(4);
     let (answer, after) = rest.split_at_mut(4);
-    let mut bytes = sound[1].bytes();
+    let mut bytes = reached[1].bytes();
     let mut list = [0; LIST];
     (manager.tick)(&mut bytes, &mut list, answer.try_into().unwrap());
     (manager.count)(&bytes, 2, answer.try_into().unwrap());
@@ -154,18 +162,20 @@ pub fn lengths(manager: &Manager, seed: u64) -> Result<(), String> {
     #[cfg(target_os = "linux")]
     {
         fenced::fenced(manager, &sound)?;
-        fenced::fenced_lists(manager, &ticking(seed))?;
+        fenced::fenced_lists(manager, &both_layouts(&ticking(seed)))?;
     }
     Ok(())
 }
 
-/// States for ticks: none waits, some wait and all wait, each also at the last clock.
+/// States for ticks: none waits, some wait and all wait; and the last clock, and that of old areas.
 fn ticking(seed: u64) -> Vec<State> {
     let mut list = vec![State::fresh(4, 2), reached(seed, 3), reached(seed, 64)];
     list.extend(more_states().into_iter().map(|(_, state)| state));
-    let mut last = State::fresh(4, 2);
-    last.clock = LAST_CLOCK;
-    list.push(last);
+    for clock in [LAST_CLOCK, OLD_LAST_CLOCK] {
+        let mut last = State::fresh(4, 2);
+        last.clock = clock;
+        list.push(last);
+    }
     list
 }
 
@@ -173,9 +183,9 @@ fn ticking(seed: u64) -> Vec<State> {
 /// ones at any address, whose bytes past 256 are left alone.
 fn lists(manager: &Manager, seed: u64) -> Result<(), String> {
     let (mut short, mut long, mut filled) = (0, 0, 0);
-    for state in ticking(seed) {
+    for area in both_layouts(&ticking(seed)) {
         let mut lent = Lent::new(5, SIZE, 0x77);
-        lent.area().copy_from_slice(&state.bytes());
+        lent.area().copy_from_slice(&area);
         for length in 0..LIST {
             let before = lent.state_bytes().to_vec();
             check(manager, &mut lent, &before, &Call::Tick { list: length }, &Outcome::refused(21))
@@ -185,12 +195,12 @@ fn lists(manager: &Manager, seed: u64) -> Result<(), String> {
         // Each is lent at several addresses.
         for length in (LIST..LIST + 20).chain([511, 512, 1000, 4096, SIZE, 1 << 20]) {
             for _ in 0..if length > 2000 { 2 } else { 12 } {
-                lent.area().copy_from_slice(&state.bytes());
+                lent.area().copy_from_slice(&area);
                 compare_on(manager, &mut lent, &Call::Tick { list: length })
                     .map_err(|text| format!("lengths: list of {length} bytes: {text}"))?;
                 long += 1;
                 filled += (lent.list()[..LIST].iter().any(|byte| *byte != 0)
-                    && state.clock < LAST_CLOCK) as u64;
+                    && word(&area, CLOCK_AT) < LAST_CLOCK) as u64;
             }
         }
     }
@@ -262,14 +272,13 @@ mod fenced {
         }
     }
 
-    pub fn fenced(manager: &Manager, sound: &[State]) -> Result<(), String> {
+    pub fn fenced(manager: &Manager, sound: &[Vec<u8>]) -> Result<(), String> {
         let mut field = Field::new();
         let mut made = 0;
         for length in [0, 1, 39, 71, 100, 327, 511, 4_096, 65_535, SIZE] {
-            for state in sound {
+            for bytes in sound {
                 for call in every_call() {
                     for last in [false, true] {
-                        let bytes = state.bytes();
                         let mut expected_bytes = bytes[..length].to_vec();
                         let expected =
                             model::call(&mut expected_bytes, &call, &mut Tally::default());
@@ -286,13 +295,12 @@ mod fenced {
                 }
             }
         }
-        for state in sound {
-            field.first(SIZE).copy_from_slice(&state.bytes());
+        for bytes in sound {
+            field.first(SIZE).copy_from_slice(bytes);
             field.allow(READ_ONLY);
-            let mut copy = state.clone();
             for call in every_call() {
-                if matches!(call, Call::Look { .. } | Call::View { .. } | Call::Count { .. }) {
-                    let expected = copy.call(&call, &mut Tally::default());
+                if call.asks() {
+                    let expected = model::call(&mut bytes.clone(), &call, &mut Tally::default());
                     let got = manager.ask(field.read_only(), &call);
                     if got != expected {
                         return Err(format!(
@@ -309,14 +317,14 @@ mod fenced {
     }
 
     /// Ticks with lists that begin or end at memory without access.
-    pub fn fenced_lists(manager: &Manager, states: &[State]) -> Result<(), String> {
+    pub fn fenced_lists(manager: &Manager, areas: &[Vec<u8>]) -> Result<(), String> {
         let mut field = Field::new();
         let mut made = 0;
         for length in [0, 1, 7, 8, 100, 248, 255, LIST, LIST + 1, 300, 4_096, SIZE] {
             let call = Call::Tick { list: length };
-            for state in states {
+            for area in areas {
                 for last in [false, true] {
-                    let mut area = state.bytes();
+                    let mut area = area.clone();
                     let mut expected_area = area.clone();
                     let expected = model::call(&mut expected_area, &call, &mut Tally::default());
                     let list = if last { field.last(length) } else { field.first(length) };

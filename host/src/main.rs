@@ -8,6 +8,7 @@ mod damage;
 mod lengths;
 mod lent;
 mod model;
+mod old;
 mod pairs;
 mod plain;
 mod player;
@@ -32,14 +33,16 @@ const SEED: u64 = 1;
 
 const USAGE: &str = "\
 host [all]              every test below with its default size
-host cases              session S, M1 to M11, borders, fills, the begin order and the refusals
+host cases              session S, M1 to M11, borders, fills, the begin order, late clocks, old areas
+                        and the refusals
 host compare [N [SEED]] N random calls, model against manager, and who waits after ticks
 host pairs [N [SEED]]   N pairs of runs that differ in higher calls and in borders
-host damage [N [SEED]]  N damaged areas
+host damage [N [SEED]]  N damaged areas, new and old
 host lengths [SEED]     short, long and unaligned areas and lists
 host stack              the stack that each call needs
 host bench              the time that each call needs
-host record N SEED FILE N random records for the player in FILE, its output in FILE.out
+host record N SEED FILE [wide]
+                        N random records for the player in FILE, its output in FILE.out
 host play [FILE]        what the player prints for FILE, or for standard input
 host stored FILE..      what crates/sessions prints for its files
 host clauses FILE..     the clauses of sound that the areas of those files break";
@@ -92,7 +95,9 @@ fn run(args: &[String]) -> Result<(), String> {
         "stack" => stack::stack(&MANAGER),
         "bench" => bench::bench(&MANAGER),
         "record" => match args {
-            [_, _, _, file] => player::record(number(args, 1, 0)?, number(args, 2, SEED)?, file),
+            [_, _, _, file, rest @ ..] if rest.is_empty() || rest == ["wide"] => {
+                player::record(number(args, 1, 0)?, number(args, 2, SEED)?, file, !rest.is_empty())
+            }
             _ => Err(USAGE.to_string()),
         },
         "play" => play(args.get(1)),

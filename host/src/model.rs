@@ -1,5 +1,5 @@
-//! A model of documents 01 and 02 (T-01, T-02, T-04, T-06), written from their text with maps and lists.
-//! It is meant to be read beside the documents, not to be fast.
+//! A model of documents 01 and 02 (T-01, T-02, T-04, T-06, T-07), written from their text with maps and
+//! lists. It is meant to be read beside the documents, not to be fast.
 
 use crate::calls::*;
 use crate::ties;
@@ -77,6 +77,9 @@ pub struct State {
     pub holdings: BTreeMap<(u64, RowId), Holding>,
 }
 
+/// The largest 32-bit number, the last tick that the last 32-bit layout has room for.
+pub const SHORT: u64 = u32::MAX as u64;
+
 /// The borders until others are set.
 pub const FIRST_BORDERS: [u64; 3] = [1024, 2048, 3072];
 
@@ -109,6 +112,11 @@ fn fall(borders: [u64; 3]) -> bool {
 
 fn exceed(borders: [u64; 3]) -> bool {
     borders.iter().any(|border| *border > 4096)
+}
+
+/// A priority as it would be by the lower half of the deadline.
+fn low_deadline((level, deadline, before): (u64, u64, usize)) -> (u64, u64, usize) {
+    (level, deadline & SHORT, before)
 }
 
 /// Two pins of different rows conflict if either is write.
@@ -189,6 +197,7 @@ pub const EVENTS: &[&str] = &[
     "borders: refused 20 with every row free",
     "begin: the first, under set borders",
     "begin: the deadline is the clock",
+    "begin: a deadline of 2^32 or more",
     "begin: after a row of a larger number of its level",
     "begin: the last of eight",
     "end: the first in the order, before others",
@@ -203,6 +212,7 @@ pub const EVENTS: &[&str] = &[
     "step 1: wait",
     "step 1: kills a seen row",
     "step 1: kills a hidden row",
+    "step 1: waits or not, by the lower halves of deadlines otherwise",
     "step 1: own holding",
     "step 1: own pin made stronger",
     "step 2: ready",
@@ -221,6 +231,7 @@ pub const EVENTS: &[&str] = &[
     "b decided by lowest level",
     "b decided by dirty mark",
     "b decided by touch",
+    "b decided by touch, by its lower half otherwise",
     "b decided by slot number",
     "c decided by priority",
     "c decided by touch",
@@ -234,6 +245,8 @@ pub const EVENTS: &[&str] = &[
     "f decided by priority",
     "f decided by touch",
     "f decided by page",
+    "c to f decided by touch, by its lower half otherwise",
+    "c to f decided by priority, by the lower halves of deadlines otherwise",
     "e takes the requester's own slot",
     "f takes a slot that the requester holds",
     "chosen slot: a pinning row of a higher level killed in e or f",
@@ -249,7 +262,12 @@ pub const EVENTS: &[&str] = &[
     "tick: a row is live at its deadline",
     "tick: due at the deadline and delivered",
     "an unarrived write pin goes",
+    "tick: from clock 4,000,000,000 on",
+    "tick: from below 2^32 on",
+    "tick: to the last clock",
     "tick: refused 21 at the last clock",
+    "tick: due at 2^32 or later and delivered",
+    "tick: late with a deadline of 2^32 or more",
     "tick: a waiting row made ready",
     "tick: a waiting row made fetching",
     "tick: a waiting row tried in vain",
@@ -393,7 +411,7 @@ impl State {
             }
         }
         if let Call::Begin { deadline, .. } = *call {
-            refuse(12, missed(deadline.into(), self.clock));
+            refuse(12, missed(deadline, self.clock));
         }
         if let Call::Request { level, page, mode, .. } = *call {
             let (level, page) = (u64::from(level), u64::from(page));
@@ -476,16 +494,19 @@ impl State {
         let id = |level: u32, row: u32| (u64::from(level), u64::from(row));
         match *call {
             Call::Start { slots, delay } => {
-                *self = State::fresh(slots.into(), delay.into());
+                *self = State::fresh(slots.into(), delay);
                 Outcome::said(STARTED, 0)
             }
             Call::Begin { level, row, deadline } => {
-                if u64::from(deadline) == self.clock {
+                if deadline == self.clock {
                     tally.note("begin: the deadline is the clock");
+                }
+                if deadline > SHORT {
+                    tally.note("begin: a deadline of 2^32 or more");
                 }
                 let row = id(level, row);
                 self.note_begin(row, tally);
-                self.rows.insert(row, Row { condition: Condition::Idle, deadline: deadline.into() });
+                self.rows.insert(row, Row { condition: Condition::Idle, deadline });
                 self.joins(row);
                 self.begun = true;
                 Outcome::said(BEGUN, 0)
@@ -550,12 +571,23 @@ impl State {
     }
 
     fn tick(&mut self, tally: &mut Tally) -> Outcome {
+        match self.clock {
+            OLD_LAST_CLOCK => tally.note("tick: from clock 4,000,000,000 on"),
+            SHORT => tally.note("tick: from below 2^32 on"),
+            _ => {}
+        }
         self.clock += 1;
         let clock = self.clock;
+        if clock == LAST_CLOCK {
+            tally.note("tick: to the last clock");
+        }
         let mut arrived = BTreeSet::new();
         for (id, row) in &mut self.rows {
             if let Condition::Fetching { due } = row.condition {
                 if due <= clock {
+                    if due > SHORT {
+                        tally.note("tick: due at 2^32 or later and delivered");
+                    }
                     row.condition = Condition::Idle;
                     arrived.insert(*id);
                 }
@@ -570,6 +602,9 @@ impl State {
         for id in late {
             if arrived.contains(&id) {
                 tally.note("tick: due and late at once");
+            }
+            if self.rows[&id].deadline > SHORT {
+                tally.note("tick: late with a deadline of 2^32 or more");
             }
             self.kill(id, Cause::Late, tally);
         }
@@ -748,6 +783,7 @@ impl State {
         let arrival;
         if !seen.is_empty() {
             ties::note_step_1(self, me, &conflicting, tally);
+            self.note_deadlines(me, &conflicting, tally);
             if conflicting.iter().any(|row| row.0 <= level && self.better(*row, me)) {
                 tally.note("step 1: wait");
                 return self.wait(me, page, mode);
@@ -785,6 +821,15 @@ impl State {
             self.kill(row, Cause::Taken, tally);
         }
         self.grant(me, slot, mode, arrival, None)
+    }
+
+    /// Notes whether the lower halves of deadlines would decide step 1 otherwise.
+    fn note_deadlines(&self, me: RowId, conflicting: &[RowId], tally: &mut Tally) {
+        let low = |row: RowId| low_deadline(self.priority(row));
+        let seen = || conflicting.iter().filter(|row| row.0 <= me.0);
+        if seen().any(|row| self.better(*row, me)) != seen().any(|row| low(*row) < low(me)) {
+            tally.note("step 1: waits or not, by the lower halves of deadlines otherwise");
+        }
     }
 
     fn wait(&mut self, me: RowId, page: u64, mode: Mode) -> Outcome {
@@ -953,7 +998,11 @@ impl State {
             return slots[0];
         }
         let several = slots.len() > 1;
+        let by_lower_half = keep(slots.clone(), &|slot| slot.touch & SHORT);
         slots = keep(slots, &|slot| slot.touch);
+        if several && slots != by_lower_half {
+            tally.note("b decided by touch, by its lower half otherwise");
+        }
         if several && slots.len() == 1 {
             tally.note("b decided by touch");
             return slots[0];
@@ -976,6 +1025,10 @@ impl State {
             return slots[0];
         }
         let worst = slots.iter().map(|slot| self.priority(self.best_holder(*slot))).max().unwrap();
+        let low = |slot: &u64| low_deadline(self.priority(self.best_holder(*slot)));
+        if slots.iter().map(low).max().unwrap() != low_deadline(worst) {
+            tally.note("c to f decided by priority, by the lower halves of deadlines otherwise");
+        }
         slots.retain(|slot| self.priority(self.best_holder(*slot)) == worst);
         if slots.len() == 1 {
             tally.note(match step {
@@ -996,6 +1049,9 @@ impl State {
                 .unwrap()
         };
         let earliest = slots.iter().map(latest).min().unwrap();
+        if slots.iter().map(|slot| latest(slot) & SHORT).min().unwrap() != earliest & SHORT {
+            tally.note("c to f decided by touch, by its lower half otherwise");
+        }
         slots.retain(|slot| latest(slot) == earliest);
         if slots.len() == 1 {
             tally.note(match step {
@@ -1018,7 +1074,34 @@ impl State {
 
 // The bytes of docs/LAYOUT.md.
 
-pub const LAYOUT_VERSION: u64 = 3;
+/// The layouts that a call takes.
+#[derive(Clone, Copy, Debug, PartialEq, Eq)]
+pub enum Layout {
+    New,
+    /// The last 32-bit layout.
+    Old,
+}
+
+impl Layout {
+    pub fn version(self) -> u64 {
+        match self {
+            Layout::New => 4,
+            Layout::Old => 3,
+        }
+    }
+
+    /// The layout that an area is judged by: the old one if the area says so.
+    pub fn of(area: &[u8]) -> Layout {
+        if area.len() >= SIZE && word(area, VERSION_AT) == Layout::Old.version() {
+            Layout::Old
+        } else {
+            Layout::New
+        }
+    }
+}
+
+pub const VERSION_AT: usize = 8;
+pub const CLOCK_AT: usize = 32;
 pub const BORDERS_AT: usize = 40;
 pub const BEGUN_AT: usize = 64;
 pub const ORDER_AT: usize = 72;
@@ -1063,12 +1146,53 @@ fn mode_number(mode: Mode) -> u64 {
 impl State {
     /// The 65,536 bytes of this state.
     pub fn bytes(&self) -> Vec<u8> {
+        self.written(Layout::New)
+    }
+
+    /// Its bytes in the last 32-bit layout, if that has room for it.
+    pub fn old_bytes(&self) -> Option<Vec<u8>> {
+        self.fits_old().then(|| self.written(Layout::Old))
+    }
+
+    pub fn fits_old(&self) -> bool {
+        let short = |tick: u64| tick <= SHORT;
+        self.clock <= OLD_LAST_CLOCK
+            && self.rows.values().all(|row| {
+                let due = if let Condition::Fetching { due } = row.condition { due } else { 0 };
+                short(row.deadline) && short(due)
+            })
+            && self.filled.values().all(|slot| short(slot.arrival) && short(slot.touch))
+            && self.holdings.values().all(|holding| short(holding.arrival) && short(holding.touch))
+    }
+
+    /// The same state so many ticks later: every tick in it is moved on, deadlines as far as they go.
+    pub fn later(&mut self, further: u64) {
+        self.clock += further;
+        for row in self.rows.values_mut() {
+            if let Condition::Fetching { due } = &mut row.condition {
+                *due += further;
+            }
+            if row.live() {
+                row.deadline = row.deadline.saturating_add(further);
+            }
+        }
+        for slot in self.filled.values_mut() {
+            slot.arrival += further;
+            slot.touch += further;
+        }
+        for holding in self.holdings.values_mut() {
+            holding.arrival += further;
+            holding.touch += further;
+        }
+    }
+
+    fn written(&self, layout: Layout) -> Vec<u8> {
         let mut bytes = vec![0; SIZE];
         bytes[0..8].copy_from_slice(b"SABREBUF");
-        set_word(&mut bytes, 8, LAYOUT_VERSION);
+        set_word(&mut bytes, VERSION_AT, layout.version());
         set_word(&mut bytes, 16, self.slots);
         set_word(&mut bytes, 24, self.delay);
-        set_word(&mut bytes, 32, self.clock);
+        set_word(&mut bytes, CLOCK_AT, self.clock);
         for (at, border) in self.borders.iter().enumerate() {
             set_word(&mut bytes, BORDERS_AT + 8 * at, *border);
         }
@@ -1128,13 +1252,11 @@ pub const UNUSED_SLOT: &str = "unused bytes of a slot";
 pub const UNUSED_TAIL: &str = "unused bytes at the end";
 pub const SLOTS_RANGE: &str = "slots 1 to 64";
 pub const DELAY_RANGE: &str = "delay 1 to 255";
-pub const CLOCK_RANGE: &str = "clock at most 4,000,000,000";
+pub const CLOCK_RANGE: &str = "clock at most 9,000,000,000,000,000,000";
 pub const BORDER_RANGE: &str = "borders at most 4,096";
 pub const BEGUN_RANGE: &str = "the begun mark";
 pub const PLACE_RANGE: &str = "order: a place above 8";
 pub const CONDITION_RANGE: &str = "a row's condition";
-pub const DUE_RANGE: &str = "a due tick is a 32-bit number";
-pub const DEADLINE_RANGE: &str = "a deadline is a 32-bit number";
 pub const WAIT_PAGE_RANGE: &str = "a waiting row's page";
 pub const WAIT_MODE_RANGE: &str = "a waiting row's mode";
 pub const ROW_ZERO: &str = "a free or killed row is zero but for its mark";
@@ -1173,31 +1295,63 @@ pub const FETCH_OTHERS: &str = "a fetching row's other holdings have arrived";
 pub const ARRIVED: &str = "holdings of idle and waiting rows have arrived";
 pub const WAIT_ALLOWED: &str = "a waiting row's mode is allowed for its page";
 
-/// All clauses but the length. Two are left out. A fetching row's due tick is the arrival of a holding,
-/// so one that breaks `DUE_RANGE` always breaks another clause too. In the bytes a row has one place, so
-/// no area breaks `ORDER_AGAIN`.
+// Those of the last 32-bit layout alone.
+pub const OLD_CLOCK: &str = "version 3: clock at most 4,000,000,000";
+pub const OLD_DUE: &str = "version 3: a due tick is a 32-bit number";
+pub const OLD_DEADLINE: &str = "version 3: a deadline is a 32-bit number";
+
+/// All clauses of a new area but the length. In the bytes a row has one place, so no area breaks
+/// `ORDER_AGAIN`.
 pub const CLAUSES: &[&str] = &[
     MARK, VERSION, UNUSED_HEADER, UNUSED_ROW, UNUSED_SLOT, UNUSED_TAIL, SLOTS_RANGE, DELAY_RANGE,
-    CLOCK_RANGE, BORDER_RANGE, BEGUN_RANGE, PLACE_RANGE, CONDITION_RANGE, DEADLINE_RANGE,
-    WAIT_PAGE_RANGE, WAIT_MODE_RANGE, ROW_ZERO, ROW_SPARE, FILLED_RANGE, PAGE_RANGE, DIRTY_RANGE,
+    CLOCK_RANGE, BORDER_RANGE, BEGUN_RANGE, PLACE_RANGE, CONDITION_RANGE, WAIT_PAGE_RANGE,
+    WAIT_MODE_RANGE, ROW_ZERO, ROW_SPARE, FILLED_RANGE, PAGE_RANGE, DIRTY_RANGE,
     LOWEST_RANGE, SLOT_ZERO, PIN_RANGE, HOLDING_ZERO, BORDERS_FALL, ORDER_FREE, ORDER_NONE,
     PLACE_TWICE, PLACE_GAP, ROWS_BEFORE, SLOTS_BEFORE, PAST_EMPTY, ONE_SLOT, LIVE_HOLDER,
     FILLED_HOLDING, ACCESS, CONFLICT, ARRIVAL_LEAST, ARRIVAL_MOST, TOUCH_MOST, SLOT_TOUCH,
     HOLDER_LEVEL, SLOT_ARRIVAL, DEADLINE, FETCH_DUE, FETCH_PIN, FETCH_OTHERS, ARRIVED, WAIT_ALLOWED,
 ];
 
+/// Those of an old area alone. A fetching row's due tick is the arrival of a holding, so one that breaks
+/// `OLD_DUE` always breaks another clause too.
+pub const OLD_CLAUSES: &[&str] = &[OLD_CLOCK, OLD_DEADLINE];
+
+impl Layout {
+    /// The clauses that an area of this layout can break. An area is judged by the version that it names.
+    pub fn clauses(self) -> Vec<&'static str> {
+        match self {
+            Layout::New => CLAUSES.to_vec(),
+            Layout::Old => CLAUSES
+                .iter()
+                .chain(OLD_CLAUSES)
+                .copied()
+                .filter(|clause| ![VERSION, CLOCK_RANGE].contains(clause))
+                .collect(),
+        }
+    }
+}
+
 type Broken = BTreeSet<&'static str>;
 
-/// The state of a sound area, or the clauses that the area breaks. If numbers are out of range,
+/// The state of a sound new area, or the clauses that the area breaks. If numbers are out of range,
 /// only those are named.
 pub fn read(area: &[u8]) -> Result<State, Broken> {
+    read_as(Layout::New, area)
+}
+
+/// The same for an area that a call other than start takes, new or old.
+pub fn read_either(area: &[u8]) -> Result<State, Broken> {
+    read_as(Layout::of(area), area)
+}
+
+pub fn read_as(layout: Layout, area: &[u8]) -> Result<State, Broken> {
     if area.len() < SIZE {
         return Err(Broken::from([LENGTH]));
     }
     let bytes = &area[..SIZE];
-    let state = name(bytes)?;
+    let state = name(bytes, layout)?;
     let mut broken = state.broken();
-    broken.extend(strange_bytes(bytes, &state));
+    broken.extend(strange_bytes(bytes, &state, layout));
     if broken.is_empty() {
         Ok(state)
     } else {
@@ -1206,10 +1360,11 @@ pub fn read(area: &[u8]) -> Result<State, Broken> {
 }
 
 /// The state that the words name, if its numbers can be named at all.
-fn name(bytes: &[u8]) -> Result<State, Broken> {
+fn name(bytes: &[u8], layout: Layout) -> Result<State, Broken> {
+    let old = layout == Layout::Old;
     let mut broken = Broken::new();
     let mut state = State::fresh(word(bytes, 16), word(bytes, 24));
-    state.clock = word(bytes, 32);
+    state.clock = word(bytes, CLOCK_AT);
     state.borders = [0, 1, 2].map(|at| word(bytes, BORDERS_AT + 8 * at));
     state.begun = word(bytes, BEGUN_AT) == 1;
     if !(1..=64).contains(&state.slots) {
@@ -1218,7 +1373,9 @@ fn name(bytes: &[u8]) -> Result<State, Broken> {
     if !(1..=255).contains(&state.delay) {
         broken.insert(DELAY_RANGE);
     }
-    if state.clock > LAST_CLOCK {
+    if old && state.clock > OLD_LAST_CLOCK {
+        broken.insert(OLD_CLOCK);
+    } else if state.clock > LAST_CLOCK {
         broken.insert(CLOCK_RANGE);
     }
     if exceed(state.borders) {
@@ -1243,8 +1400,8 @@ fn name(bytes: &[u8]) -> Result<State, Broken> {
             0 => Condition::Free,
             1 => Condition::Idle,
             2 => {
-                if number > u64::from(u32::MAX) {
-                    broken.insert(DUE_RANGE);
+                if old && number > SHORT {
+                    broken.insert(OLD_DUE);
                 }
                 Condition::Fetching { due: number }
             }
@@ -1271,8 +1428,8 @@ fn name(bytes: &[u8]) -> Result<State, Broken> {
         };
         if row.live() {
             row.deadline = word(bytes, at + 24);
-            if row.deadline > u64::from(u32::MAX) {
-                broken.insert(DEADLINE_RANGE);
+            if old && row.deadline > SHORT {
+                broken.insert(OLD_DEADLINE);
             }
         }
     }
@@ -1351,8 +1508,8 @@ fn strange_places(places: [u64; 8]) -> Broken {
 }
 
 /// Names each part whose bytes are not those of the state.
-fn strange_bytes(bytes: &[u8], state: &State) -> Broken {
-    let right = state.bytes();
+fn strange_bytes(bytes: &[u8], state: &State, layout: Layout) -> Broken {
+    let right = state.written(layout);
     let mut broken = Broken::new();
     if bytes == right {
         return broken;
@@ -1361,7 +1518,7 @@ fn strange_bytes(bytes: &[u8], state: &State) -> Broken {
         if word(bytes, at) == word(&right, at) {
             continue;
         }
-        broken.insert(if at < 8 {
+        broken.insert(if at < VERSION_AT {
             MARK
         } else if at < 16 {
             VERSION
@@ -1497,14 +1654,15 @@ pub fn list_after(call: &Call, outcome: &Outcome, before: &[u8]) -> Vec<u8> {
     list
 }
 
-/// A call on a lent area, sound or not. `list_after` has what becomes of a list.
+/// A call on a lent area, sound or not, new or old. An accepted call that may change something leaves
+/// a new area. `list_after` has what becomes of a list.
 pub fn call(area: &mut [u8], call: &Call, tally: &mut Tally) -> Outcome {
     if area.len() < SIZE {
         let outcome = Outcome::refused(1);
         tally.outcome(call, &outcome);
         return outcome;
     }
-    let mut state = match (read(area), call) {
+    let mut state = match (read_either(area), call) {
         (Ok(state), _) => state,
         // A start takes any area; the state before it does not matter.
         (Err(_), Call::Start { .. }) => State::fresh(1, 1),
@@ -1515,7 +1673,7 @@ pub fn call(area: &mut [u8], call: &Call, tally: &mut Tally) -> Outcome {
         }
     };
     let outcome = state.call(call, tally);
-    if outcome.status == 0 {
+    if outcome.status == 0 && !call.asks() {
         area[..SIZE].copy_from_slice(&state.bytes());
     }
     outcome

@@ -2,11 +2,13 @@
 //! lists, are the same in both, the calls of higher levels and the borders set are not. Where both runs
 //! end with the same borders, what levels up to L are told must be the same. What the ticks put into
 //! the lists is the server's, and is not compared. Begins and ends above L differ, too, and the begin
-//! orders of levels up to L must be the same in both areas (T-06).
+//! orders of levels up to L must be the same in both areas (T-06). In some pairs the areas of either run
+//! are written in the last 32-bit layout before some of its calls, as if the server's software had been
+//! exchanged, and some pairs begin at a late clock (T-07).
 
 use crate::calls::*;
 use crate::lent::{difference as difference_of, Lent};
-use crate::model::{place_at, Condition, State, Tally};
+use crate::model::{place_at, set_word, Condition, Layout, State, Tally, CLOCK_AT, VERSION_AT};
 use crate::random::Random;
 use crate::scenario::Scenario;
 
@@ -38,6 +40,11 @@ enum Told {
 struct Side<'a> {
     manager: &'a Manager,
     lent: Lent,
+    /// Tells when the area is written in the old layout: before so many calls of 100.
+    random: Random,
+    old: u64,
+    /// Calls that got an old area: those that left it old and those that left it new.
+    on_old: [u64; 2],
     /// Guides the choice of calls; the answers are the manager's.
     state: State,
     most: u64,
@@ -63,17 +70,26 @@ struct Side<'a> {
 }
 
 impl<'a> Side<'a> {
-    fn new(manager: &'a Manager, random: &mut Random, scenario: &Scenario, most: u64) -> Side<'a> {
+    fn new(
+        manager: &'a Manager,
+        random: &mut Random,
+        fresh: &State,
+        most: u64,
+        old: u64,
+    ) -> Side<'a> {
         let mut lent = Lent::random(random);
-        let start = Call::Start { slots: scenario.slots, delay: scenario.delay };
-        lent.call(manager, &start);
+        lent.call(manager, &Call::Start { slots: fresh.slots as u32, delay: fresh.delay });
+        set_word(lent.area(), CLOCK_AT, fresh.clock);
         Side {
             manager,
             lent,
-            state: State::fresh(scenario.slots.into(), scenario.delay.into()),
+            random: Random::new(random.next(), 0),
+            old,
+            on_old: [0; 2],
+            state: fresh.clone(),
             most,
             pending: Vec::new(),
-            clock: 0,
+            clock: fresh.clock,
             told: Vec::new(),
             fills: Vec::new(),
             filled: [0; 2],
@@ -85,9 +101,25 @@ impl<'a> Side<'a> {
         }
     }
 
+    fn layout(&self) -> Layout {
+        Layout::of(self.lent.state_bytes())
+    }
+
+    /// Writes the area in the old layout, now and then. The words are the same.
+    fn make_old(&mut self) {
+        if self.random.percent(self.old) && self.state.fits_old() {
+            set_word(self.lent.area(), VERSION_AT, Layout::Old.version());
+        }
+    }
+
     fn ask(&mut self, call: Call) -> Outcome {
+        let old = self.layout() == Layout::Old;
         self.lent.renew_list(&call);
-        self.lent.call(self.manager, &call)
+        let outcome = self.lent.call(self.manager, &call);
+        if old {
+            self.on_old[(self.layout() == Layout::New) as usize] += 1;
+        }
+        outcome
     }
 
     fn look(&mut self, row: (u64, u64)) -> Outcome {
@@ -97,6 +129,7 @@ impl<'a> Side<'a> {
     fn make(&mut self, call: &Call) {
         let counted = kept(call, self.most) && matches!(call, Call::Request { .. });
         let mut tally = if counted { Tally::with_ties() } else { Tally::default() };
+        self.make_old();
         self.state.call(call, &mut tally);
         if !kept(call, self.most) {
             let outcome = self.ask(*call);
@@ -186,6 +219,7 @@ impl<'a> Side<'a> {
     }
 
     fn after(&mut self, call: Call) {
+        self.make_old();
         let outcome = self.ask(call);
         self.told.push(Told::After(call, outcome.told()));
     }
@@ -225,8 +259,9 @@ fn higher_call(random: &mut Random, scenario: &Scenario, state: &State, most: u6
 }
 
 /// In what the two runs differed after a kept call.
-const DIFFERENCES: [&str; 6] = [
+const DIFFERENCES: [&str; 7] = [
     "areas",
+    "layouts of the areas",
     "slots of pages",
     "borders",
     "whether a row has begun",
@@ -256,6 +291,11 @@ struct Found {
     pairs_differed: [u64; DIFFERENCES.len()],
     filled: [u64; 2],
     short: u64,
+    /// Pairs that began at a late clock.
+    late: u64,
+    /// Pairs in which areas were written in the old layout, and the calls that got them.
+    old: u64,
+    on_old: [u64; 2],
 }
 
 fn pair(manager: &Manager, seed: u64, number: u64, found: &mut Found) -> Result<(), String> {
@@ -263,14 +303,22 @@ fn pair(manager: &Manager, seed: u64, number: u64, found: &mut Found) -> Result<
     let random = &mut random;
     let most = random.pick(&[0, 0, 1, 1, 1, 2, 2, 2, 2, 3]);
     let slots = random.pick(&[1, 1, 2, 2, 2, 3, 3, 3, 5, 5, 8, 16]);
-    let scenario = Scenario::with_slots(slots, random);
+    let mut scenario = Scenario::with_slots(slots, random);
+    scenario.wide = random.percent(30);
     let borders = scenario.borders;
     let mut pages = scenario.pages.clone();
     pages.truncate(8);
     pages.push(random.below(4096) as u32);
     let low: Vec<u64> = (0..=most).collect();
-    let mut first = Side::new(manager, random, &scenario, most);
-    let mut second = Side::new(manager, random, &scenario, most);
+    let [old_first, old_second] = random.pick(&[[0, 0], [0, 0], [20, 20], [60, 0], [0, 60], [100, 100]]);
+    let late = random.percent(15);
+    let fresh = if late {
+        scenario.late_start(random)
+    } else {
+        State::fresh(slots, scenario.delay)
+    };
+    let mut first = Side::new(manager, random, &fresh, most, old_first);
+    let mut second = Side::new(manager, random, &fresh, most, old_second);
     let first_share = random.pick(&[20, 50, 80]);
     // How the second run's higher calls come from the first's: all gone, all new, or some of each.
     let (removed, changed, added) = random.pick(&[(100, 0, 0), (100, 0, 60), (30, 30, 20), (10, 5, 5)]);
@@ -354,7 +402,8 @@ fn pair(manager: &Manager, seed: u64, number: u64, found: &mut Found) -> Result<
                 scenario.pages.iter().map(|page| state.slot_of((*page).into())).collect()
             };
             let now = [
-                first.lent.state_bytes() != second.lent.state_bytes(),
+                first.lent.state_bytes()[16..] != second.lent.state_bytes()[16..],
+                first.layout() != second.layout(),
                 places(&first.state) != places(&second.state),
                 first.state.borders != second.state.borders,
                 first.state.begun != second.state.begun,
@@ -374,6 +423,8 @@ fn pair(manager: &Manager, seed: u64, number: u64, found: &mut Found) -> Result<
         return Ok(());
     }
     found.compared += 1;
+    found.late += late as u64;
+    found.old += (old_first + old_second > 0) as u64;
     found.kept += kept_calls;
     found.equal += equal;
     for side in [&first, &second] {
@@ -383,6 +434,7 @@ fn pair(manager: &Manager, seed: u64, number: u64, found: &mut Found) -> Result<
             found.borders[at] += side.borders[at];
             found.by_order[at] += side.by_order[at];
             found.filled[at] += side.filled[at];
+            found.on_old[at] += side.on_old[at];
         }
         found.short += side.short;
     }
@@ -433,6 +485,10 @@ pub fn pairs(manager: &Manager, number: u64, seed: u64) -> Result<(), String> {
         "  the begin order decided in {} kept requests, in {} of them otherwise than row numbers",
         found.by_order[0], found.by_order[1]
     );
+    println!(
+        "  {} pairs began at a late clock; in {} areas of the last 32-bit layout were lent: {} calls left them old, {} new",
+        found.late, found.old, found.on_old[0], found.on_old[1]
+    );
     for (at, name) in DIFFERENCES.iter().enumerate() {
         println!(
             "  after {} kept calls, in {} pairs, the two runs differed in {name}",
@@ -446,6 +502,8 @@ pub fn pairs(manager: &Manager, number: u64, seed: u64) -> Result<(), String> {
         || found.short == 0
         || found.higher_rows.contains(&0)
         || found.by_order.contains(&0)
+        || found.late == 0
+        || found.on_old.contains(&0)
         || found.equal < found.kept / 10
         || found.pairs_differed.iter().any(|pairs| *pairs < number / 20);
     if number >= 100 && little {

@@ -4,8 +4,8 @@ use crate::calls::Manager;
 
 mod c {
     extern "C" {
-        pub fn sabre_start(area: *mut u8, len: usize, slots: u32, delay: u32, answer: *mut u64) -> u32;
-        pub fn sabre_begin(area: *mut u8, len: usize, level: u32, row: u32, deadline: u32, answer: *mut u64) -> u32;
+        pub fn sabre_start(area: *mut u8, len: usize, slots: u32, delay: u64, answer: *mut u64) -> u32;
+        pub fn sabre_begin(area: *mut u8, len: usize, level: u32, row: u32, deadline: u64, answer: *mut u64) -> u32;
         pub fn sabre_request(area: *mut u8, len: usize, level: u32, row: u32, page: u32, mode: u32, answer: *mut u64) -> u32;
         pub fn sabre_unpin(area: *mut u8, len: usize, level: u32, row: u32, page: u32, answer: *mut u64) -> u32;
         pub fn sabre_end(area: *mut u8, len: usize, level: u32, row: u32, answer: *mut u64) -> u32;
@@ -20,11 +20,11 @@ mod c {
 // Safety of all ten: the library is lent the area, and for a tick the list, by address and length and
 // the answer by the address of four numbers, for the time of the call. None overlaps another.
 
-pub fn start(area: &mut [u8], slots: u32, delay: u32, answer: &mut [u64; 4]) -> u32 {
+pub fn start(area: &mut [u8], slots: u32, delay: u64, answer: &mut [u64; 4]) -> u32 {
     unsafe { c::sabre_start(area.as_mut_ptr(), area.len(), slots, delay, answer.as_mut_ptr()) }
 }
 
-pub fn begin(area: &mut [u8], level: u32, row: u32, deadline: u32, answer: &mut [u64; 4]) -> u32 {
+pub fn begin(area: &mut [u8], level: u32, row: u32, deadline: u64, answer: &mut [u64; 4]) -> u32 {
     unsafe { c::sabre_begin(area.as_mut_ptr(), area.len(), level, row, deadline, answer.as_mut_ptr()) }
 }
 

@@ -1,7 +1,9 @@
 //! Random calls that fit the state they meet, with wild numbers among them.
 
 use crate::calls::*;
-use crate::model::{Cause, Condition, Holding, Mode, Pin, Row, RowId, Slot, State, FIRST_BORDERS};
+use crate::model::{
+    Cause, Condition, Holding, Mode, Pin, Row, RowId, Slot, State, FIRST_BORDERS, SHORT,
+};
 use crate::random::Random;
 
 const WILD: &[u32] = &[
@@ -16,6 +18,20 @@ pub fn wild(random: &mut Random) -> u32 {
         random.next() as u32
     } else {
         random.pick(WILD)
+    }
+}
+
+const WIDE: &[u64] = &[
+    SHORT - 1, SHORT, SHORT + 1, SHORT + 2, SHORT + 256, SHORT + 257, 1 << 33, (1 << 40) + 3,
+    LAST_CLOCK - 1, LAST_CLOCK, LAST_CLOCK + 1, (1 << 63) - 1, 1 << 63, (1 << 63) + 1,
+    u64::MAX - 256, u64::MAX - 7, u64::MAX - 1, u64::MAX,
+];
+
+pub fn wild_wide(random: &mut Random) -> u64 {
+    match random.below(5) {
+        0 => random.next(),
+        1 => wild(random).into(),
+        _ => random.pick(WIDE),
     }
 }
 
@@ -68,7 +84,7 @@ fn some_borders(random: &mut Random) -> [u64; 3] {
 /// What one run is made of.
 pub struct Scenario {
     pub slots: u32,
-    pub delay: u32,
+    pub delay: u64,
     /// The borders that are set most often.
     pub borders: [u64; 3],
     pub pages: Vec<u32>,
@@ -90,6 +106,8 @@ pub struct Scenario {
     early: u64,
     /// One number in so many is wild; 0 for none.
     wild: u64,
+    /// Deadlines and delays may be 2^32 or more.
+    pub wide: bool,
 }
 
 impl Scenario {
@@ -160,6 +178,7 @@ impl Scenario {
             focus: if full { 0 } else { random.pick(&[0, 0, 2, 5, 12]) },
             early: random.pick(&[0, 20, 50, 80]),
             wild: random.pick(&[0, 30, 100]),
+            wide: false,
         };
         if (2..=8).contains(&slots) && random.percent(60) {
             scenario.of_rivals(random)
@@ -193,6 +212,16 @@ impl Scenario {
         }
     }
 
+    fn tame_wide(&self, random: &mut Random, number: u64) -> u64 {
+        if !self.wide {
+            self.tame(random, number).into()
+        } else if self.wild_here(random) {
+            wild_wide(random)
+        } else {
+            number
+        }
+    }
+
     fn deadline(&self, random: &mut Random, state: &State, level: u64) -> u64 {
         let clock = state.clock;
         let equals: Vec<u64> = state
@@ -207,10 +236,20 @@ impl Scenario {
         let deadline = match random.below(20) {
             0 => clock.saturating_sub(random.between(1, 3)),
             1..=7 => (clock / self.span + 1) * self.span + self.span / 2,
-            8 => u64::from(u32::MAX) - random.below(4),
+            8 if self.wide => match random.below(3) {
+                0 => u64::MAX - random.below(4),
+                1 => SHORT - 1 + random.below(4),
+                // An early one by its lower half.
+                _ => (clock | SHORT) + 1 + random.below(self.span),
+            },
+            8 => SHORT - random.below(4),
             _ => clock + random.below(self.span),
         };
-        deadline.min(u32::MAX.into())
+        if self.wide {
+            deadline
+        } else {
+            deadline.min(SHORT)
+        }
     }
 
     /// A row of one of the levels that fits, most of the time.
@@ -339,9 +378,14 @@ impl Scenario {
                 let (mut slots, mut delay) = (self.slots, self.delay);
                 match random.below(20) {
                     0 => {}
-                    1 => (slots, delay) = (wild(random), wild(random)),
+                    1 if self.wide => (slots, delay) = (wild(random), wild_wide(random)),
+                    1 => (slots, delay) = (wild(random), wild(random).into()),
                     2..=10 => slots = random.pick(&[0, 65, 66, 256, 257, 1 << 16, u32::MAX]),
-                    _ => delay = random.pick(&[0, 256, 257, 511, 512, 1 << 16, u32::MAX]),
+                    11..=15 if self.wide => {
+                        let lower = random.pick(&[0, 1, 2, 255]);
+                        delay = (random.pick(&[1, 2, 1 << 31, SHORT]) << 32) + lower;
+                    }
+                    _ => delay = random.pick(&[0, 256, 257, 511, 512, 1 << 16, SHORT]),
                 }
                 Call::Start { slots, delay }
             }
@@ -351,7 +395,7 @@ impl Scenario {
                 Call::Begin {
                     level: self.tame(random, level),
                     row: self.tame(random, row),
-                    deadline: self.tame(random, deadline),
+                    deadline: self.tame_wide(random, deadline),
                 }
             }
             2 => {
@@ -433,10 +477,15 @@ impl Scenario {
         }
     }
 
-    /// The state in which a run begins: fresh, or near the clock's end.
-    pub fn late_start(&self, random: &mut Random) -> State {
-        let mut state = State::fresh(self.slots.into(), self.delay.into());
-        state.clock = LAST_CLOCK - random.below(30);
+    /// A fresh state near the clock's end, near the end of the old clock or near 2^32.
+    pub fn late_start(&mut self, random: &mut Random) -> State {
+        let mut state = State::fresh(self.slots.into(), self.delay);
+        state.clock = match random.below(3) {
+            0 => LAST_CLOCK - random.below(30),
+            1 => OLD_LAST_CLOCK - random.below(30),
+            _ => SHORT - random.below(30),
+        };
+        self.wide |= state.clock > OLD_LAST_CLOCK;
         state
     }
 }
@@ -446,10 +495,13 @@ pub fn made_up(random: &mut Random) -> State {
     let slots = random.pick(&[1, 1, 2, 2, 3, 5, 8, 20, 64]);
     let delay = random.pick(&[1, 2, 3, 9, 255]);
     let mut state = State::fresh(slots, delay);
-    state.clock = match random.below(10) {
-        0 => 0,
-        1 => LAST_CLOCK - random.below(3),
-        2 => random.below(LAST_CLOCK + 1),
+    state.clock = match random.below(20) {
+        0..=1 => 0,
+        2 => LAST_CLOCK - random.below(3),
+        3 => random.below(LAST_CLOCK + 1),
+        4 => OLD_LAST_CLOCK - 1 + random.below(3),
+        5 => random.below(OLD_LAST_CLOCK + 1),
+        6 => SHORT - 2 + random.below(6),
         _ => random.below(40),
     };
     state.borders = some_borders(random);
@@ -494,11 +546,12 @@ pub fn made_up(random: &mut Random) -> State {
     let span = random.pick(&[2, 5, 100]);
     let ids: Vec<RowId> = state.rows.keys().copied().collect();
     for id in ids {
-        let deadline = if random.one_in(20) {
-            u64::from(u32::MAX) - random.below(3)
-        } else {
-            clock + random.below(span)
+        let deadline = match random.below(60) {
+            0..=1 => SHORT - random.below(3),
+            2 => u64::MAX - random.below(3),
+            _ => clock + random.below(span),
         };
+        let deadline = deadline.max(clock);
         let mut row = Row { condition: Condition::Idle, deadline };
         match random.below(if most_live { 30 } else { 60 }) {
             0..=9 => {}

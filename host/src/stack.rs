@@ -100,9 +100,13 @@ pub fn stack(manager: &Manager) -> Result<(), String> {
     let mut most: BTreeMap<usize, (usize, String)> = BTreeMap::new();
     let mut all = states();
     all.extend(more_states());
-    for (name, state) in &all {
+    let areas = all.iter().flat_map(|(name, state)| {
+        let old = state.old_bytes().unwrap();
+        [(name.to_string(), state, state.bytes()), (format!("{name}, old"), state, old)]
+    });
+    for (name, state, bytes) in areas {
         for (sort, call) in calls_on(state) {
-            let (mut area, mut list) = (state.bytes(), vec![0; call.list_length()]);
+            let (mut area, mut list) = (bytes.clone(), vec![0; call.list_length()]);
             let mut job =
                 Job { manager, area: &mut area, list: &mut list, call: &call, outcome: None };
             let used = region.measure(work, &mut job as *mut Job as *mut c_void) - own;
@@ -113,12 +117,12 @@ pub fn stack(manager: &Manager) -> Result<(), String> {
             }
             let entry = most.entry(call.kind()).or_insert((0, String::new()));
             if used > entry.0 {
-                *entry = (used, format!("{sort}, {name} state"));
+                *entry = (used, format!("{sort}; state: {name}"));
             }
         }
         // An unsound area and a short one.
         for length in [SIZE, 100] {
-            let mut area = state.bytes();
+            let mut area = bytes.clone();
             area[SIZE - 1] = 1;
             for call in [TICK, Call::Count { level: 3 }] {
                 let (area, list) = (&mut area[..length], &mut vec![0; call.list_length()]);
@@ -126,7 +130,7 @@ pub fn stack(manager: &Manager) -> Result<(), String> {
                 let used = region.measure(work, &mut job as *mut Job as *mut c_void) - own;
                 let entry = most.entry(call.kind()).or_insert((0, String::new()));
                 if used > entry.0 {
-                    *entry = (used, format!("refused 1, {name} state"));
+                    *entry = (used, format!("refused 1; state: {name}"));
                 }
             }
         }

@@ -2,7 +2,7 @@
 //! docs/RECORDED.md has the form.
 
 use crate::calls::SIZE;
-use crate::model::{self, set_word, word, CLAUSES, LENGTH};
+use crate::model::{self, set_word, word, CLAUSES, LENGTH, OLD_CLAUSES};
 use crate::player::play_on;
 use std::collections::BTreeMap;
 use std::path::Path;
@@ -67,7 +67,7 @@ pub fn clauses(files: &[String]) -> Result<(), String> {
     let (mut sound, mut unsound) = (0, 0);
     for file in files {
         for area in load(file)?.areas.into_iter().filter(|area| area.started) {
-            match model::read(&area.bytes) {
+            match model::read_either(&area.bytes) {
                 Ok(_) => sound += 1,
                 Err(broken) => {
                     unsound += 1;
@@ -81,7 +81,7 @@ pub fn clauses(files: &[String]) -> Result<(), String> {
     println!("clauses: {sound} sound areas, {unsound} unsound ones");
     println!("  how many break a clause of sound, and no other");
     let mut missing = Vec::new();
-    for clause in std::iter::once(&LENGTH).chain(CLAUSES) {
+    for clause in std::iter::once(&LENGTH).chain(CLAUSES).chain(OLD_CLAUSES) {
         let times = alone.get(clause).copied().unwrap_or(0);
         println!("    {times:>3}  {clause}");
         if times == 0 {
@@ -99,20 +99,27 @@ pub fn clauses(files: &[String]) -> Result<(), String> {
 mod tests {
     use super::*;
     use crate::calls::Call;
-    use crate::player::{record_of, RECORD};
+    use crate::player::{record_of, RECORD, WIDE_RECORD};
 
-    /// A fresh area, the same without its last byte, zeros that are not started, zeros that are.
+    /// A fresh area, the same without its last byte, one of the old layout, zeros that are not started,
+    /// zeros that are. The records begin a row, count and begin it again.
     fn file() -> Vec<u8> {
         let mark = u64::from_le_bytes(*b"SABREBUF");
-        let fresh = [(0, mark), (8, 3), (16, 2), (24, 1), (40, 1024), (48, 2048), (56, 3072)];
+        let fresh = |version| {
+            [(0, mark), (8, version), (16, 2), (24, 1), (40, 1024), (48, 2048), (56, 3072)]
+        };
         let play = |length| [(PLAY_STARTED as u64, length)];
         let whole = SIZE as u64;
-        let mut pairs = [&fresh[..], &play(whole), &fresh, &play(whole - 1)].concat();
+        let mut pairs = [&fresh(4)[..], &play(whole), &fresh(4), &play(whole - 1)].concat();
+        pairs.extend([&fresh(3)[..], &play(whole)].concat());
         pairs.extend([(PLAY as u64, whole), (PLAY_STARTED as u64, whole)]);
         let words = pairs.iter().flat_map(|(at, value)| [*at, *value]);
         let words = std::iter::once(pairs.len() as u64).chain(words);
         let mut file: Vec<u8> = words.flat_map(u64::to_le_bytes).collect();
-        file.extend(record_of(&Call::Count { level: 0 }, [0; RECORD]).unwrap());
+        let begin = Call::Begin { level: 0, row: 0, deadline: 1 << 32 };
+        file.extend(record_of(&begin, &[0; WIDE_RECORD]).unwrap());
+        file.extend(record_of(&Call::Count { level: 0 }, &[0; RECORD]).unwrap());
+        file.extend(record_of(&begin, &[0; WIDE_RECORD]).unwrap());
         file
     }
 
@@ -125,8 +132,13 @@ mod tests {
             .map(|mut area| play_on(&mut area.bytes, area.started, &stored.records))
             .map(|text| text.split_once('\n').unwrap().1.to_string())
             .collect();
-        let expected = ["open 2", "refused 1", "refused 18", "refused 1"];
-        assert_eq!(said, expected.map(|answer| format!("1 {answer} | - -\n")));
+        let answers = |answers: &[&str]| -> String {
+            (1..).zip(answers).map(|(at, answer)| format!("{at} {answer} | - -\n")).collect()
+        };
+        let sound = answers(&["begun 0", "open 2", "refused 8"]);
+        let unsound = answers(&["refused 1"; 3]);
+        let bad = answers(&["refused 18"]);
+        assert_eq!(said, [sound.clone(), unsound.clone(), sound, bad, unsound]);
     }
 
     #[test]
@@ -134,6 +146,6 @@ mod tests {
         let file = file();
         assert!(parse(&file[..7]).is_none());
         assert!(parse(&file[..100]).is_none());
-        assert!(parse(&file[..file.len() - RECORD]).is_some());
+        assert!(parse(&file[..file.len() - RECORD - 2 * WIDE_RECORD]).is_some());
     }
 }

@@ -25,8 +25,8 @@ use Rattle.model.specs.declared.State.{State}
 use Rattle.model.specs.declared.Change.{Change}
 use Rattle.model.specs.State.{freeRow, emptySlot, emptyHolding, withClock, withRows, withSlots, withPlaces}
 use Rattle.model.specs.Inner.Changed.{marked, holdingAfter, bordersAfter, placesAfter, changed, withSetting}
-use Rattle.area.specs.Layout.{mark, version, bit, headerWords, placesBytes, rowWords, slotWords, holdingWords, placesFrom, encoded}
-use Rattle.area.specs.Inner.Writes.{placesPut, orderPut, settingPut, rowDropped, rowsDropped}
+use Rattle.area.specs.Layout.{mark, version, bit, headerWords, placesBytes, rowWords, slotWords, holdingWords, placesFrom, encoded, encodedAs}
+use Rattle.area.specs.Inner.Writes.{placesPut, orderPut, headerPut, settingPut, rowDropped, rowsDropped}
 use Rattle.area.proofs.Elements.{header-wide, holding-wide}
 use Rattle.area.proofs.Pieces.{rowsBytes, slotsBytes, places-long, rows-long, slots-long, zeros-long}
 
@@ -83,13 +83,13 @@ module _ (x₀ x₁ x₂ x₃ x₄ x₅ x₆ r : List ℕ) where
 
 -- ---- the bytes of a state, its holdings given place by place
 
-abbrev pub laid : State → (ℕ → Holding) → List ℕ
-laid s x =
-    wordBytes (headerWords s) ++ (placesBytes (s .places) ++ (zeroWords 23 ++ (rowsBytes s ++ (slotsBytes s ++ (joined 2048 (λ k. wordBytes (holdingWords (x k))) ++ zeroWords 1216)))))
+abbrev pub laid : ℕ → State → (ℕ → Holding) → List ℕ
+laid v s x =
+    wordBytes (headerWords v s) ++ (placesBytes (s .places) ++ (zeroWords 23 ++ (rowsBytes s ++ (slotsBytes s ++ (joined 2048 (λ k. wordBytes (holdingWords (x k))) ++ zeroWords 1216)))))
 
-pub laid-same : (s : State) (x y : ℕ → Holding) → ((k : ℕ) → k < 2048 → x k ≡ y k) → laid s x ≡ laid s y
-laid-same s x y h =
-    ap (λ (b : List ℕ). wordBytes (headerWords s) ++ (placesBytes (s .places) ++ (zeroWords 23 ++ (rowsBytes s ++ (slotsBytes s ++ (b ++ zeroWords 1216))))))
+pub laid-same : (v : ℕ) (s : State) (x y : ℕ → Holding) → ((k : ℕ) → k < 2048 → x k ≡ y k) → laid v s x ≡ laid v s y
+laid-same v s x y h =
+    ap (λ (b : List ℕ). wordBytes (headerWords v s) ++ (placesBytes (s .places) ++ (zeroWords 23 ++ (rowsBytes s ++ (slotsBytes s ++ (b ++ zeroWords 1216))))))
     (joined-same 2048 (λ k. wordBytes (holdingWords (x k))) (λ k. wordBytes (holdingWords (y k))) (λ k b. ap (λ (z : Holding). wordBytes (holdingWords z)) (h k b)))
 
 held-wide : (x : ℕ → Holding) (k : ℕ) → length (wordBytes (holdingWords (x k))) ≡ 24
@@ -100,37 +100,44 @@ abbrev withHeader : State → ℕ → Borders → Bool → State
 withHeader s clock b begun =
     record { size = s .size; delay = s .delay; clock = clock; rows = s .rows; slots = s .slots; holdings = s .holdings; borders = b; begun = begun; places = s .places }
 
-module _ (s : State) (x : ℕ → Holding) (r : List ℕ) where
-  -- words v written over as many words u in the middle of the header
-  header-put : (clock : ℕ) (b : Borders) (begun : Bool) (p u v q : List ℕ) (n : ℕ)
-      → headerWords s ≡ p ++ (u ++ q) → headerWords (withHeader s clock b begun) ≡ p ++ (v ++ q) → length p * 8 ≡ n → length u ≡ length v
-      → spliced (laid s x ++ r) n (wordBytes v) ≡ laid (withHeader s clock b begun) x ++ r
-  header-put clock b begun p u v q n e f l m =
-      let h : (w : List ℕ) → wordBytes (p ++ (w ++ q)) ≡ wordBytes p ++ (wordBytes w ++ wordBytes q) =
-      λ w. words-append p (w ++ q) ∙ ap (λ (z : List ℕ). wordBytes p ++ z) (words-append w q) in
+module _ (v : ℕ) (s : State) (x : ℕ → Holding) (r : List ℕ) where
+  -- words z written over as many words u in the middle of the header
+  header-put : (w clock : ℕ) (b : Borders) (begun : Bool) (p u z q : List ℕ) (n : ℕ)
+      → headerWords v s ≡ p ++ (u ++ q) → headerWords w (withHeader s clock b begun) ≡ p ++ (z ++ q) → length p * 8 ≡ n → length u ≡ length z
+      → spliced (laid v s x ++ r) n (wordBytes z) ≡ laid w (withHeader s clock b begun) x ++ r
+  header-put w clock b begun p u z q n e f l m =
+      let h : (y : List ℕ) → wordBytes (p ++ (y ++ q)) ≡ wordBytes p ++ (wordBytes y ++ wordBytes q) =
+      λ y. words-append p (y ++ q) ∙ ap (λ (y : List ℕ). wordBytes p ++ y) (words-append y q) in
       let holdings = joined 2048 (λ k. wordBytes (holdingWords (x k))) in
-      first-over (wordBytes (headerWords s)) (placesBytes (s .places)) (zeroWords 23) (rowsBytes s) (slotsBytes s) holdings (zeroWords 1216) r
-      (wordBytes p) (wordBytes u) (wordBytes q) (wordBytes v) n (ap wordBytes e ∙ h u) (length-words p ∙ l)
-      (length-words u ∙ ap (λ (k : ℕ). k * 8) m ∙ sym (length-words v))
-      ∙ ap (λ (w : List ℕ). (w ++ (placesBytes (s .places) ++ (zeroWords 23 ++ (rowsBytes s ++ (slotsBytes s ++ (holdings ++ zeroWords 1216)))))) ++ r) (sym (ap wordBytes f ∙ h v))
+      first-over (wordBytes (headerWords v s)) (placesBytes (s .places)) (zeroWords 23) (rowsBytes s) (slotsBytes s) holdings (zeroWords 1216) r
+      (wordBytes p) (wordBytes u) (wordBytes q) (wordBytes z) n (ap wordBytes e ∙ h u) (length-words p ∙ l)
+      (length-words u ∙ ap (λ (k : ℕ). k * 8) m ∙ sym (length-words z))
+      ∙ ap (λ (y : List ℕ). (y ++ (placesBytes (s .places) ++ (zeroWords 23 ++ (rowsBytes s ++ (slotsBytes s ++ (holdings ++ zeroWords 1216)))))) ++ r) (sym (ap wordBytes f ∙ h z))
 
-  pub clock-put : (clock : ℕ) → spliced (laid s x ++ r) 32 (wordBytes (clock ∷ [])) ≡ laid (withClock s clock) x ++ r
+  version-put : (w : ℕ) → spliced (laid v s x ++ r) 8 (wordBytes (w ∷ [])) ≡ laid w s x ++ r
+  unfolding headerWords
+  version-put w =
+      let b = s .borders in
+      header-put w (s .clock) b (s .begun) (mark ∷ []) (v ∷ []) (w ∷ []) (s .size ∷ s .delay ∷ s .clock ∷ b .first ∷ b .second ∷ b .third ∷ bit (s .begun) ∷ []) 8
+      refl refl refl refl
+
+  pub clock-put : (clock : ℕ) → spliced (laid v s x ++ r) 32 (wordBytes (clock ∷ [])) ≡ laid v (withClock s clock) x ++ r
   unfolding headerWords
   clock-put clock =
       let b = s .borders in
-      header-put clock b (s .begun) (mark ∷ version ∷ s .size ∷ s .delay ∷ []) (s .clock ∷ []) (clock ∷ []) (b .first ∷ b .second ∷ b .third ∷ bit (s .begun) ∷ []) 32
+      header-put v clock b (s .begun) (mark ∷ v ∷ s .size ∷ s .delay ∷ []) (s .clock ∷ []) (clock ∷ []) (b .first ∷ b .second ∷ b .third ∷ bit (s .begun) ∷ []) 32
       refl refl refl refl
 
-  places-put : placesFrom (laid s x ++ r) ≡ s .places → (t : Setting) → placesPut t (laid s x ++ r) ≡ laid (withPlaces s (placesAfter t (s .places))) x ++ r
+  places-put : placesFrom (laid v s x ++ r) ≡ s .places → (t : Setting) → placesPut t (laid v s x ++ r) ≡ laid v (withPlaces s (placesAfter t (s .places))) x ++ r
   unfolding placesPut headerWords
   places-put e t =
       let new = placesBytes (placesAfter t (s .places)) in
-      ap (λ (l : List ℕ). spliced (laid s x ++ r) 72 (placesBytes (placesAfter t l))) e
-      ∙ second-over (wordBytes (headerWords s)) (placesBytes (s .places)) (zeroWords 23) (rowsBytes s) (slotsBytes s) (joined 2048 (λ k. wordBytes (holdingWords (x k)))) (zeroWords 1216) r
-      (header-wide s) new (places-long (s .places) ∙ sym (places-long (placesAfter t (s .places))))
+      ap (λ (l : List ℕ). spliced (laid v s x ++ r) 72 (placesBytes (placesAfter t l))) e
+      ∙ second-over (wordBytes (headerWords v s)) (placesBytes (s .places)) (zeroWords 23) (rowsBytes s) (slotsBytes s) (joined 2048 (λ k. wordBytes (holdingWords (x k)))) (zeroWords 1216) r
+      (header-wide v s) new (places-long (s .places) ∙ sym (places-long (placesAfter t (s .places))))
 
   -- the places where the bytes name those of the state
-  pub order-put : placesFrom (laid s x ++ r) ≡ s .places → (t : Setting) → orderPut t (laid s x ++ r) ≡ laid (withPlaces s (placesAfter t (s .places))) x ++ r
+  pub order-put : placesFrom (laid v s x ++ r) ≡ s .places → (t : Setting) → orderPut t (laid v s x ++ r) ≡ laid v (withPlaces s (placesAfter t (s .places))) x ++ r
   unfolding orderPut placesPut headerWords
   order-put e Left = refl
   order-put e (Begun row place) = places-put e (Begun row place)
@@ -138,35 +145,35 @@ module _ (s : State) (x : ℕ → Holding) (r : List ℕ) where
   order-put e (Set first second third) = refl
 
   -- the borders and the mark that a row has begun
-  pub setting-put : (t : Setting) → settingPut t (laid s x ++ r) ≡ laid (withPlaces (withSetting s t) (s .places)) x ++ r
+  pub setting-put : (t : Setting) → settingPut t (laid v s x ++ r) ≡ laid v (withPlaces (withSetting s t) (s .places)) x ++ r
   unfolding settingPut headerWords
   setting-put Left = refl
   setting-put (Ended row) = refl
   setting-put (Begun row place) =
       let b = s .borders in
-      header-put (s .clock) b true (mark ∷ version ∷ s .size ∷ s .delay ∷ s .clock ∷ b .first ∷ b .second ∷ b .third ∷ []) (bit (s .begun) ∷ []) (1 ∷ []) [] 64
+      header-put v (s .clock) b true (mark ∷ v ∷ s .size ∷ s .delay ∷ s .clock ∷ b .first ∷ b .second ∷ b .third ∷ []) (bit (s .begun) ∷ []) (1 ∷ []) [] 64
       refl refl refl refl
   setting-put (Set first second third) =
       let b = s .borders in
-      header-put (s .clock) (bordersAfter (Set first second third) b) (s .begun)
-      (mark ∷ version ∷ s .size ∷ s .delay ∷ s .clock ∷ []) (b .first ∷ b .second ∷ b .third ∷ []) (first ∷ second ∷ third ∷ []) (bit (s .begun) ∷ []) 40
+      header-put v (s .clock) (bordersAfter (Set first second third) b) (s .begun)
+      (mark ∷ v ∷ s .size ∷ s .delay ∷ s .clock ∷ []) (b .first ∷ b .second ∷ b .third ∷ []) (first ∷ second ∷ third ∷ []) (bit (s .begun) ∷ []) 40
       refl refl refl refl
 
-  pub rows-put : (rows : List Row) → spliced (laid s x ++ r) 512 (rowsBytes (withRows s rows)) ≡ laid (withRows s rows) x ++ r
+  pub rows-put : (rows : List Row) → spliced (laid v s x ++ r) 512 (rowsBytes (withRows s rows)) ≡ laid v (withRows s rows) x ++ r
   unfolding headerWords
   rows-put rows =
-      fourth-over (wordBytes (headerWords s)) (placesBytes (s .places)) (zeroWords 23) (rowsBytes s) (slotsBytes s) (joined 2048 (λ k. wordBytes (holdingWords (x k)))) (zeroWords 1216) r
-      (header-wide s) (places-long (s .places)) (zeros-long 23) (rowsBytes (withRows s rows)) (rows-long s ∙ sym (rows-long (withRows s rows)))
+      fourth-over (wordBytes (headerWords v s)) (placesBytes (s .places)) (zeroWords 23) (rowsBytes s) (slotsBytes s) (joined 2048 (λ k. wordBytes (holdingWords (x k)))) (zeroWords 1216) r
+      (header-wide v s) (places-long (s .places)) (zeros-long 23) (rowsBytes (withRows s rows)) (rows-long s ∙ sym (rows-long (withRows s rows)))
 
-  pub slots-put : (slots : List Slot) → spliced (laid s x ++ r) 2560 (slotsBytes (withSlots s slots)) ≡ laid (withSlots s slots) x ++ r
+  pub slots-put : (slots : List Slot) → spliced (laid v s x ++ r) 2560 (slotsBytes (withSlots s slots)) ≡ laid v (withSlots s slots) x ++ r
   unfolding headerWords
   slots-put slots =
-      fifth-over (wordBytes (headerWords s)) (placesBytes (s .places)) (zeroWords 23) (rowsBytes s) (slotsBytes s) (joined 2048 (λ k. wordBytes (holdingWords (x k)))) (zeroWords 1216) r
-      (header-wide s) (places-long (s .places)) (zeros-long 23) (rows-long s) (slotsBytes (withSlots s slots)) (slots-long s ∙ sym (slots-long (withSlots s slots)))
+      fifth-over (wordBytes (headerWords v s)) (placesBytes (s .places)) (zeroWords 23) (rowsBytes s) (slotsBytes s) (joined 2048 (λ k. wordBytes (holdingWords (x k)))) (zeroWords 1216) r
+      (header-wide v s) (places-long (s .places)) (zeros-long 23) (rows-long s) (slotsBytes (withSlots s slots)) (slots-long s ∙ sym (slots-long (withSlots s slots)))
 
   -- m holdings from place i on
   pub held-put : (y : ℕ → Holding) (i m l : ℕ) → i + m + l ≡ 2048 → ((k : ℕ) → k < i → x k ≡ y k) → ((k : ℕ) → i + m ≤ k → x k ≡ y k)
-      → spliced (laid s x ++ r) (6656 + i * 24) (joined m (λ j. wordBytes (holdingWords (y (i + j))))) ≡ laid s y ++ r
+      → spliced (laid v s x ++ r) (6656 + i * 24) (joined m (λ j. wordBytes (holdingWords (y (i + j))))) ≡ laid v s y ++ r
   held-put y i m l e low high =
       let f : (ℕ → Holding) → ℕ → List ℕ = λ z k. wordBytes (holdingWords (z k)) in
       let split : (z : ℕ → Holding) → joined 2048 (f z) ≡ joined i (f z) ++ (joined m (λ j. f z (i + j)) ++ joined l (λ j. f z (i + m + j))) =
@@ -175,12 +182,12 @@ module _ (s : State) (x : ℕ → Holding) (r : List ℕ) where
       let back : joined l (λ j. f x (i + m + j)) ≡ joined l (λ j. f y (i + m + j)) =
       joined-same l (λ j. f x (i + m + j)) (λ j. f y (i + m + j)) (λ j b. ap (λ (z : Holding). wordBytes (holdingWords z)) (high (i + m + j) (omega arith))) in
       let whole : joined i (f x) ++ (joined m (λ j. f y (i + j)) ++ joined l (λ j. f x (i + m + j))) ≡ joined 2048 (f y) = rw (front, back) (sym (split y)) in
-      sixth-over (wordBytes (headerWords s)) (placesBytes (s .places)) (zeroWords 23) (rowsBytes s) (slotsBytes s) (joined 2048 (f x)) (zeroWords 1216) r
-      (header-wide s) (places-long (s .places)) (zeros-long 23) (rows-long s) (slots-long s)
+      sixth-over (wordBytes (headerWords v s)) (placesBytes (s .places)) (zeroWords 23) (rowsBytes s) (slotsBytes s) (joined 2048 (f x)) (zeroWords 1216) r
+      (header-wide v s) (places-long (s .places)) (zeros-long 23) (rows-long s) (slots-long s)
       (joined i (f x)) (joined m (λ j. f x (i + j))) (joined l (λ j. f x (i + m + j))) (joined m (λ j. f y (i + j))) (i * 24) (split x)
       (length-joined 24 (f x) (held-wide x) i)
       (length-joined 24 (λ j. f x (i + j)) (λ j. held-wide x (i + j)) m ∙ sym (length-joined 24 (λ j. f y (i + j)) (λ j. held-wide y (i + j)) m))
-      ∙ ap (λ (b : List ℕ). (wordBytes (headerWords s) ++ (placesBytes (s .places) ++ (zeroWords 23 ++ (rowsBytes s ++ (slotsBytes s ++ (b ++ zeroWords 1216)))))) ++ r) whole
+      ∙ ap (λ (b : List ℕ). (wordBytes (headerWords v s) ++ (placesBytes (s .places) ++ (zeroWords 23 ++ (rowsBytes s ++ (slotsBytes s ++ (b ++ zeroWords 1216)))))) ++ r) whole
 
 -- ---- the holdings of rows dropped
 
@@ -236,21 +243,21 @@ module _ (some : ℕ → Bool) (x : ℕ → Holding) (n : ℕ) where
     | no q ↦ left-other k q
   ]
 
-module _ (s : State) (r : List ℕ) where
+module _ (v : ℕ) (s : State) (r : List ℕ) where
   -- one holding goes
   hole-put : (x y : ℕ → Holding) (i : ℕ) → i < 2048 → ((k : ℕ) → (k ≡ i → ⊥) → x k ≡ y k) → y i ≡ emptyHolding
-      → spliced (laid s x ++ r) (6656 + i * 24) (zeroWords 3) ≡ laid s y ++ r
+      → spliced (laid v s x ++ r) (6656 + i * 24) (zeroWords 3) ≡ laid v s y ++ r
   unfolding joined
   hole-put x y i b same e =
       let z : joined 1 (λ j. wordBytes (holdingWords (y (i + j)))) ≡ zeroWords 3 = rw (add-zero i, e) empty-words in
-      ap (λ (w : List ℕ). spliced (laid s x ++ r) (6656 + i * 24) w) (sym z)
-      ∙ held-put s x r y i 1 (2047 - i) (omega arith) (λ k h. same k (omega arith)) (λ k h. same k (omega arith))
+      ap (λ (w : List ℕ). spliced (laid v s x ++ r) (6656 + i * 24) w) (sym z)
+      ∙ held-put v s x r y i 1 (2047 - i) (omega arith) (λ k h. same k (omega arith)) (λ k h. same k (omega arith))
 
   row-drop : (x : ℕ → Holding) (row : ℕ) → row < 32 → (n : ℕ) → n ≤ 64
-      → rowDropped row n (laid s x ++ r) ≡ laid s (λ k. cond (dropsAt row n k) emptyHolding (x k)) ++ r
+      → rowDropped row n (laid v s x ++ r) ≡ laid v s (λ k. cond (dropsAt row n k) emptyHolding (x k)) ++ r
   unfolding rowDropped
   row-drop x row h zero b =
-      ap (λ (w : List ℕ). w ++ r) (laid-same s x (λ k. cond (dropsAt row zero k) emptyHolding (x k)) (λ k _. rw (none k)))
+      ap (λ (w : List ℕ). w ++ r) (laid-same v s x (λ k. cond (dropsAt row zero k) emptyHolding (x k)) (λ k _. rw (none k)))
     where
       none : (k : ℕ) → dropsAt row zero k ≡ false
       none k = go (eqb (k % 32) row)
@@ -264,23 +271,23 @@ module _ (s : State) (r : List ℕ) where
       ap (λ (w : List ℕ). spliced w (6656 + (n * 32 + row) * 24) (zeroWords 3)) (row-drop x row h n (omega arith))
       ∙ hole-put old new (n * 32 + row) (omega arith) (λ k q. rw (drops-more row n k q)) (rw (drops-here row n h))
 
-  rows-drop : (some : ℕ → Bool) (x : ℕ → Holding) (n : ℕ) → n ≤ 32 → rowsDropped some n (laid s x ++ r) ≡ laid s (rowsLeft some x n) ++ r
+  rows-drop : (some : ℕ → Bool) (x : ℕ → Holding) (n : ℕ) → n ≤ 32 → rowsDropped some n (laid v s x ++ r) ≡ laid v s (rowsLeft some x n) ++ r
   unfolding rowsDropped
-  rows-drop some x zero b = ap (λ (w : List ℕ). w ++ r) (laid-same s x (rowsLeft some x zero) (λ k _. rw (le-ltb (k % 32) zero (omega arith))))
+  rows-drop some x zero b = ap (λ (w : List ℕ). w ++ r) (laid-same v s x (rowsLeft some x zero) (λ k _. rw (le-ltb (k % 32) zero (omega arith))))
   rows-drop some x (suc n) b = go (some n) refl (rows-drop some x n (omega arith))
     where
-      go : (t : Bool) → some n ≡ t → rowsDropped some n (laid s x ++ r) ≡ laid s (rowsLeft some x n) ++ r
-          → cond t (rowDropped n 64 (rowsDropped some n (laid s x ++ r))) (rowsDropped some n (laid s x ++ r)) ≡ laid s (rowsLeft some x (suc n)) ++ r
+      go : (t : Bool) → some n ≡ t → rowsDropped some n (laid v s x ++ r) ≡ laid v s (rowsLeft some x n) ++ r
+          → cond t (rowDropped n 64 (rowsDropped some n (laid v s x ++ r))) (rowsDropped some n (laid v s x ++ r)) ≡ laid v s (rowsLeft some x (suc n)) ++ r
       go true e h =
           ap (rowDropped n 64) h
           ∙ row-drop (rowsLeft some x n) n (omega arith) 64 (omega arith)
-          ∙ ap (λ (w : List ℕ). w ++ r) (laid-same s (λ k. cond (dropsAt n 64 k) emptyHolding (rowsLeft some x n k)) (rowsLeft some x (suc n)) (left-dropped some x n e))
-      go false e h = h ∙ ap (λ (w : List ℕ). w ++ r) (laid-same s (rowsLeft some x n) (rowsLeft some x (suc n)) (λ k _. left-next some x n e k))
+          ∙ ap (λ (w : List ℕ). w ++ r) (laid-same v s (λ k. cond (dropsAt n 64 k) emptyHolding (rowsLeft some x n k)) (rowsLeft some x (suc n)) (left-dropped some x n e))
+      go false e h = h ∙ ap (λ (w : List ℕ). w ++ r) (laid-same v s (rowsLeft some x n) (rowsLeft some x (suc n)) (λ k _. left-next some x n e k))
 
   -- the 32 holdings of a slot
   slot-put : (x : ℕ → Holding) (slot : ℕ) (held : List Holding) → slot < 64
-      → spliced (laid s x ++ r) (6656 + slot * 768) (joined 32 (λ row. wordBytes (holdingWords (getD held row emptyHolding))))
-      ≡ laid s (λ k. cond (eqb (k / 32) slot) (getD held (k % 32) emptyHolding) (x k)) ++ r
+      → spliced (laid v s x ++ r) (6656 + slot * 768) (joined 32 (λ row. wordBytes (holdingWords (getD held row emptyHolding))))
+      ≡ laid v s (λ k. cond (eqb (k / 32) slot) (getD held (k % 32) emptyHolding) (x k)) ++ r
   slot-put x slot held b =
       let y : ℕ → Holding = λ k. cond (eqb (k / 32) slot) (getD held (k % 32) emptyHolding) (x k) in
       let at : 6656 + slot * 768 ≡ 6656 + slot * 32 * 24 = omega arith in
@@ -289,15 +296,15 @@ module _ (s : State) (r : List ℕ) where
       let z : joined 32 (λ row. wordBytes (holdingWords (getD held row emptyHolding))) ≡ joined 32 (λ j. wordBytes (holdingWords (y (slot * 32 + j)))) =
       joined-same 32 (λ row. wordBytes (holdingWords (getD held row emptyHolding))) (λ j. wordBytes (holdingWords (y (slot * 32 + j))))
       (λ j h. ap (λ (g : Holding). wordBytes (holdingWords g)) (there j h)) in
-      (λ i. spliced (laid s x ++ r) (at i) (z i))
-      ∙ held-put s x r y (slot * 32) 32 (2016 - slot * 32) (omega arith)
+      (λ i. spliced (laid v s x ++ r) (at i) (z i))
+      ∙ held-put v s x r y (slot * 32) 32 (2016 - slot * 32) (omega arith)
       (λ k h. rw (ne-eqb (k / 32) slot (λ e. omega arith))) (λ k h. rw (ne-eqb (k / 32) slot (λ e. omega arith)))
 
 -- ---- all writes of a change
 
-module _ (s : State) (long : length (s .holdings) ≡ 2048) (c : Change) (r a a0 a1 a2 a3 a4 a5 : List ℕ) (e : encoded s ++ r ≡ a) (named : placesFrom a ≡ s .places)
+module _ (v : ℕ) (s : State) (long : length (s .holdings) ≡ 2048) (c : Change) (r a a0 a1 a2 a3 a4 a5 : List ℕ) (e : encodedAs v s ++ r ≡ a) (named : placesFrom a ≡ s .places)
     (e0 : a0 ≡ orderPut (c .setting) a)
-    (e1 : a1 ≡ spliced a0 32 (wordBytes (c .clock ∷ [])))
+    (e1 : a1 ≡ headerPut (c .clock) a0)
     (e2 : a2 ≡ settingPut (c .setting) a1)
     (e3 : a3 ≡ spliced a2 512 (joined 32 (λ i. wordBytes (rowWords (getD (c .rows) i freeRow)))))
     (e4 : a4 ≡ spliced a3 2560 (joined 64 (λ i. wordBytes (slotWords (getD (c .slots) i emptySlot)))))
@@ -309,37 +316,37 @@ module _ (s : State) (long : length (s .holdings) ≡ 2048) (c : Change) (r a a0
   old = rowsLeft (marked (c .gone)) was 32
 
   -- before the slot's holdings are written
-  dropped : a5 ≡ laid (changed s c) old ++ r
-  unfolding encoded changed headerWords
+  dropped : a5 ≡ laid version (changed s c) old ++ r
+  unfolding encodedAs changed headerWords headerPut
   dropped =
       let s0 = withPlaces s (placesAfter (c .setting) (s .places)) in
       let s1 = withClock s0 (c .clock) in
       let s2 = withPlaces (withSetting s1 (c .setting)) (s0 .places) in
       let s3 = withRows s2 (c .rows) in
       let s4 = withSlots s3 (c .slots) in
-      let d0 : a0 ≡ laid s0 was ++ r = e0 ∙ ap (orderPut (c .setting)) (sym e) ∙ order-put s was r (ap placesFrom e ∙ named) (c .setting) in
-      let d1 : a1 ≡ laid s1 was ++ r = e1 ∙ ap (λ (w : List ℕ). spliced w 32 (wordBytes (c .clock ∷ []))) d0 ∙ clock-put s0 was r (c .clock) in
-      let d2 : a2 ≡ laid s2 was ++ r = e2 ∙ ap (settingPut (c .setting)) d1 ∙ setting-put s1 was r (c .setting) in
-      let d3 : a3 ≡ laid s3 was ++ r = e3 ∙ ap (λ (w : List ℕ). spliced w 512 (rowsBytes s3)) d2 ∙ rows-put s2 was r (c .rows) in
-      let d4 : a4 ≡ laid s4 was ++ r = e4 ∙ ap (λ (w : List ℕ). spliced w 2560 (slotsBytes s4)) d3 ∙ slots-put s3 was r (c .slots) in
-      e5 ∙ ap (rowsDropped (marked (c .gone)) 32) d4 ∙ rows-drop s4 r (marked (c .gone)) was 32 (omega arith)
+      let d0 : a0 ≡ laid v s0 was ++ r = e0 ∙ ap (orderPut (c .setting)) (sym e) ∙ order-put v s was r (ap placesFrom e ∙ named) (c .setting) in
+      let d1 : a1 ≡ laid version s1 was ++ r = e1 ∙ ap (headerPut (c .clock)) d0 ∙ ap (λ (w : List ℕ). spliced w 32 (wordBytes (c .clock ∷ []))) (version-put v s0 was r version) ∙ clock-put version s0 was r (c .clock) in
+      let d2 : a2 ≡ laid version s2 was ++ r = e2 ∙ ap (settingPut (c .setting)) d1 ∙ setting-put version s1 was r (c .setting) in
+      let d3 : a3 ≡ laid version s3 was ++ r = e3 ∙ ap (λ (w : List ℕ). spliced w 512 (rowsBytes s3)) d2 ∙ rows-put version s2 was r (c .rows) in
+      let d4 : a4 ≡ laid version s4 was ++ r = e4 ∙ ap (λ (w : List ℕ). spliced w 2560 (slotsBytes s4)) d3 ∙ slots-put version s3 was r (c .slots) in
+      e5 ∙ ap (rowsDropped (marked (c .gone)) 32) d4 ∙ rows-drop version s4 r (marked (c .gone)) was 32 (omega arith)
 
   holding-after : (k : ℕ) → k < 2048 → getD (each (holdingAfter c) (s .holdings)) k emptyHolding ≡ cond (eqb (k / 32) (c .slot)) (getD (c .held) (k % 32) emptyHolding) (old k)
   unfolding holdingAfter
   holding-after k b = each-at (holdingAfter c) (s .holdings) k emptyHolding (rw long b) ∙ rw (lt-ltb (k % 32) 32 (omega arith))
 
   encoded-after : (y : ℕ → Holding) → ((k : ℕ) → k < 2048 → y k ≡ cond (eqb (k / 32) (c .slot)) (getD (c .held) (k % 32) emptyHolding) (old k))
-      → laid (changed s c) y ++ r ≡ encoded (changed s c) ++ r
-  unfolding encoded changed
+      → laid version (changed s c) y ++ r ≡ encoded (changed s c) ++ r
+  unfolding encodedAs changed
   encoded-after y h = ap (λ (w : List ℕ). w ++ r)
-      (laid-same (changed s c) y (λ k. getD (each (holdingAfter c) (s .holdings)) k emptyHolding) (λ k b. h k b ∙ sym (holding-after k b)))
+      (laid-same version (changed s c) y (λ k. getD (each (holdingAfter c) (s .holdings)) k emptyHolding) (λ k b. h k b ∙ sym (holding-after k b)))
 
   pub amended : (a6 : List ℕ) → c .slot < 64 → a6 ≡ spliced a5 (6656 + c .slot * 768) (joined 32 (λ row. wordBytes (holdingWords (getD (c .held) row emptyHolding))))
       → a6 ≡ encoded (changed s c) ++ r
   amended a6 b e6 =
       e6
       ∙ ap (λ (w : List ℕ). spliced w (6656 + c .slot * 768) (joined 32 (λ row. wordBytes (holdingWords (getD (c .held) row emptyHolding))))) dropped
-      ∙ slot-put (changed s c) r old (c .slot) (c .held) b
+      ∙ slot-put version (changed s c) r old (c .slot) (c .held) b
       ∙ encoded-after (λ k. cond (eqb (k / 32) (c .slot)) (getD (c .held) (k % 32) emptyHolding) (old k)) (λ k _. refl)
 
   pub amended-rows : 64 ≤ c .slot → a5 ≡ encoded (changed s c) ++ r

@@ -1,16 +1,18 @@
 -- The words of the header, of a place, of a row, of a slot and of a holding: their number, their ranges, and that they read back.
 use mathlib.Core.Path.{_≡_, refl, ap, _∙_}
-use mathlib.Core.Bool.{Bool, true, false, cond, not}
+use mathlib.Core.Bool.{Bool, true, false, cond, not, _&&_}
 use mathlib.Core.List.{List, [], _∷_, _++_}
-use Prim.Native.Nat.{ℕ, _+_, _*_, _^_, _<_}
+use Prim.Native.Nat.{ℕ, _+_, _*_, _^_, _<_, _≤_}
 use native.Mathlib.Nat.{add-zero}
 use native.Mathlib.Omega.{arith}
-use native.Mathlib.Decide.{decLt}
-use lib.Dec.{eqb, lit<}
+use native.Mathlib.Decide.{decLt, ℕ-discrete}
+use borrow.Author.Tests.{lt-leb, eq-eqb, ne-eqb}
+use lib.Dec.{leb, eqb, lit<, lit≤}
 use lib.ListN.{length, getD, length-replicate, List·getD-eq-default}
 use Rattle.seq.proofs.BuildLaws.{build-at}
 use Rattle.seq.proofs.EachLaws.{each-length}
-use Rattle.words.specs.Bytes.{wordAt, wordBytes}
+use Rattle.seq.specs.Below.{allBelow}
+use Rattle.words.specs.Bytes.{wordAt, wordBytes, hasWords}
 use Rattle.words.proofs.ByteLaws.{AllUnder, under-each, length-words, word-under, word-back, word-in}
 use Rattle.model.specs.declared.Cause.{Cause}
 use Rattle.model.specs.declared.Cause.the-variants.{Late, Taken}
@@ -35,9 +37,9 @@ use Rattle.area.specs.Layout.{headerWords, conditionNumber, awaited, wai
 
 -- ---- how long they are
 
-pub header-wide : (s : State) → length (wordBytes (headerWords s)) ≡ 72
+pub header-wide : (v : ℕ) (s : State) → length (wordBytes (headerWords v s)) ≡ 72
 unfolding headerWords
-header-wide s = length-words (headerWords s)
+header-wide v s = length-words (headerWords v s)
 
 pub place-wide : (place : ℕ) → length (place ∷ []) * 8 ≡ 8
 place-wide place = refl
@@ -77,20 +79,20 @@ strength-small Write = lit< tt
 condition-small : (c : Condition) → ConditionOk c → (conditionNumber c < 2 ^ 64) × (awaited c < 2 ^ 64) × (waitingMode c < 2 ^ 64)
 condition-small Free k = (lit< tt, lit< tt, lit< tt)
 condition-small Idle k = (lit< tt, lit< tt, lit< tt)
-condition-small (Fetching due) k = (lit< tt, omega arith, lit< tt)
+condition-small (Fetching due) k = (lit< tt, k, lit< tt)
 condition-small (Waiting page mode) k = (lit< tt, omega arith, mode-small mode)
 condition-small (Killed cause) k = (cause-small cause, lit< tt, lit< tt)
 
 content-small : (c : Content) → ContentOk c → (pageIn c < 2 ^ 64) × (arrivalIn c < 2 ^ 64) × (lowestIn c < 2 ^ 64)
 content-small Empty k = (lit< tt, lit< tt, lit< tt)
-content-small (Filled page arrival dirty lowest) k = (omega (arith, k .0), omega (arith, k .1), k .2)
+content-small (Filled page arrival dirty lowest) k = (omega (arith, k .0), k .1, k .2)
 
-pub header-small : (s : State) → StateOk s → AllUnder (2 ^ 64) (headerWords s)
+pub header-small : (v : ℕ) → v < 2 ^ 64 → (s : State) → StateOk s → AllUnder (2 ^ 64) (headerWords v s)
 unfolding headerWords
-header-small s k =
+header-small v h s k =
     let b = k .borders in
-    under-each (2 ^ 64) (lit< tt) (headerWords s)
-    (lit< tt, (lit< tt, (k .size, (omega (arith, k .delay), (omega (arith, k .clock), (omega (arith, b .first), (omega (arith, b .second), (omega (arith, b .third), (bit-small (s .begun), tt)))))))))
+    under-each (2 ^ 64) (lit< tt) (headerWords v s)
+    (lit< tt, (h, (k .size, (k .delay, (k .clock, (omega (arith, b .first), (omega (arith, b .second), (omega (arith, b .third), (bit-small (s .begun), tt)))))))))
 
 pub place-small : (place : ℕ) → place < 2 ^ 64 → AllUnder (2 ^ 64) (place ∷ [])
 place-small place h = under-each (2 ^ 64) (lit< tt) (place ∷ []) (h, tt)
@@ -99,18 +101,18 @@ pub row-small : (x : Row) → RowOk x → AllUnder (2 ^ 64) (rowWords x)
 unfolding rowWords
 row-small x k =
     let c = condition-small (x .condition) (k .condition) in
-    under-each (2 ^ 64) (lit< tt) (rowWords x) (c .0, (c .1, (c .2, (omega (arith, k .deadline), (lit< tt, (lit< tt, (lit< tt, (lit< tt, tt))))))))
+    under-each (2 ^ 64) (lit< tt) (rowWords x) (c .0, (c .1, (c .2, (k .deadline, (lit< tt, (lit< tt, (lit< tt, (lit< tt, tt))))))))
 
 pub slot-small : (x : Slot) → SlotOk x → AllUnder (2 ^ 64) (slotWords x)
 unfolding slotWords
 slot-small x k =
     let c = content-small (x .content) (k .content) in
     under-each (2 ^ 64) (lit< tt) (slotWords x)
-    (bit-small (isFilled (x .content)), (c .0, (c .1, (bit-small (dirtyIn (x .content)), (c .2, (omega (arith, k .touch), (lit< tt, (lit< tt, tt))))))))
+    (bit-small (isFilled (x .content)), (c .0, (c .1, (bit-small (dirtyIn (x .content)), (c .2, (k .touch, (lit< tt, (lit< tt, tt))))))))
 
 pub holding-small : (h : Holding) → HoldingOk h → AllUnder (2 ^ 64) (holdingWords h)
 unfolding holdingWords
-holding-small h k = under-each (2 ^ 64) (lit< tt) (holdingWords h) (strength-small (h .pin), (omega (arith, k .arrival), (omega (arith, k .touch), tt)))
+holding-small h k = under-each (2 ^ 64) (lit< tt) (holdingWords h) (strength-small (h .pin), (k .arrival, (k .touch, tt)))
 
 -- ---- what is read from bytes has its ranges
 
@@ -120,44 +122,51 @@ low-small w = omega arith
 pub low-same : (w : ℕ) → w < 2 ^ 32 → low w ≡ w
 low-same w h = omega arith
 
-condition-of-ok : (n w m : ℕ) → ConditionOk (conditionOf n w m)
+condition-of-ok : (n w m : ℕ) → w < 2 ^ 64 → ConditionOk (conditionOf n w m)
 unfolding conditionOf
-condition-of-ok n w m = go (eqb n 0) (eqb n 1) (eqb n 2) (eqb n 3) (eqb n 4)
+condition-of-ok n w m h = go (eqb n 0) (eqb n 1) (eqb n 2) (eqb n 3) (eqb n 4)
   where
     go : (b0 b1 b2 b3 b4 : Bool)
-        → ConditionOk (cond b0 Free (cond b1 Idle (cond b2 (Fetching (low w)) (cond b3 (Waiting (low w) (cond (eqb m 0) Mode.Read Mode.Write)) (cond b4 (Killed Late) (Killed Taken))))))
+        → ConditionOk (cond b0 Free (cond b1 Idle (cond b2 (Fetching w) (cond b3 (Waiting (low w) (cond (eqb m 0) Mode.Read Mode.Write)) (cond b4 (Killed Late) (Killed Taken))))))
     go true b1 b2 b3 b4 = tt
     go false true b2 b3 b4 = tt
-    go false false true b3 b4 = low-small w
+    go false false true b3 b4 = h
     go false false false true b4 = low-small w
     go false false false false true = tt
     go false false false false false = tt
 
-content-of-ok : (f p r d l : ℕ) → l < 2 ^ 64 → ContentOk (contentOf f p r d l)
+content-of-ok : (f p r d l : ℕ) → r < 2 ^ 64 → l < 2 ^ 64 → ContentOk (contentOf f p r d l)
 unfolding contentOf
-content-of-ok f p r d l h = go (eqb f 0)
+content-of-ok f p r d l g h = go (eqb f 0)
   where
-    go : (b : Bool) → ContentOk (cond b Empty (Filled (low p) (low r) (not (eqb d 0)) l))
+    go : (b : Bool) → ContentOk (cond b Empty (Filled (low p) r (not (eqb d 0)) l))
     go true = tt
-    go false = (low-small p, low-small r, h)
+    go false = (low-small p, g, h)
 
-pub row-from-ok : (a : List ℕ) (at : ℕ) → RowOk (rowFrom a at)
+-- each word of the first 65,536 bytes is one
+abbrev pub AllWords : List ℕ → Type 0
+AllWords a = (at : ℕ) → at + 8 ≤ 65536 → wordAt a at < 2 ^ 64
+
+pub all-words : (a : List ℕ) → AllUnder 256 a → AllWords a
+all-words a u at h = word-under a at u
+
+pub row-from-ok : (a : List ℕ) (at : ℕ) → AllWords a → at + 64 ≤ 65536 → RowOk (rowFrom a at)
 unfolding rowFrom
-row-from-ok a at = record {
-  condition = condition-of-ok (wordAt a at) (wordAt a (at + 8)) (wordAt a (at + 16));
-  deadline = low-small (wordAt a (at + 24));
+row-from-ok a at u h = record {
+  condition = condition-of-ok (wordAt a at) (wordAt a (at + 8)) (wordAt a (at + 16)) (u (at + 8) (omega arith));
+  deadline = u (at + 24) (omega arith);
 }
 
-pub slot-from-ok : (a : List ℕ) (at : ℕ) → AllUnder 256 a → SlotOk (slotFrom a at)
+pub slot-from-ok : (a : List ℕ) (at : ℕ) → AllWords a → at + 64 ≤ 65536 → SlotOk (slotFrom a at)
 unfolding slotFrom
-slot-from-ok a at u = record {
-  content = content-of-ok (wordAt a at) (wordAt a (at + 8)) (wordAt a (at + 16)) (wordAt a (at + 24)) (wordAt a (at + 32)) (word-under a (at + 32) u);
-  touch = low-small (wordAt a (at + 40));
+slot-from-ok a at u h = record {
+  content = content-of-ok (wordAt a at) (wordAt a (at + 8)) (wordAt a (at + 16)) (wordAt a (at + 24)) (wordAt a (at + 32)) (u (at + 16) (omega arith)) (u (at + 32) (omega arith));
+  touch = u (at + 40) (omega arith);
 }
 
-pub holding-from-ok : (a : List ℕ) (at : ℕ) → HoldingOk (holdingFrom a at)
+pub holding-from-ok : (a : List ℕ) (at : ℕ) → AllWords a → at + 24 ≤ 65536 → HoldingOk (holdingFrom a at)
 unfolding holdingFrom
-holding-from-ok a at = record { arrival = low-small (wordAt a (at + 8)); touch = low-small (wordAt a (at + 16)) }
+holding-from-ok a at u h = record { arrival = u (at + 8) (omega arith); touch = u (at + 16) (omega arith) }
 
 pub borders-from-ok : (a : List ℕ) → BordersOk (bordersFrom a)
 unfolding bordersFrom
@@ -198,37 +207,33 @@ decoded-sized a = record {
   places = each-length (λ row _. wordAt a (72 + row * 8)) _ ∙ length-replicate {A = ℕ} 32 0;
 }
 
-pub decoded-row-ok : (a : List ℕ) (row : ℕ) → RowOk (rowAt (decoded a) row)
-decoded-row-ok a = at-each-place RowOk freeRow (record { condition = tt; deadline = lit< tt }) (decoded a .rows)
-    (λ i b. rw (decoded-row a i (rw (decoded-sized a .rows) at b)) (row-from-ok a (512 + i * 64)))
+pub decoded-row-ok : (a : List ℕ) → AllWords a → (row : ℕ) → RowOk (rowAt (decoded a) row)
+decoded-row-ok a u = at-each-place RowOk freeRow (record { condition = tt; deadline = lit< tt }) (decoded a .rows)
+    (λ i b. let h = rw (decoded-sized a .rows) at b in rw (decoded-row a i h) (row-from-ok a (512 + i * 64) u (omega arith)))
 
-pub decoded-slot-ok : (a : List ℕ) → AllUnder 256 a → (slot : ℕ) → SlotOk (slotAt (decoded a) slot)
+pub decoded-slot-ok : (a : List ℕ) → AllWords a → (slot : ℕ) → SlotOk (slotAt (decoded a) slot)
 decoded-slot-ok a u = at-each-place SlotOk emptySlot (record { content = tt; touch = lit< tt }) (decoded a .slots)
-    (λ i b. rw (decoded-slot a i (rw (decoded-sized a .slots) at b)) (slot-from-ok a (2560 + i * 64) u))
+    (λ i b. let h = rw (decoded-sized a .slots) at b in rw (decoded-slot a i h) (slot-from-ok a (2560 + i * 64) u (omega arith)))
 
-pub decoded-holding-ok : (a : List ℕ) (k : ℕ) → HoldingOk (getD (decoded a .holdings) k emptyHolding)
-decoded-holding-ok a = at-each-place HoldingOk emptyHolding (record { arrival = lit< tt; touch = lit< tt }) (decoded a .holdings)
-    (λ i b. rw (decoded-holding a i (rw (decoded-sized a .holdings) at b)) (holding-from-ok a (6656 + i * 24)))
+pub decoded-holding-ok : (a : List ℕ) → AllWords a → (k : ℕ) → HoldingOk (getD (decoded a .holdings) k emptyHolding)
+decoded-holding-ok a u = at-each-place HoldingOk emptyHolding (record { arrival = lit< tt; touch = lit< tt }) (decoded a .holdings)
+    (λ i b. let h = rw (decoded-sized a .holdings) at b in rw (decoded-holding a i h) (holding-from-ok a (6656 + i * 24) u (omega arith)))
 
-pub decoded-place-ok : (a : List ℕ) → AllUnder 256 a → (row : ℕ) → placeAt (decoded a) row < 2 ^ 64
+pub decoded-place-ok : (a : List ℕ) → AllWords a → (row : ℕ) → placeAt (decoded a) row < 2 ^ 64
 decoded-place-ok a u = at-each-place (λ (place : ℕ). place < 2 ^ 64) 0 (lit< tt) (decoded a .places)
-    (λ i b. rw (decoded-place a i (rw (decoded-sized a .places) at b)) (word-under a (72 + i * 8) u))
+    (λ i b. let h = rw (decoded-sized a .places) at b in rw (decoded-place a i h) (u (72 + i * 8) (omega arith)))
 
--- every deadline that an area names, whatever its bytes
-pub decoded-deadline : (a : List ℕ) (row : ℕ) → rowAt (decoded a) row .deadline < 2 ^ 32
-decoded-deadline a row = decoded-row-ok a row .deadline
-
--- bytes name a state whose numbers have their ranges
-pub decoded-ok : (a : List ℕ) → AllUnder 256 a → StateOk (decoded a)
+-- words name a state whose numbers have their ranges
+pub decoded-ok : (a : List ℕ) → AllWords a → StateOk (decoded a)
 unfolding decoded freeRows emptySlots
 decoded-ok a u = record {
-  size = word-under a 16 u;
-  delay = low-small (wordAt a 24);
-  clock = low-small (wordAt a 32);
+  size = u 16 (lit≤ tt);
+  delay = u 24 (lit≤ tt);
+  clock = u 32 (lit≤ tt);
   sized = decoded-sized a;
-  row = decoded-row-ok a;
+  row = decoded-row-ok a u;
   slot = decoded-slot-ok a u;
-  holding = decoded-holding-ok a;
+  holding = decoded-holding-ok a u;
   borders = borders-from-ok a;
   place = decoded-place-ok a u;
 }
@@ -243,7 +248,7 @@ pub condition-back : (c : Condition) → ConditionOk c → conditionOf (conditio
 unfolding conditionOf
 condition-back Free k = refl
 condition-back Idle k = refl
-condition-back (Fetching due) k = ap Fetching (low-same due k)
+condition-back (Fetching due) k = refl
 condition-back (Waiting page mode) k = λ i. Waiting (low-same page k i) (mode-back mode i)
 condition-back (Killed Late) k = refl
 condition-back (Killed Taken) k = refl
@@ -255,7 +260,7 @@ bit-back false = refl
 pub content-back : (c : Content) → ContentOk c → contentOf (bit (isFilled c)) (pageIn c) (arrivalIn c) (bit (dirtyIn c)) (lowestIn c) ≡ c
 unfolding contentOf
 content-back Empty k = refl
-content-back (Filled page arrival dirty lowest) k = λ i. Filled (low-same page (k .0) i) (low-same arrival (k .1) i) (bit-back dirty i) lowest
+content-back (Filled page arrival dirty lowest) k = λ i. Filled (low-same page (k .0) i) arrival (bit-back dirty i) lowest
 
 pub pin-back : (p : Pin) → pinNumbered (strength p) ≡ p
 unfolding pinNumbered
@@ -280,7 +285,7 @@ module _ (p r : List ℕ) (at : ℕ) (e : length p ≡ at) where
       let w3 : wordAt a (at + 24) ≡ x .deadline = w 3 (lit< tt) in
       λ i. record {
         condition = ((λ j. conditionOf (w0 j) (w1 j) (w2 j)) ∙ condition-back (x .condition) (k .condition)) i;
-        deadline = (ap low w3 ∙ low-same (x .deadline) (k .deadline)) i;
+        deadline = w3 i;
       }
 
   pub slot-back : (x : Slot) → SlotOk x → slotFrom (p ++ (wordBytes (slotWords x) ++ r)) at ≡ x
@@ -296,7 +301,7 @@ module _ (p r : List ℕ) (at : ℕ) (e : length p ≡ at) where
       let w5 : wordAt a (at + 40) ≡ x .touch = w 5 (lit< tt) in
       λ i. record {
         content = ((λ j. contentOf (w0 j) (w1 j) (w2 j) (w3 j) (w4 j)) ∙ content-back (x .content) (k .content)) i;
-        touch = (ap low w5 ∙ low-same (x .touch) (k .touch)) i;
+        touch = w5 i;
       }
 
   pub holding-back : (h : Holding) → HoldingOk h → holdingFrom (p ++ (wordBytes (holdingWords h) ++ r)) at ≡ h
@@ -309,11 +314,36 @@ module _ (p r : List ℕ) (at : ℕ) (e : length p ≡ at) where
       let w2 : wordAt a (at + 16) ≡ h .touch = w 2 (lit< tt) in
       λ i. record {
         pin = (ap pinNumbered w0 ∙ pin-back (h .pin)) i;
-        arrival = (ap low w1 ∙ low-same (h .arrival) (k .arrival)) i;
-        touch = (ap low w2 ∙ low-same (h .touch) (k .touch)) i;
+        arrival = w1 i;
+        touch = w2 i;
       }
 
 -- the nine words of the header
-pub header-back : (s : State) → StateOk s → (r : List ℕ) (j : ℕ) → j < 9 → wordAt (wordBytes (headerWords s) ++ r) (j * 8) ≡ getD (headerWords s) j 0
+pub header-back : (v : ℕ) → v < 2 ^ 64 → (s : State) → StateOk s → (r : List ℕ) (j : ℕ) → j < 9 → wordAt (wordBytes (headerWords v s) ++ r) (j * 8) ≡ getD (headerWords v s) j 0
 unfolding headerWords
-header-back s k r j b = word-back (headerWords s) r j b (header-small s k)
+header-back v h s k r j b = word-back (headerWords v s) r j b (header-small v h s k)
+
+-- the words of a holding are those that it is read from where the first is a pin's number
+pin-word : (w : ℕ) → leb w 3 ≡ eqb w (strength (pinNumbered w))
+unfolding pinNumbered
+pin-word w = elim (ℕ-discrete w 0) [
+  | yes e ↦ rw e
+  | no e0 ↦ elim (ℕ-discrete w 1) [
+    | yes e ↦ rw e
+    | no e1 ↦ elim (ℕ-discrete w 2) [
+      | yes e ↦ rw e
+      | no e2 ↦ elim (ℕ-discrete w 3) [
+        | yes e ↦ rw e
+        | no e3 ↦ rw (ne-eqb w 0 e0, ne-eqb w 1 e1, ne-eqb w 2 e2, ne-eqb w 3 e3) (lt-leb w 3 (omega arith))
+      ]
+    ]
+  ]
+]
+
+pub pin-exact : (a : List ℕ) (at : ℕ) → leb (wordAt a at) 3 ≡ hasWords a at (holdingWords (holdingFrom a at))
+unfolding hasWords allBelow holdingWords holdingFrom
+pin-exact a at = rw (add-zero at, eq-eqb (wordAt a (at + 8)) (wordAt a (at + 8)) refl, eq-eqb (wordAt a (at + 16)) (wordAt a (at + 16)) refl, pin-word (wordAt a at)) (ands (eqb (wordAt a at) (strength (pinNumbered (wordAt a at)))))
+  where
+    ands : (b : Bool) → b ≡ b && true && true
+    ands true = refl
+    ands false = refl

@@ -6,11 +6,11 @@ use Prim.Native.Nat.{ℕ, _+_, _*_, _<_, _≤_}
 use native.Mathlib.Nat.{mul-le-mul-right}
 use native.Mathlib.Numerals.{add-one}
 use native.Mathlib.Omega.{arith}
-use lib.ListN.{length, set, length-replicate}
+use lib.ListN.{length, getD, set, length-replicate}
 use Rattle.seq.specs.Each.{each, eachBelow}
-use Rattle.seq.proofs.EachLaws.{each-below-more, each-below-all}
+use Rattle.seq.proofs.EachLaws.{each-at, each-below-more, each-below-all}
 use Rattle.model.specs.State.{freeRow, emptySlot, emptyHolding, emptyHoldings}
-use Rattle.area.specs.Layout.{freeRows, emptySlots, noPlaces}
+use Rattle.area.specs.Layout.{freeRows, emptySlots, noPlaces, holdingFrom, decoded}
 use Rattle.area.specs.Inner.Writes.{rowDropped, rowsDropped}
 use Rattle.words.specs.Bytes.{hasWords, spliced, joined, zeroWords}
 use Rattle.words.proofs.SpliceLaws.{spliced-more}
@@ -31,6 +31,11 @@ empty-slots-long = length-replicate 64 emptySlot
 pub empty-holdings-long : length emptyHoldings ≡ 2048
 unfolding emptyHoldings
 empty-holdings-long = length-replicate 2048 emptyHolding
+
+-- a holding of the state that an area names
+pub holding-read : (a : List ℕ) (k : ℕ) → k < 2048 → holdingFrom a (6656 + k * 24) ≡ getD (decoded a .holdings) k emptyHolding
+unfolding decoded
+holding-read a k h = sym (each-at (λ j _. holdingFrom a (6656 + j * 24)) emptyHoldings k emptyHolding (rw empty-holdings-long h))
 
 -- the next element read, and the last
 module _ {A : Type 0} (from : ℕ → A) (xs : List A) (d : A) (n : ℕ) (long : length xs ≡ n) where

@@ -2,7 +2,7 @@
 use mathlib.Core.Path.{_≡_, refl, sym, ap, _∙_}
 use mathlib.Core.Bool.{Bool, true, _&&_}
 use mathlib.Core.List.{List, [], _∷_, _++_}
-use Prim.Native.Nat.{ℕ, _+_, _*_, _≤_}
+use Prim.Native.Nat.{ℕ, _+_, _*_, _<_, _≤_, _^_}
 use native.Mathlib.Nat.{add-zero}
 use native.Mathlib.Omega.{arith}
 use borrow.Author.Tests.{eq-eqb}
@@ -16,8 +16,8 @@ use Rattle.words.proofs.SameLaws.{same-cut, has-words, has-zeros, has-pieces}
 use Rattle.model.specs.declared.Holding.{Holding}
 use Rattle.model.specs.declared.State.{State}
 use Rattle.model.specs.State.{emptyHolding, rowAt, slotAt, placeAt}
-use Rattle.area.specs.Layout.{headerWords, placesBytes, rowWords, slotWords, holdingWords, encoded, rowFrom, slotFrom, holdingFrom, decoded, exact}
-use Rattle.area.proofs.Elements.{header-wide, place-wide, row-wide, slot-wide, holding-wide, header-small, place-small, row-small, slot-small, holding-small, decoded-place, decoded-row, decoded-slot, decoded-holding, decoded-place-ok, decoded-row-ok, decoded-slot-ok, decoded-holding-ok, decoded-ok}
+use Rattle.area.specs.Layout.{headerWords, placesBytes, rowWords, slotWords, holdingWords, encodedAs, rowFrom, slotFrom, holdingFrom, decoded, exactAs}
+use Rattle.area.proofs.Elements.{header-wide, place-wide, row-wide, slot-wide, holding-wide, header-small, place-small, row-small, slot-small, holding-small, decoded-place, decoded-row, decoded-slot, decoded-holding, decoded-place-ok, decoded-row-ok, decoded-slot-ok, decoded-holding-ok, decoded-ok, all-words}
 
 -- the regions of a state's bytes
 abbrev pub rowsBytes : State → List ℕ
@@ -66,31 +66,31 @@ cut-seven a x₀ x₁ x₂ x₃ x₄ x₅ x₆ h e₀ e₁ e₂ e₃ e₄ e₅ =
     (cut a x₄ (x₅ ++ x₆) 2560 4096 58880 (omega arith) e₄
     (cut a x₅ x₆ 6656 49152 9728 (omega arith) e₅ refl)))))
 
-module _ (a : List ℕ) (bytes : AllUnder 256 a) (long : 65536 ≤ length a) where
-  header-piece : hasWords a 0 (headerWords (decoded a)) ≡ same (part a 0 72) (wordBytes (headerWords (decoded a)))
+module _ (v : ℕ) (word : v < 2 ^ 64) (a : List ℕ) (bytes : AllUnder 256 a) (long : 65536 ≤ length a) where
+  header-piece : hasWords a 0 (headerWords v (decoded a)) ≡ same (part a 0 72) (wordBytes (headerWords v (decoded a)))
   unfolding headerWords
-  header-piece = has-words a (headerWords (decoded a)) 0 bytes (header-small (decoded a) (decoded-ok a bytes)) (omega arith)
+  header-piece = has-words a (headerWords v (decoded a)) 0 bytes (header-small v word (decoded a) (decoded-ok a (all-words a bytes))) (omega arith)
 
   -- any word may stand for a place
   places-piece : same (part a 72 256) (placesBytes (decoded a .places)) ≡ true
   unfolding hasWords allBelow
   places-piece =
       has-pieces a bytes 8 (λ row. placeAt (decoded a) row ∷ []) (λ row. place-wide (placeAt (decoded a) row)) 72 32
-      (λ row _. place-small (placeAt (decoded a) row) (decoded-place-ok a bytes row)) (omega arith)
+      (λ row _. place-small (placeAt (decoded a) row) (decoded-place-ok a (all-words a bytes) row)) (omega arith)
       ∙ each-all (λ row. hasWords a (72 + row * 8) (placeAt (decoded a) row ∷ [])) 32
       (λ row b. rw (add-zero (72 + row * 8)) (eq-eqb (wordAt a (72 + row * 8)) (placeAt (decoded a) row) (sym (decoded-place a row b))))
 
   rows-piece : same (part a 512 2048) (rowsBytes (decoded a)) ≡ allBelow 32 (λ row. hasWords a (512 + row * 64) (rowWords (rowFrom a (512 + row * 64))))
   rows-piece =
       has-pieces a bytes 64 (λ row. rowWords (rowAt (decoded a) row)) (λ row. row-wide (rowAt (decoded a) row)) 512 32
-      (λ row _. row-small (rowAt (decoded a) row) (decoded-row-ok a row)) (omega arith)
+      (λ row _. row-small (rowAt (decoded a) row) (decoded-row-ok a (all-words a bytes) row)) (omega arith)
       ∙ all-same (λ row. hasWords a (512 + row * 64) (rowWords (rowAt (decoded a) row))) (λ row. hasWords a (512 + row * 64) (rowWords (rowFrom a (512 + row * 64)))) 32
       (λ row b. rw (decoded-row a row b))
 
   slots-piece : same (part a 2560 4096) (slotsBytes (decoded a)) ≡ allBelow 64 (λ slot. hasWords a (2560 + slot * 64) (slotWords (slotFrom a (2560 + slot * 64))))
   slots-piece =
       has-pieces a bytes 64 (λ slot. slotWords (slotAt (decoded a) slot)) (λ slot. slot-wide (slotAt (decoded a) slot)) 2560 64
-      (λ slot _. slot-small (slotAt (decoded a) slot) (decoded-slot-ok a bytes slot)) (omega arith)
+      (λ slot _. slot-small (slotAt (decoded a) slot) (decoded-slot-ok a (all-words a bytes) slot)) (omega arith)
       ∙ all-same (λ slot. hasWords a (2560 + slot * 64) (slotWords (slotAt (decoded a) slot))) (λ slot. hasWords a (2560 + slot * 64) (slotWords (slotFrom a (2560 + slot * 64)))) 64
       (λ slot b. rw (decoded-slot a slot b))
 
@@ -98,20 +98,20 @@ module _ (a : List ℕ) (bytes : AllUnder 256 a) (long : 65536 ≤ length a) whe
   holdings-piece =
       let x : ℕ → Holding = λ k. getD (decoded a .holdings) k emptyHolding in
       has-pieces a bytes 24 (λ k. holdingWords (x k)) (λ k. holding-wide (x k)) 6656 2048
-      (λ k _. holding-small (x k) (decoded-holding-ok a k)) (omega arith)
+      (λ k _. holding-small (x k) (decoded-holding-ok a (all-words a bytes) k)) (omega arith)
       ∙ all-same (λ k. hasWords a (6656 + k * 24) (holdingWords (x k))) (λ k. hasWords a (6656 + k * 24) (holdingWords (holdingFrom a (6656 + k * 24)))) 2048
       (λ k b. rw (decoded-holding a k b))
 
-  pub exact-pieces : exact a
-      ≡ hasWords a 0 (headerWords (decoded a)) && (hasWords a 328 (replicate 23 0)
+  pub exact-pieces : exactAs v a
+      ≡ hasWords a 0 (headerWords v (decoded a)) && (hasWords a 328 (replicate 23 0)
       && (allBelow 32 (λ row. hasWords a (512 + row * 64) (rowWords (rowFrom a (512 + row * 64))))
       && (allBelow 64 (λ slot. hasWords a (2560 + slot * 64) (slotWords (slotFrom a (2560 + slot * 64))))
       && (allBelow 2048 (λ k. hasWords a (6656 + k * 24) (holdingWords (holdingFrom a (6656 + k * 24))))
       && hasWords a 55808 (replicate 1216 0)))))
-  unfolding exact encoded
+  unfolding exactAs encodedAs
   exact-pieces =
       let s = decoded a in
-      cut-seven a (wordBytes (headerWords s)) (placesBytes (s .places)) (zeroWords 23) (rowsBytes s) (slotsBytes s) (holdingsBytes s) (zeroWords 1216) long
-      (header-wide s) (places-long (s .places)) (zeros-long 23) (rows-long s) (slots-long s) (holdings-long s)
+      cut-seven a (wordBytes (headerWords v s)) (placesBytes (s .places)) (zeroWords 23) (rowsBytes s) (slotsBytes s) (holdingsBytes s) (zeroWords 1216) long
+      (header-wide v s) (places-long (s .places)) (zeros-long 23) (rows-long s) (slots-long s) (holdings-long s)
       ∙ and-same (sym header-piece) (and-same places-piece (and-same (sym (has-zeros a 328 23 bytes (omega arith)))
       (and-same rows-piece (and-same slots-piece (and-same holdings-piece (sym (has-zeros a 55808 1216 bytes (omega arith))))))))

@@ -28,17 +28,18 @@ use Rattle.model.specs.Words.{isFilled, pageIn, arrivalIn, dirtyIn, lowestIn, s
 abbrev pub mark : ℕ
 mark = 5068029821175611731
 
+-- the version that is written
 abbrev pub version : ℕ
-version = 3
+version = 4
 
 -- a Bool as 0 or 1
 abbrev pub bit : Bool → ℕ
 bit b = cond b 1 0
 
 -- the number of slots started with, the delay, the clock, the three borders and whether a row has begun stand behind the mark and the version
-unfoldable pub headerWords : State → List ℕ
-headerWords s =
-    mark ∷ version ∷ s .size ∷ s .delay ∷ s .clock ∷ s .borders .first ∷ s .borders .second ∷ s .borders .third ∷ bit (s .begun) ∷ []
+unfoldable pub headerWords : ℕ → State → List ℕ
+headerWords v s =
+    mark ∷ v ∷ s .size ∷ s .delay ∷ s .clock ∷ s .borders .first ∷ s .borders .second ∷ s .borders .third ∷ bit (s .begun) ∷ []
 
 abbrev pub causeNumber : Cause → ℕ
 causeNumber Late = 4
@@ -80,16 +81,19 @@ holdingWords h = strength (h .pin) ∷ h .arrival ∷ h .touch ∷ []
 abbrev pub placesBytes : List ℕ → List ℕ
 placesBytes places = joined 32 (λ row. wordBytes (getD places row 0 ∷ []))
 
--- the 65,536 bytes of a state
-unfoldable pub encoded : State → List ℕ
-encoded s =
-    wordBytes (headerWords s) ++ (placesBytes (s .places) ++ (zeroWords 23
+-- the 65,536 bytes of a state, with a version
+unfoldable pub encodedAs : ℕ → State → List ℕ
+encodedAs v s =
+    wordBytes (headerWords v s) ++ (placesBytes (s .places) ++ (zeroWords 23
     ++ (joined 32 (λ row. wordBytes (rowWords (rowAt s row)))
     ++ (joined 64 (λ slot. wordBytes (slotWords (slotAt s slot)))
     ++ (joined 2048 (λ k. wordBytes (holdingWords (getD (s .holdings) k emptyHolding)))
     ++ zeroWords 1216)))))
 
--- a tick, a page, a border or a deadline has the lower four bytes of its word
+abbrev pub encoded : State → List ℕ
+encoded s = encodedAs version s
+
+-- a page or a border has the lower four bytes of its word
 abbrev pub low : ℕ → ℕ
 low w = w % 4294967296
 
@@ -97,7 +101,7 @@ unfoldable pub conditionOf : ℕ → ℕ → ℕ → Condition
 conditionOf number what mode =
     cond (eqb number 0) Free
     (cond (eqb number 1) Idle
-    (cond (eqb number 2) (Fetching (low what))
+    (cond (eqb number 2) (Fetching what)
     (cond (eqb number 3) (Waiting (low what) (modeOf mode))
     (cond (eqb number 4) (Killed Late) (Killed Taken)))))
 
@@ -105,23 +109,23 @@ unfoldable pub pinNumbered : ℕ → Pin
 pinNumbered number = cond (eqb number 0) Absent (cond (eqb number 1) Unpinned (cond (eqb number 2) Read Write))
 
 unfoldable pub contentOf : ℕ → ℕ → ℕ → ℕ → ℕ → Content
-contentOf filled page arrival dirty lowest = cond (eqb filled 0) Empty (Filled (low page) (low arrival) (not (eqb dirty 0)) lowest)
+contentOf filled page arrival dirty lowest = cond (eqb filled 0) Empty (Filled (low page) arrival (not (eqb dirty 0)) lowest)
 
 -- the row, the slot and the holding whose words begin at a place
 unfoldable pub rowFrom : List ℕ → ℕ → Row
 rowFrom a at = record {
   condition = conditionOf (wordAt a at) (wordAt a (at + 8)) (wordAt a (at + 16));
-  deadline = low (wordAt a (at + 24));
+  deadline = wordAt a (at + 24);
 }
 
 unfoldable pub slotFrom : List ℕ → ℕ → Slot
 slotFrom a at = record {
   content = contentOf (wordAt a at) (wordAt a (at + 8)) (wordAt a (at + 16)) (wordAt a (at + 24)) (wordAt a (at + 32));
-  touch = low (wordAt a (at + 40));
+  touch = wordAt a (at + 40);
 }
 
 unfoldable pub holdingFrom : List ℕ → ℕ → Holding
-holdingFrom a at = record { pin = pinNumbered (wordAt a at); arrival = low (wordAt a (at + 8)); touch = low (wordAt a (at + 16)) }
+holdingFrom a at = record { pin = pinNumbered (wordAt a at); arrival = wordAt a (at + 8); touch = wordAt a (at + 16) }
 
 unfoldable pub freeRows : List Row
 freeRows = replicate 32 freeRow
@@ -143,8 +147,8 @@ placesFrom a = each (λ row _. wordAt a (72 + row * 8)) noPlaces
 unfoldable pub decoded : List ℕ → State
 decoded a = record {
   size = wordAt a 16;
-  delay = low (wordAt a 24);
-  clock = low (wordAt a 32);
+  delay = wordAt a 24;
+  clock = wordAt a 32;
   rows = each (λ row _. rowFrom a (512 + row * 64)) freeRows;
   slots = each (λ slot _. slotFrom a (2560 + slot * 64)) emptySlots;
   holdings = each (λ k _. holdingFrom a (6656 + k * 24)) emptyHoldings;
@@ -153,6 +157,13 @@ decoded a = record {
   places = placesFrom a;
 }
 
--- the first 65,536 bytes are exactly those of the state that they name
-unfoldable pub exact : List ℕ → Bool
-exact a = same (take 65536 a) (encoded (decoded a))
+-- the version that an area names
+abbrev pub versionIn : List ℕ → ℕ
+versionIn a = wordAt a 8
+
+-- the first 65,536 bytes are exactly those of the state that they name, with a version
+unfoldable pub exactAs : ℕ → List ℕ → Bool
+exactAs v a = same (take 65536 a) (encodedAs v (decoded a))
+
+abbrev pub exact : List ℕ → Bool
+exact a = exactAs version a

@@ -18,13 +18,13 @@ ghost use Prim.Native.Nat.{_+_, _*_, _<_, _≤_};
 ghost use lib.ListN.{length, getD, drop, replicate};
 ghost use Rattle.words.specs.Bytes.{hasWords, spliced, joined, wordBytes};
 ghost use Rattle.model.specs.Parties.{modeOf};
-ghost use Rattle.model.specs.State.{freeRow, emptySlot, emptyHolding};
+ghost use Rattle.model.specs.State.{freeRow, emptySlot, emptyHolding, fresh};
 ghost use Rattle.model.specs.Inner.Changed.{marked, changed};
-ghost use Rattle.area.specs.Layout.{mark, version, bit, low, causeNumber, conditionOf, pinNumbered, contentOf, rowFrom, slotFrom, holdingFrom, bordersFrom, placesFrom, headerWords, placesBytes, rowWords, slotWords, holdingWords, freeRows, emptySlots, decoded, encoded, exact};
+ghost use Rattle.area.specs.Layout.{mark, bit, low, causeNumber, conditionOf, pinNumbered, contentOf, rowFrom, slotFrom, holdingFrom, bordersFrom, placesFrom, headerWords, placesBytes, rowWords, slotWords, holdingWords, freeRows, emptySlots, decoded, encoded, versionIn, exactAs};
 ghost use Rattle.area.specs.Inner.Exact.{exactRows, exactSlots, exactHoldings};
-ghost use Rattle.area.specs.Inner.Writes.{placesPut, orderPut, settingPut, rowDropped, rowsDropped};
+ghost use Rattle.area.specs.Inner.Writes.{placesPut, orderPut, headerPut, settingPut, rowDropped, rowsDropped};
 
-// The rows and slots that an area names, and whether its bytes there are exactly theirs.
+// The rows, the slots and a holding that an area names, and whether its bytes there are exactly theirs.
 struct Rows {
     rows: [Row; 32],
     exact: bool,
@@ -34,6 +34,14 @@ struct Slots {
     slots: [Slot; 64],
     exact: bool,
 }
+
+struct Held {
+    holding: Holding,
+    exact: bool,
+}
+
+// The version of the layout that is written.
+const VERSION: u64 = 4;
 
 fn low(w: u64) -> u32
     ensures { λ r. ⌜ r ≡ low w ⌝ }
@@ -69,7 +77,7 @@ fn condition_of(number: u64, what: u64, mode: u64) -> Condition
         return Condition::Idle;
     }
     if number == 2 {
-        return Condition::Fetching(low(what));
+        return Condition::Fetching(what);
     }
     if number == 3 {
         return Condition::Waiting {
@@ -106,7 +114,7 @@ fn content_of(filled: u64, page: u64, arrival: u64, dirty: u64, lowest: u64) -> 
     }
     Content::Filled {
         page: low(page),
-        arrival: low(arrival),
+        arrival,
         dirty: dirty != 0,
         lowest: lowest as usize,
     }
@@ -124,7 +132,7 @@ fn get_row(a: &[u8], at: usize) -> Row
     let condition = condition_of(number, what, mode);
     Row {
         condition,
-        deadline: low(deadline),
+        deadline,
     }
 }
 
@@ -139,37 +147,48 @@ fn get_slot(a: &[u8], at: usize) -> Slot
     let lowest = words::word(a, at + 32);
     let touch = words::word(a, at + 40);
     let content = content_of(filled, page, arrival, dirty, lowest);
-    Slot {
-        content,
-        touch: low(touch),
-    }
+    Slot { content, touch }
 }
 
-fn get_holding(a: &[u8], at: usize) -> Holding
+// The first word of a holding has to be the number of a pin; the others may be any.
+fn get_holding(a: &[u8], at: usize) -> Held
     requires { ⌜ at + 24 ≤ length (now a) ⌝ }
-    ensures { λ r. ⌜ r ≡ holdingFrom (now (a .entry)) at ⌝ }
+    ensures { λ r. ⌜ (r .holding ≡ holdingFrom (now (a .entry)) at) × (r .exact ≡ hasWords (now (a .entry)) at (holdingWords (holdingFrom (now (a .entry)) at))) ⌝ }
 {
     let number = words::word(a, at);
     let arrival = words::word(a, at + 8);
     let touch = words::word(a, at + 16);
     let pin = pin_numbered(number);
-    Holding {
+    let holding = Holding {
         pin,
-        arrival: low(arrival),
-        touch: low(touch),
+        arrival,
+        touch,
+    };
+    Held {
+        holding,
+        exact: number <= 3,
     }
+}
+
+// The holding at a place in the state that an area of at least 65,536 bytes names.
+pub fn holding_at(a: &[u8], k: usize) -> Holding
+    requires { ⌜ (65536 ≤ length (now a)) × (k < 2048) ⌝ }
+    ensures { λ r. ⌜ r ≡ getD (decoded (now (a .entry)) .holdings) k emptyHolding ⌝ }
+{
+    let h = get_holding(a, 6656 + k * 24);
+    h.holding
 }
 
 // The words of a row, a slot, a holding and the header.
 fn row_words(x: Row) -> [u64; 8]
     ensures { λ r. ⌜ r ≡ rowWords x ⌝ }
 {
-    let deadline = x.deadline as u64;
+    let deadline = x.deadline;
     let c = x.condition;
     match c {
         Condition::Free => [0, 0, 0, deadline, 0, 0, 0, 0],
         Condition::Idle => [1, 0, 0, deadline, 0, 0, 0, 0],
-        Condition::Fetching(due) => [2, due as u64, 0, deadline, 0, 0, 0, 0],
+        Condition::Fetching(due) => [2, due, 0, deadline, 0, 0, 0, 0],
         Condition::Waiting { page, mode } => {
             let m = model::mode_number(mode);
             [3, page as u64, m as u64, deadline, 0, 0, 0, 0]
@@ -193,7 +212,7 @@ fn cause_number(cause: Cause) -> u64
 fn slot_words(x: Slot) -> [u64; 8]
     ensures { λ r. ⌜ r ≡ slotWords x ⌝ }
 {
-    let touch = x.touch as u64;
+    let touch = x.touch;
     let c = x.content;
     match c {
         Content::Empty => [0, 0, 0, 0, 0, touch, 0, 0],
@@ -204,16 +223,7 @@ fn slot_words(x: Slot) -> [u64; 8]
             lowest,
         } => {
             let d = bit(dirty);
-            [
-                1,
-                page as u64,
-                arrival as u64,
-                d,
-                lowest as u64,
-                touch,
-                0,
-                0,
-            ]
+            [1, page as u64, arrival, d, lowest as u64, touch, 0, 0]
         }
     }
 }
@@ -223,24 +233,39 @@ fn holding_words(h: Holding) -> [u64; 3]
 {
     let p = h.pin;
     let n = model::pin_strength(p);
-    [n as u64, h.arrival as u64, h.touch as u64]
+    [n as u64, h.arrival, h.touch]
 }
 
-// The mark SABREBUF, the version and the numbers of the whole state.
-fn header_words(size: usize, delay: u32, clock: u32, b: Borders, begun: bool) -> [u64; 9]
+// The mark SABREBUF, a version and the numbers of the whole state.
+fn header_words(
+    version: u64,
+    size: usize,
+    delay: u64,
+    clock: u64,
+    b: Borders,
+    begun: bool,
+) -> [u64; 9]
     ensures { λ r. ⌜ r ≡ mark ∷ version ∷ size ∷ delay ∷ clock ∷ b .first ∷ b .second ∷ b .third ∷ bit begun ∷ [] ⌝ }
 {
     [
         5068029821175611731,
-        3,
+        version,
         size as u64,
-        delay as u64,
-        clock as u64,
+        delay,
+        clock,
         b.first as u64,
         b.second as u64,
         b.third as u64,
         bit(begun),
     ]
+}
+
+// The version that an area of at least 65,536 bytes names.
+pub fn version_of(a: &[u8]) -> u64
+    requires { ⌜ 65536 ≤ length (now a) ⌝ }
+    ensures { λ r. ⌜ r ≡ versionIn (now (a .entry)) ⌝ }
+{
+    words::word(a, 8)
 }
 
 fn get_borders(a: &[u8]) -> Borders
@@ -315,12 +340,12 @@ fn get_slots(a: &[u8]) -> Slots
     Slots { slots, exact }
 }
 
-// The mark, the version, the numbers of the whole state and the unused words are those of the layout.
-fn is_frame(a: &[u8], size: usize, delay: u32, clock: u32, b: Borders, begun: bool) -> bool
+// The mark, the numbers of the whole state and the unused words are those of the layout, whatever the version.
+fn is_frame(a: &[u8], size: usize, delay: u64, clock: u64, b: Borders, begun: bool) -> bool
     requires { ⌜ 65536 ≤ length (now a) ⌝ }
-    ensures { λ r. ⌜ r ≡ hasWords (now (a .entry)) 0 (mark ∷ version ∷ size ∷ delay ∷ clock ∷ b .first ∷ b .second ∷ b .third ∷ bit begun ∷ []) && (hasWords (now (a .entry)) 328 (replicate 23 0) && hasWords (now (a .entry)) 55808 (replicate 1216 0)) ⌝ }
+    ensures { λ r. ⌜ r ≡ hasWords (now (a .entry)) 0 (mark ∷ versionIn (now (a .entry)) ∷ size ∷ delay ∷ clock ∷ b .first ∷ b .second ∷ b .third ∷ bit begun ∷ []) && (hasWords (now (a .entry)) 328 (replicate 23 0) && hasWords (now (a .entry)) 55808 (replicate 1216 0)) ⌝ }
 {
-    let ws = header_words(size, delay, clock, b, begun);
+    let ws = header_words(version_of(a), size, delay, clock, b, begun);
     if words::has_words(a, 0, &ws) {
         if words::has_zeros(a, 328, 23) {
             return words::has_zeros(a, 55808, 1216);
@@ -330,15 +355,15 @@ fn is_frame(a: &[u8], size: usize, delay: u32, clock: u32, b: Borders, begun: bo
     false
 }
 
-// The state that an area of at least 65,536 bytes names, and whether its bytes are exactly that state's. Its holdings are read over those of a fresh
-// state.
+// The state that an area of at least 65,536 bytes names, and whether its bytes are exactly that state's, with the version that it names. Its holdings are
+// read over those of a fresh state.
 pub fn decode(a: &[u8], whole: &mut bool) -> State
     requires { ⌜ 65536 ≤ length (now a) ⌝ }
-    ensures { λ r. ⌜ (r ≡ decoded (now (a .entry))) × (now (whole .exit) ≡ exact (now (a .entry))) ⌝ }
+    ensures { λ r. ⌜ (r ≡ decoded (now (a .entry))) × (now (whole .exit) ≡ exactAs (versionIn (now (a .entry))) (now (a .entry))) ⌝ }
 {
     let size = words::word(a, 16) as usize;
-    let delay = low(words::word(a, 24));
-    let clock = low(words::word(a, 32));
+    let delay = words::word(a, 24);
+    let clock = words::word(a, 32);
     let r = get_rows(a);
     let s = get_slots(a);
     let borders = get_borders(a);
@@ -352,9 +377,9 @@ pub fn decode(a: &[u8], whole: &mut bool) -> State
     let mut holdings = fresh.holdings;
     for k in 0..2048usize {
         let at = 6656 + k * 24;
-        let x = get_holding(a, at);
-        let ws = holding_words(x);
-        same = seq::both(same, words::has_words(a, at, &ws));
+        let h = get_holding(a, at);
+        same = seq::both(same, h.exact);
+        let x = h.holding;
         holdings[k] = x;
     }
     *whole = same;
@@ -407,7 +432,7 @@ pub fn encode(a: &mut [u8], s: State)
     requires { ⌜ 65536 ≤ length (now a) ⌝ }
     ensures { λ _. ⌜ now (a .exit) ≡ encoded s ++ drop 65536 (now (a .entry)) ⌝ }
 {
-    let ws = header_words(s.size, s.delay, s.clock, s.borders, s.begun);
+    let ws = header_words(VERSION, s.size, s.delay, s.clock, s.borders, s.begun);
     words::put_words(a, 0, &ws);
     let places = s.places;
     put_places(a, places);
@@ -422,6 +447,16 @@ pub fn encode(a: &mut [u8], s: State)
         words::put_words(a, 6656 + k * 24, &hs);
     }
     words::put_zeros(a, 55808, 1216);
+}
+
+// A fresh state written over the first 65,536 bytes, of which all words but those of the header are zero; the others are left.
+pub fn encode_fresh(a: &mut [u8], s: State)
+    requires { ⌜ (65536 ≤ length (now a)) × (s ≡ fresh (s .size) (s .delay)) ⌝ }
+    ensures { λ _. ⌜ now (a .exit) ≡ encoded s ++ drop 65536 (now (a .entry)) ⌝ }
+{
+    let ws = header_words(VERSION, s.size, s.delay, s.clock, s.borders, s.begun);
+    words::put_words(a, 0, &ws);
+    words::put_zeros(a, 72, 8183);
 }
 
 // The holdings of a row go from all 64 slots.
@@ -485,6 +520,17 @@ fn put_order(a: &mut [u8], x: Setting)
     }
 }
 
+// The version, and the clock that a call leaves.
+fn put_header(a: &mut [u8], clock: u64)
+    requires { ⌜ 65536 ≤ length (now a) ⌝ }
+    ensures { λ _. ⌜ now (a .exit) ≡ headerPut clock (now (a .entry)) ⌝ }
+{
+    let versions = [VERSION];
+    words::put_words(a, 8, &versions);
+    let clocks = [clock];
+    words::put_words(a, 32, &clocks);
+}
+
 // What a call makes of the borders and of whether a row has begun, written over the header.
 fn put_setting(a: &mut [u8], x: Setting)
     requires { ⌜ 65536 ≤ length (now a) ⌝ }
@@ -508,15 +554,14 @@ fn put_setting(a: &mut [u8], x: Setting)
     }
 }
 
-// What a call changes, written over the bytes of the state that it changes; the others are left.
+// What a call changes, written over the bytes of the state that it changes, and the version; the others are left.
 pub fn amend(a: &mut [u8], c: Change)
-    requires { ⌜ exact (now a) ≡ true ⌝ }
+    requires { ⌜ exactAs (versionIn (now a)) (now a) ≡ true ⌝ }
     ensures { λ _. ⌜ now (a .exit) ≡ encoded (changed (decoded (now (a .entry))) c) ++ drop 65536 (now (a .entry)) ⌝ }
 {
     let setting = c.setting;
     put_order(a, setting);
-    let ws = [c.clock as u64];
-    words::put_words(a, 32, &ws);
+    put_header(a, c.clock);
     put_setting(a, setting);
     let rows = c.rows;
     put_rows(a, rows);

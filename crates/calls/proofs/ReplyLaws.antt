@@ -39,10 +39,6 @@ module _ (s : State) (z : Sized s) where
   pub left-after : (r : Reply) (rows : List Row) (a : Answer) → r ≡ settingMade (s .clock) rows (s .slots) Left a → outcomeOf s r ≡ record { state = withRows s rows; answer = a }
   left-after r rows a e = set-after r rows Left a e
 
-  -- the rows do not change either
-  pub same-after : (r : Reply) (a : Answer) (o : Outcome) → r ≡ settingMade (s .clock) (s .rows) (s .slots) Left a → a ≡ o .answer → o .state ≡ s → outcomeOf s r ≡ o
-  same-after r a o e f g = left-after r (s .rows) a e ∙ (λ j. record { state = sym g j; answer = f j })
-
   -- a refused call: n is the number that the code found, m that of the definition
   pub refused-after : (r : Reply) (n m : ℕ) (o : Outcome) → r ≡ settingMade (s .clock) (s .rows) (s .slots) Left (Refused n) → n ≡ m → 0 < n → outcomeOf s r ≡ unless m s o
   refused-after r n m o e f h = left-after r (s .rows) (Refused n) e ∙ refused n m s o f h

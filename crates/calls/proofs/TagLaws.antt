@@ -12,12 +12,9 @@ use Rattle.model.proofs.Call.{the-type}
 use Rattle.model.specs.declared.Condition.{Condition}
 use Rattle.model.specs.declared.Condition.the-variants.{Free, Idle, Fetching, Waiting, Killed}
 use Rattle.model.specs.declared.Row.{Row}
-use Rattle.model.specs.declared.State.{State}
 use Rattle.model.proofs.Condition.{the-type as condition-type}
 use Rattle.rules.specs.Content.{isStart, isTick, isReading}
 use Rattle.rules.specs.Calls.{delivered, deliveredRow}
-use Rattle.rules.specs.Run.{outcome}
-use Rattle.rules.proofs.Leaves.CallEffects.{reading-still}
 
 -- the call is of one of the variants
 abbrev pub Of : List ℕ → Call → Type 0
@@ -29,19 +26,18 @@ asking = 0 ∷ 5 ∷ 6 ∷ 7 ∷ 8 ∷ []
 abbrev other : List ℕ
 other = 0 ∷ 1 ∷ 2 ∷ 3 ∷ 4 ∷ 5 ∷ 9 ∷ []
 
--- look, view and count change nothing
-pub it-reads : (s : State) (c : Call) → Of asking c → isStart c ≡ false → isTick c ≡ false → (isReading c ≡ true) × (outcome s c .state ≡ s)
-unfolding outcome
-it-reads s (Start slots delay) k e t = true-false e
-it-reads s (Begin level number deadline) k e t = absurd (miss asking 1 tt k)
-it-reads s (Request level number page mode) k e t = absurd (miss asking 2 tt k)
-it-reads s (Unpin level number page) k e t = absurd (miss asking 3 tt k)
-it-reads s (End level number) k e t = absurd (miss asking 4 tt k)
-it-reads s (Tick room) k e t = true-false t
-it-reads s (Look level number) k e t = (refl, reading-still s (Look level number) refl)
-it-reads s (View level page) k e t = (refl, reading-still s (View level page) refl)
-it-reads s (Count level) k e t = (refl, reading-still s (Count level) refl)
-it-reads s (Borders first second third) k e t = absurd (miss asking 9 tt k)
+-- of a start, a tick, a look, a view and a count the last three read
+pub it-reads : (c : Call) → Of asking c → isStart c ≡ false → isTick c ≡ false → isReading c ≡ true
+it-reads (Start slots delay) k e t = true-false e
+it-reads (Begin level number deadline) k e t = absurd (miss asking 1 tt k)
+it-reads (Request level number page mode) k e t = absurd (miss asking 2 tt k)
+it-reads (Unpin level number page) k e t = absurd (miss asking 3 tt k)
+it-reads (End level number) k e t = absurd (miss asking 4 tt k)
+it-reads (Tick room) k e t = true-false t
+it-reads (Look level number) k e t = refl
+it-reads (View level page) k e t = refl
+it-reads (Count level) k e t = refl
+it-reads (Borders first second third) k e t = absurd (miss asking 9 tt k)
 
 pub reads-not : (c : Call) → Of other c → isReading c ≡ true → ⊥
 reads-not (Start slots delay) k e = true-false (sym e)

@@ -63,7 +63,7 @@ pub fn find_page(slots: [Slot; 64], size: usize, page: u32) -> Found
 pub struct Holders {
     pub best: usize,
     pub rank: Rank,
-    pub latest: u32,
+    pub latest: u64,
     pub held: bool,
     pub pinned: bool,
 }
@@ -74,7 +74,7 @@ pub struct Summary {
     pub holders: Holders,
     pub lowest: usize,
     pub page: u32,
-    pub touch: u32,
+    pub touch: u64,
     pub filled: bool,
     pub dirty: bool,
     pub above: bool,
@@ -131,7 +131,7 @@ pub fn ranks(rows: [Row; 32], places: [usize; 32]) -> [Rank; 32]
     out
 }
 
-fn larger(a: u32, b: u32) -> u32
+fn larger(a: u64, b: u64) -> u64
     ensures { λ r. ⌜ r ≡ max a b ⌝ }
 {
     if a < b {
@@ -141,7 +141,7 @@ fn larger(a: u32, b: u32) -> u32
 }
 
 // A row of the best holder's level joins the holders.
-fn join_level(w: Holders, row: usize, rank: Rank, touch: u32, pin: bool) -> Holders
+fn join_level(w: Holders, row: usize, rank: Rank, touch: u64, pin: bool) -> Holders
     ensures { λ r. ⌜ r ≡ joinedLevel w row rank touch pin ⌝ }
 {
     let v = w.rank;

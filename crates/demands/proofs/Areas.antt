@@ -22,11 +22,12 @@ use Rattle.rules.specs.Content.{isStart}
 use Rattle.rules.specs.Run.{outcome}
 use Rattle.rules.proofs.Leaves.RefusalFacts.{Named, look-taken}
 use Rattle.area.specs.Layout.{decoded}
-use Rattle.sabre.specs.Lent.{unfit, answerOn, isRefused, soundArea}
-use Rattle.sabre.proofs.SoundAreas.{sound-area}
+use Rattle.sabre.specs.Lent.{unfit, answerOn, isRefused, fitArea}
+use Rattle.sabre.proofs.SoundAreas.{fit-area}
+use Rattle.sabre.proofs.SoundAreas as Sound
 
--- refusal 1: a start looks at the length alone, every other call accepts the sound areas alone
-pub unfit-is : (a : List ℕ) (c : Call) → unfit a c ≡ cond (isStart c) (ltb (length a) 65536) (not (soundArea a))
+-- refusal 1: a start looks at the length alone, every other call accepts the areas alone that are sound in one of the two layouts
+pub unfit-is : (a : List ℕ) (c : Call) → unfit a c ≡ cond (isStart c) (ltb (length a) 65536) (not (fitArea a))
 unfolding unfit
 unfit-is a (Start slots delay) = refl
 unfit-is a (Begin level number deadline) = refl
@@ -42,34 +43,30 @@ unfit-is a (Borders first second third) = refl
 pub unfit-start : (a : List ℕ) (slots delay : ℕ) → unfit a (Start slots delay) ≡ ltb (length a) 65536
 unfit-start a slots delay = unfit-is a (Start slots delay)
 
-pub unfit-other : (a : List ℕ) (c : Call) → isStart c ≡ false → unfit a c ≡ not (soundArea a)
+pub unfit-other : (a : List ℕ) (c : Call) → isStart c ≡ false → unfit a c ≡ not (fitArea a)
 unfit-other a c o = unfit-is a c ∙ rw o
 
--- a short area is unsound
-short-unsound : (a : List ℕ) → length a < 65536 → soundArea a ≡ false
-short-unsound a h = not-true-false (soundArea a) (λ e. omega (arith, sound-area a e .long))
-
--- a short area is fit for no call, a sound one for every call
+-- a short area is fit for no call, such an area for every call
 pub short-unfit : (a : List ℕ) (c : Call) → length a < 65536 → unfit a c ≡ true
-short-unfit a c h = rw (unfit-is a c, lt-ltb (length a) 65536 h, short-unsound a h) (cond-same (isStart c) true)
+short-unfit a c h = rw (unfit-is a c, lt-ltb (length a) 65536 h, Sound.short-unfit a h) (cond-same (isStart c) true)
 
-pub sound-fit : (a : List ℕ) (c : Call) → soundArea a ≡ true → unfit a c ≡ false
-sound-fit a c e = rw (unfit-is a c, le-ltb (length a) 65536 (sound-area a e .long), e) (cond-same (isStart c) false)
+pub taken-fit : (a : List ℕ) (c : Call) → fitArea a ≡ true → unfit a c ≡ false
+taken-fit a c e = rw (unfit-is a c, le-ltb (length a) 65536 (fit-area a e .long), e) (cond-same (isStart c) false)
 
 pub fit-long : (a : List ℕ) (c : Call) → unfit a c ≡ false → 65536 ≤ length a
 fit-long a c e = go (isStart c) (rw (unfit-is a c) at e)
   where
-    go : (b : Bool) → cond b (ltb (length a) 65536) (not (soundArea a)) ≡ false → 65536 ≤ length a
+    go : (b : Bool) → cond b (ltb (length a) 65536) (not (fitArea a)) ≡ false → 65536 ≤ length a
     go true k = ltb-false (length a) 65536 k
-    go false k = sound-area a (not-false (soundArea a) k) .long
+    go false k = fit-area a (not-false (fitArea a) k) .long
 
 -- the same in the words of document 01's table
-pub unfit-table : (a : List ℕ) (c : Call) → unfit a c ≡ ltb (length a) 65536 || (not (isStart c) && not (soundArea a))
+pub unfit-table : (a : List ℕ) (c : Call) → unfit a c ≡ ltb (length a) 65536 || (not (isStart c) && not (fitArea a))
 unfit-table a c = unfit-is a c ∙ go (ltb (length a) 65536) (isStart c) refl
   where
-    go : (b x : Bool) → ltb (length a) 65536 ≡ b → cond x b (not (soundArea a)) ≡ b || (not x && not (soundArea a))
+    go : (b x : Bool) → ltb (length a) 65536 ≡ b → cond x b (not (fitArea a)) ≡ b || (not x && not (fitArea a))
     go true true e = refl
-    go true false e = rw (short-unsound a (ltb-true (length a) 65536 e))
+    go true false e = rw (Sound.short-unfit a (ltb-true (length a) 65536 e))
     go false true e = refl
     go false false e = refl
 
@@ -82,19 +79,19 @@ accepted-fit a c = go (unfit a c)
     go true e = e
     go false e = refl
 
-pub accepted-sound : (a : List ℕ) (c : Call) → isStart c ≡ false → isRefused (answerOn a c) ≡ false → soundArea a ≡ true
-accepted-sound a c o e = not-false (soundArea a) (sym (unfit-other a c o) ∙ accepted-fit a c e)
+pub accepted-sound : (a : List ℕ) (c : Call) → isStart c ≡ false → isRefused (answerOn a c) ≡ false → fitArea a ≡ true
+accepted-sound a c o e = not-false (fitArea a) (sym (unfit-other a c o) ∙ accepted-fit a c e)
 
 -- on an area that is fit for it a call is answered by the state that the area names
 pub fit-answer : (a : List ℕ) (c : Call) → unfit a c ≡ false → answerOn a c ≡ outcome (decoded a) c .answer
 unfolding answerOn
 fit-answer a c e = rw e
 
--- on a sound area a call is answered by the state that the area names
-pub sound-answer : (a : List ℕ) (c : Call) → soundArea a ≡ true → answerOn a c ≡ outcome (decoded a) c .answer
-sound-answer a c z = fit-answer a c (sound-fit a c z)
+-- on an area that is sound in one of the two layouts a call is answered by the state that the area names
+pub sound-answer : (a : List ℕ) (c : Call) → fitArea a ≡ true → answerOn a c ≡ outcome (decoded a) c .answer
+sound-answer a c z = fit-answer a c (taken-fit a c z)
 
-pub look-answer : (a : List ℕ) (level number : ℕ) → soundArea a ≡ true → level ≤ 3 → number ≤ 7
+pub look-answer : (a : List ℕ) (level number : ℕ) → fitArea a ≡ true → level ≤ 3 → number ≤ 7
     → answerOn a (Look level number) ≡ looked (rowAt (decoded a) (rowOf level number) .condition)
 unfolding outcome lookedAt lookRefusal
 look-answer a level number z l n = sound-answer a (Look level number) z ∙ rw (le-ltb 3 level l, le-ltb 7 number n)

@@ -31,12 +31,12 @@ use Rattle.rules.proofs.Promises.WaitFetch as Waits
 use Rattle.rules.proofs.Promises.Arrived as States
 use Rattle.rules.proofs.Promises.MayUse as Uses
 use Rattle.area.specs.Layout.{decoded}
-use Rattle.sabre.specs.Lent.{answerOn, isRefused, areaAfter, soundArea}
+use Rattle.sabre.specs.Lent.{answerOn, isRefused, areaAfter, fitArea}
 use Rattle.demands.specs.Runs.{readyOn, turnsIdleOn, isDeliveryOn}
 use Rattle.demands.proofs.Areas.{accepted-sound, sound-answer, look-answer, look-named, looked-fetching}
 use Rattle.demands.proofs.Refusals.{reading-leaves}
 use Rattle.demands.proofs.Steps.{other-sound, step-on}
-use Rattle.sabre.proofs.SoundAreas.{sound-area}
+use Rattle.sabre.proofs.SoundAreas.{fit-area}
 
 -- ---- ready and idle
 
@@ -51,7 +51,7 @@ unfolding mayUse word
 may-use-arrived a c f e =
     let z = other-sound a c (answerOn a c) refl (use-accepted (answerOn a c) e) (λ k. true-false (sym (rw k at e))) in
     let x = step-on a c z f in
-    rw (x .1) (Uses.may-use-arrived (decoded a) (sound-area a z .sound-state) c (rw (← x .0) e))
+    rw (x .1) (Uses.may-use-arrived (decoded a) (fit-area a z .sound-state) c (rw (← x .0) e))
 
 -- ready comes only to a request; then, in the area that it leaves, the row holds the slot of the page asked for
 -- with the pin asked for or a stronger one, holding and page have arrived, and so has every other page that the row holds
@@ -61,7 +61,7 @@ unfolding word
 ready-arrived a c f slot back e =
     let z = other-sound a c (Ready slot back) e refl (λ k. true-false (cc)) in
     let x = step-on a c z f in
-    rw (x .1) (States.ready-arrived (decoded a) (sound-area a z .sound-state) c slot back (sym (x .0) ∙ e))
+    rw (x .1) (States.ready-arrived (decoded a) (fit-area a z .sound-state) c slot back (sym (x .0) ∙ e))
 
 -- a look answers idle only where every page that the row holds has arrived
 pub look-idle : (a : List ℕ) (level number : ℕ) → isIdle (answerOn a (Look level number)) ≡ true → AllArrived (decoded a) (rowOf level number)
@@ -108,12 +108,12 @@ pub wait-only : (a : List ℕ) (c : Call) → answerOn a c ≡ Wait
 unfolding word
 wait-only a c e =
     let z = other-sound a c Wait e refl (λ k. true-false (cc)) in
-    Waits.wait-only (decoded a) (sound-area a z .sound-state) c (sym (sound-answer a c z) ∙ e)
+    Waits.wait-only (decoded a) (fit-area a z .sound-state) c (sym (sound-answer a c z) ∙ e)
 
--- In the course of a call on a sound area, by a request and by the tries of a tick: each request that is served is served on a sound state, and waits there exactly for these reasons.
-pub course-waits : (a : List ℕ) → soundArea a ≡ true → (c : Call) (u : State) (row page : ℕ) (mode : Mode) → Serves (decoded a) c u row page mode
+-- In the course of a call on an area that is sound in one of the two layouts, by a request and by the tries of a tick: each request that is served is served on a sound state, and waits there exactly for these reasons.
+pub course-waits : (a : List ℕ) → fitArea a ≡ true → (c : Call) (u : State) (row page : ℕ) (mode : Mode) → Serves (decoded a) c u row page mode
     → (sound u ≡ true) × (served u row page mode .answer ≡ Wait → WaitReason u row page mode) × (WaitReason u row page mode → served u row page mode .answer ≡ Wait)
-course-waits a z = Waits.course-waits (decoded a) (sound-area a z .sound-state)
+course-waits a z = Waits.course-waits (decoded a) (fit-area a z .sound-state)
 
 -- On any area: a fetch is due after the clock, and the row is fetching until then.
 pub fetch-due : (a : List ℕ) (c : Call) → Fits c → (due slot : ℕ) (back : Back) → answerOn a c ≡ Fetch due slot back
@@ -122,15 +122,15 @@ unfolding word
 fetch-due a c f due slot back e =
     let z = other-sound a c (Fetch due slot back) e refl (λ k. true-false (cc)) in
     let x = step-on a c z f in
-    rw (x .1) (Waits.fetch-due (decoded a) (sound-area a z .sound-state) c due slot back (sym (x .0) ∙ e))
+    rw (x .1) (Waits.fetch-due (decoded a) (fit-area a z .sound-state) c due slot back (sym (x .0) ∙ e))
 
--- on a sound area: where a page that the row then holds has not arrived, a request or look of the row is refused, or told fetch with that arrival
-pub fetching-told : (a : List ℕ) → soundArea a ≡ true → (c : Call) → Fits c → (row slot : ℕ) → Names c row → row < 32 → slot < 64
+-- on such an area: where a page that the row then holds has not arrived, a request or look of the row is refused, or told fetch with that arrival
+pub fetching-told : (a : List ℕ) → fitArea a ≡ true → (c : Call) → Fits c → (row slot : ℕ) → Names c row → row < 32 → slot < 64
     → holds (decoded (areaAfter a c)) slot row ≡ true → decoded (areaAfter a c) .clock < holdingAt (decoded (areaAfter a c)) slot row .arrival
     → (word (answerOn a c) ≡ 0) ⊎ (told (answerOn a c) ≡ record { word = 4; value = holdingAt (decoded (areaAfter a c)) slot row .arrival })
 fetching-told a z c f row slot n r b =
     let x = step-on a c z f in
-    rw (x .0, x .1) (Uses.fetching-told (decoded a) (sound-area a z .sound-state) c row slot n r b)
+    rw (x .0, x .1) (Uses.fetching-told (decoded a) (fit-area a z .sound-state) c row slot n r b)
 
 -- a row that a look found fetching and finds idle after a tick has reached its due tick
 pub tick-due : (a : List ℕ) (room level number due : ℕ) → answerOn a (Look level number) ≡ RowFetching due
@@ -144,7 +144,7 @@ tick-due a room level number due e k =
     let x = step-on a (Tick room) z (omega arith) in
     let p = looked-fetching (rowAt (decoded a) (rowOf level number) .condition) due (sym (look-answer a level number z l n) ∙ e) in
     let q = idle (rowAt (decoded (areaAfter a (Tick room))) (rowOf level number) .condition) (sym (look-answer (areaAfter a (Tick room)) level number (x .2) l n) ∙ k) in
-    rw (x .1) (States.tick-arrived (decoded a) (sound-area a z .sound-state) room (rowOf level number) due (m .row-is) p (rw (x .1) at q) .0)
+    rw (x .1) (States.tick-arrived (decoded a) (fit-area a z .sound-state) room (rowOf level number) due (m .row-is) p (rw (x .1) at q) .0)
   where
     idle : (c : Condition) → looked c ≡ RowIdle → c ≡ Idle
     idle Free h = cc

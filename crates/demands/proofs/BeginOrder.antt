@@ -23,16 +23,16 @@ use Rattle.rules.proofs.Facts.SoundFacts.{OrderSound, facts, is-free}
 use Rattle.rules.proofs.Promises.BeginOrder.{InOrder, fresh-order, order-next}
 use Rattle.area.specs.Layout.{decoded}
 use Rattle.area.proofs.Elements.{decoded-place}
-use Rattle.sabre.specs.Lent.{answerOn, areaAfter, soundArea}
-use Rattle.sabre.proofs.SoundAreas.{sound-area}
+use Rattle.sabre.specs.Lent.{answerOn, areaAfter, fitArea}
+use Rattle.sabre.proofs.SoundAreas.{fit-area}
 use Rattle.demands.specs.Runs.{AllFit, areaAfterAll, notStartedAgain, Run, startedArea, FromFreshStart}
 use Rattle.demands.specs.OrderTold.{orderTold, OrderNames}
 use Rattle.demands.specs.SlotWords.{placeWord}
 use Rattle.demands.proofs.Areas.{look-answer}
-use Rattle.demands.proofs.Steps.{started-area, step-on, not-now}
+use Rattle.demands.proofs.Steps.{started-area, started-fit, step-on, not-now}
 
 -- a list of calls in which no start is accepted
-all-order : (level : ℕ) → level ≤ 3 → (cs : List Call) (a l : List ℕ) → soundArea a ≡ true → AllFit cs → notStartedAgain a cs ≡ true → InOrder (decoded a) level l
+all-order : (level : ℕ) → level ≤ 3 → (cs : List Call) (a l : List ℕ) → fitArea a ≡ true → AllFit cs → notStartedAgain a cs ≡ true → InOrder (decoded a) level l
     → InOrder (decoded (areaAfterAll a cs)) level (orderTold level l a cs)
 unfolding areaAfterAll lastOf orderTold
 all-order level b [] a l z f n o = o
@@ -40,7 +40,7 @@ all-order level b (c ∷ cs) a l z f n o =
     let p = step-on a c z (f .0) in
     let m = not-now a c cs n in
     all-order level b cs (areaAfter a c) _ (p .2) (f .1) (m .1)
-    (rw (p .1, p .0) (order-next (decoded a) c (sound-area a z .sound-state) level b l o (sym (ap isStarted (p .0)) ∙ m .0)))
+    (rw (p .1, p .0) (order-next (decoded a) c (fit-area a z .sound-state) level b l o (sym (ap isStarted (p .0)) ∙ m .0)))
 
 module _ (r : Run) (f : FromFreshStart r) where
   abbrev end : List ℕ
@@ -53,7 +53,7 @@ module _ (r : Run) (f : FromFreshStart r) where
   run-order : (level : ℕ) → level ≤ 3 → InOrder (decoded end) level (told level)
   run-order level b =
       let x = started-area r f in
-      all-order level b (r .calls) (startedArea r) [] (x .1) (f .fit) (f .not-again) (rw (x .0) (fresh-order (r .slots) (r .delay) level))
+      all-order level b (r .calls) (startedArea r) [] (started-fit r f) (f .fit) (f .not-again) (rw (x .0) (fresh-order (r .slots) (r .delay) level))
 
   pub order-told : (level number : ℕ) → level ≤ 3 → number ≤ 7 → placeWord end (rowOf level number) ≡ placeIn number (told level)
   order-told level number l n = sym (decoded-place end (rowOf level number) (omega arith)) ∙ run-order level l .placed number n
@@ -75,7 +75,7 @@ looked-free (Fetching due) h = cc
 looked-free (Waiting page mode) h = cc
 looked-free (Killed cause) h = cc
 
-pub order-names : (a : List ℕ) → soundArea a ≡ true → (level : ℕ) → level ≤ 3 → OrderNames a level
+pub order-names : (a : List ℕ) → fitArea a ≡ true → (level : ℕ) → level ≤ 3 → OrderNames a level
 order-names a z level l = record {
   free = λ n b e. sym (place n b) ∙ o .none (rowOf level n) (omega arith) (looked-free (rowAt (decoded a) (rowOf level n) .condition) (sym (look-answer a level n z l b) ∙ e));
   none = λ n b e. by-look n b (λ f. f) (λ f. absurd (omega (arith, place n b, o .least (rowOf level n) (omega arith) f)));
@@ -87,7 +87,7 @@ order-names a z level l = record {
 }
   where
     o : OrderSound (decoded a)
-    o = facts (decoded a) (sound-area a z .sound-state) .order
+    o = facts (decoded a) (fit-area a z .sound-state) .order
 
     place : (n : ℕ) → n ≤ 7 → placeAt (decoded a) (rowOf level n) ≡ placeWord a (rowOf level n)
     place n b = decoded-place a (rowOf level n) (omega arith)

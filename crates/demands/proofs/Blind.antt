@@ -22,9 +22,9 @@ use Rattle.rules.proofs.Promises.Widths.{borders-fit}
 use Rattle.rules.proofs.Similar.{similar-under}
 use Rattle.area.specs.Layout.{decoded}
 use Rattle.sabre.specs.Lent.{areaAfter, status}
-use Rattle.sabre.proofs.SoundAreas.{sound-area}
+use Rattle.sabre.proofs.SoundAreas.{fit-area}
 use Rattle.demands.specs.Runs.{areaAfterAll, Run, startedArea, lastBorders, FromFreshStart, Demand3}
-use Rattle.demands.proofs.Steps.{started-area, step-on, run-sound-on}
+use Rattle.demands.proofs.Steps.{started-area, started-fit, step-on, run-fit-on}
 use Rattle.demands.proofs.TwoRuns.{Near, near-told, Good, beside-kept}
 
 -- such borders are 32-bit numbers
@@ -44,23 +44,23 @@ module _ (L : ℕ) (most : L ≤ 3) (r : Run) (f : FromFreshStart r) (last : Bor
   middle-near q g s d =
       let x = started-area r f in
       let y = started-area q g in
-      let p = step-on (startedArea r) (Call.Borders (last .first) (last .second) (last .third)) (x .1) (borders-fits last valid) in
+      let p = step-on (startedArea r) (Call.Borders (last .first) (last .second) (last .third)) (started-fit r f) (borders-fits last valid) in
       let m : decoded middle ≡ withBorders (fresh (q .slots) (q .delay)) last = p .1 ∙ rw (x .0, valid, s, d) in
       record {
-        first = y .1;
+        first = started-fit q g;
         second = p .2;
-        states = rw (y .0, m) (similar-under L most last (fresh (q .slots) (q .delay)) (rw (y .0) at (sound-area (startedArea q) (y .1) .sound-state)) (rw m at (sound-area middle (p .2) .sound-state)));
+        states = rw (y .0, m) (similar-under L most last (fresh (q .slots) (q .delay)) (rw (y .0) at (fit-area (startedArea q) (started-fit q g) .sound-state)) (rw m at (fit-area middle (p .2) .sound-state)));
       }
 
 -- what is known of a run that ends with the borders
 good : (L : ℕ) (most : L ≤ 3) (r : Run) → FromFreshStart r → (last : Borders) → lastBorders r ≡ last → Good L most last (startedArea r) (r .calls)
-good L most r f last e = (started-area r f .1, f .fit, f .not-again, e)
+good L most r f last e = (started-fit r f, f .fit, f .not-again, e)
 
 -- the borders that a run ends with are in order
 last-valid : (r : Run) → FromFreshStart r → areBorders (lastBorders r) ≡ true
 last-valid r f =
-    let z = run-sound-on (r .calls) (startedArea r) (started-area r f .1) (f .fit) in
-    borders-facts (decoded (areaAfterAll (startedArea r) (r .calls))) (sound-area (areaAfterAll (startedArea r) (r .calls)) z .sound-state) .valid
+    let z = run-fit-on (r .calls) (startedArea r) (started-fit r f) (f .fit) in
+    borders-facts (decoded (areaAfterAll (startedArea r) (r .calls))) (fit-area (areaAfterAll (startedArea r) (r .calls)) z .sound-state) .valid
 
 -- Demand 3 holds, that is noninterference: the run of the kept calls alone stands between the two runs.
 pub blind : Demand3

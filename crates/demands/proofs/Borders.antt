@@ -22,7 +22,7 @@ use Rattle.rules.specs.Run.{outcome}
 use Rattle.rules.proofs.Facts.SoundFacts.{borders-facts}
 use Rattle.rules.proofs.Promises.Borders.{borders-after, begun-after}
 use Rattle.area.specs.Layout.{low, decoded}
-use Rattle.sabre.specs.Lent.{answerOn, areaAfter, soundArea}
+use Rattle.sabre.specs.Lent.{answerOn, areaAfter, fitArea}
 use Rattle.seq.specs.Machine.{lastOf}
 use Rattle.seq.proofs.Tests.{true-false, or-none}
 use Rattle.demands.specs.Runs.{AllFit, areaAfterAll, notStartedAgain, Run, startedArea, lastBorders, FromFreshStart}
@@ -30,8 +30,8 @@ use Rattle.demands.specs.BordersTold.{hasBegun, bordersSet}
 use Rattle.demands.specs.SlotWords.{filledWord, pageWord, begunWord}
 use Rattle.demands.proofs.Areas.{sound-answer, look-answer}
 use Rattle.demands.proofs.OneSlot.{filled-word}
-use Rattle.sabre.proofs.SoundAreas.{sound-area}
-use Rattle.demands.proofs.Steps.{started-area, step-on, run-sound-on, not-now}
+use Rattle.sabre.proofs.SoundAreas.{fit-area}
+use Rattle.demands.proofs.Steps.{started-area, started-fit, step-on, run-fit-on, not-now}
 
 -- what one call leaves
 module _ (a : List ℕ) (c : Call) where
@@ -44,7 +44,7 @@ module _ (a : List ℕ) (c : Call) where
   next-begun e w n = rw (e, begun-after (decoded a) c, ← w, n)
 
 -- a list of calls in which no start is accepted
-all-borders : (cs : List Call) (a : List ℕ) → soundArea a ≡ true → AllFit cs → notStartedAgain a cs ≡ true
+all-borders : (cs : List Call) (a : List ℕ) → fitArea a ≡ true → AllFit cs → notStartedAgain a cs ≡ true
     → decoded (areaAfterAll a cs) .borders ≡ bordersSet (decoded a .borders) a cs
 unfolding areaAfterAll lastOf bordersSet
 all-borders [] a z f n = refl
@@ -53,7 +53,7 @@ all-borders (c ∷ cs) a z f n =
     let m = not-now a c cs n in
     all-borders cs (areaAfter a c) (p .2) (f .1) (m .1) ∙ rw (next-borders a c (p .1) (p .0) (m .0))
 
-all-begun : (cs : List Call) (a : List ℕ) → soundArea a ≡ true → AllFit cs → notStartedAgain a cs ≡ true
+all-begun : (cs : List Call) (a : List ℕ) → fitArea a ≡ true → AllFit cs → notStartedAgain a cs ≡ true
     → decoded (areaAfterAll a cs) .begun ≡ hasBegun a cs || decoded a .begun
 unfolding areaAfterAll lastOf hasBegun
 all-begun [] a z f n = refl
@@ -75,13 +75,13 @@ module _ (r : Run) (f : FromFreshStart r) where
   unfolding fresh
   borders-told =
       let x = started-area r f in
-      all-borders (r .calls) (startedArea r) (x .1) (f .fit) (f .not-again) ∙ rw (x .0)
+      all-borders (r .calls) (startedArea r) (started-fit r f) (f .fit) (f .not-again) ∙ rw (x .0)
 
   begun-told : decoded end .begun ≡ hasBegun (startedArea r) (r .calls)
   unfolding fresh
   begun-told =
       let x = started-area r f in
-      all-begun (r .calls) (startedArea r) (x .1) (f .fit) (f .not-again) ∙ rw (x .0) (or-none (hasBegun (startedArea r) (r .calls)))
+      all-begun (r .calls) (startedArea r) (started-fit r f) (f .fit) (f .not-again) ∙ rw (x .0) (or-none (hasBegun (startedArea r) (r .calls)))
 
   -- after the run
   pub borders-answer : (first second third : ℕ)
@@ -90,7 +90,7 @@ module _ (r : Run) (f : FromFreshStart r) where
       (cond (hasBegun (startedArea r) (r .calls)) (Refused 20) Bordered)
   unfolding outcome bordered bordersRefusal
   borders-answer first second third =
-      let z = run-sound-on (r .calls) (startedArea r) (started-area r f .1) (f .fit) in
+      let z = run-fit-on (r .calls) (startedArea r) (started-fit r f) (f .fit) in
       sound-answer end (Call.Borders first second third) z
       ∙ ap (λ (y : Bool). unless (firstToApply ((19, x) ∷ (20, y) ∷ [])) s (record { state = withBorders s b; answer = Bordered }) .answer) begun-told
       ∙ go x (hasBegun (startedArea r) (r .calls))
@@ -109,12 +109,12 @@ module _ (r : Run) (f : FromFreshStart r) where
       go false true = refl
       go false false = refl
 
--- before any accepted begin a look tells of every row of a sound area that it is free, and no slot has a page
-pub before-begin : (a : List ℕ) → soundArea a ≡ true → begunWord a ≡ 0
+-- before any accepted begin a look tells of every row of an area that is sound in one of the two layouts that it is free, and no slot has a page
+pub before-begin : (a : List ℕ) → fitArea a ≡ true → begunWord a ≡ 0
     → ((level number : ℕ) → level ≤ 3 → number ≤ 7 → answerOn a (Look level number) ≡ RowFree) × ((slot : ℕ) → slot < 64 → filledWord a slot ≡ 1 → ⊥)
 unfolding decoded
 before-begin a z e =
-    let o = borders-facts (decoded a) (sound-area a z .sound-state) in
+    let o = borders-facts (decoded a) (fit-area a z .sound-state) in
     let b : decoded a .begun ≡ false = rw e in (
       λ level number l n. look-answer a level number z l n ∙ rw (o .free b (rowOf level number) (omega arith)),
       λ slot h f. true-false (sym (page-has (low (pageWord a slot)) (slotAt (decoded a) slot .content) (filled-word a slot h f) .0) ∙ o .empty b slot h),

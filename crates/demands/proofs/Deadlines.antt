@@ -1,65 +1,43 @@
--- Deadlines over lent areas. A deadline is an unsigned 32-bit number: no sentence of sound says so, but the bytes of a sound area are exactly those of the state that it names.
+-- Deadlines over lent areas. A deadline is an unsigned 64-bit number, which no sentence of sound says.
 -- Document 02, T-01: a tick makes a live row late exactly when the clock is above its deadline.
-use mathlib.Core.Path.{_≡_, sym, _∙_, ap}
+use mathlib.Core.Path.{_≡_, sym, _∙_}
 use mathlib.Core.Bool.{true}
-use mathlib.Core.List.{List, [], _++_}
+use mathlib.Core.List.{List, []}
 use mathlib.Core.Logic.{_⊎_, inl, inr}
 use Prim.Native.Nat.{ℕ, _+_, _^_, _<_, _≤_}
 use native.Mathlib.Omega.{arith}
-use lib.Dec.{ltb, lit<}
-use lib.ListN.{drop}
-use Rattle.words.specs.Bytes.{wordBytes, zeroWords}
-use Rattle.words.proofs.JoinLaws.{piece-word}
+use lib.Dec.{ltb}
 use Rattle.model.specs.declared.Answer.the-variants.{RowIdle, RowFetching, RowKilled, Clock}
 use Rattle.model.specs.declared.Call.the-variants.{Tick, Look}
 use Rattle.model.specs.declared.Cause.the-variants.{Taken}
 use Rattle.model.specs.declared.Condition.{Condition}
 use Rattle.model.specs.declared.Condition.the-variants.{Idle, Killed}
-use Rattle.model.specs.declared.State.{State}
 use Rattle.model.specs.Parties.{rowOf}
 use Rattle.model.specs.State.{rowAt}
 use Rattle.model.specs.Words.{isLive}
-use Rattle.model.proofs.Ranges.{StateOk}
 use Rattle.rules.specs.Answers.{word, isToldLate}
 use Rattle.rules.specs.Calls.{looked}
 use Rattle.rules.specs.Run.{outcome, fillsOf}
-use Rattle.rules.proofs.Promises.Widths.{sound-ok}
 use Rattle.rules.proofs.Promises.Deadlines as States
-use Rattle.area.specs.Layout.{headerWords, placesBytes, rowWords, encoded, decoded}
-use Rattle.area.proofs.Elements.{header-wide, row-wide, row-small, decoded-deadline}
-use Rattle.area.proofs.Pieces.{rowsBytes, slotsBytes, holdingsBytes, places-long, zeros-long}
-use Rattle.area.proofs.RoundTrip.{before-fourth, three-long}
+use Rattle.area.specs.Layout.{rowFrom, decoded}
+use Rattle.area.proofs.Elements.{decoded-row}
 use Rattle.demands.specs.SlotWords.{deadlineWord}
-use Rattle.sabre.specs.Lent.{answerOn, areaAfter, soundArea}
-use Rattle.sabre.proofs.SoundAreas.{sound-area, sound-area-bytes}
+use Rattle.sabre.specs.Lent.{answerOn, areaAfter, fitArea}
+use Rattle.sabre.proofs.SoundAreas.{sound-fit, fit-area, fit-ok}
 use Rattle.demands.proofs.Areas.{look-answer, look-named, looked-fetching}
 use Rattle.demands.proofs.Steps.{tick-on}
 
--- the deadline's word in the bytes of a state
-deadline-there : (s : State) → StateOk s → (r : List ℕ) (row : ℕ) → row < 32 → deadlineWord (encoded s ++ r) row ≡ rowAt s row .deadline
-unfolding encoded rowWords
-deadline-there s ok r row b =
-    let h = wordBytes (headerWords s) in
-    let o = placesBytes (s .places) in
-    let z = zeroWords 23 in
-    ap (λ (a : List ℕ). deadlineWord a row) (before-fourth h o z (rowsBytes s) (slotsBytes s) (holdingsBytes s) (zeroWords 1216) r)
-    ∙ piece-word 64 (λ row. rowWords (rowAt s row)) (λ row. row-wide (rowAt s row)) (λ row. row-small (rowAt s row) (ok .row row))
-    (h ++ (o ++ z)) (slotsBytes s ++ (holdingsBytes s ++ (zeroWords 1216 ++ r))) 512 32 row 3
-    (three-long h o z (header-wide s) (places-long (s .places)) (zeros-long 23)) b (lit< tt)
+-- the deadline word of each row
+deadline-named : (a : List ℕ) (row : ℕ) → row < 32 → deadlineWord a row ≡ rowAt (decoded a) row .deadline
+unfolding rowFrom
+deadline-named a row b = rw (decoded-row a row b)
 
--- the deadline word of each row of a sound area
-deadline-named : (a : List ℕ) → soundArea a ≡ true → (row : ℕ) → row < 32 → deadlineWord a row ≡ rowAt (decoded a) row .deadline
-deadline-named a z row b =
-    let s = decoded a in
-    let ok = sound-ok s (sound-area a z .sound-state) (decoded-deadline a) in
-    ap (λ (x : List ℕ). deadlineWord x row) (sym (sound-area-bytes a z)) ∙ deadline-there s ok (drop 65536 a) row b
+pub deadline-fits : (a : List ℕ) → fitArea a ≡ true → (row : ℕ) → row < 32 → deadlineWord a row < 2 ^ 64
+deadline-fits a z row b = rw (deadline-named a row b) (fit-ok a z .row row .deadline)
 
-pub deadline-fits : (a : List ℕ) → soundArea a ≡ true → (row : ℕ) → row < 32 → deadlineWord a row < 2 ^ 32
-deadline-fits a z row b = rw (deadline-named a z row b) (decoded-deadline a row)
-
--- a live row of a sound area has a deadline at or above the clock
-pub deadline-ahead : (a : List ℕ) → soundArea a ≡ true → (row : ℕ) → row < 32 → isLive (rowAt (decoded a) row .condition) ≡ true → decoded a .clock ≤ deadlineWord a row
-deadline-ahead a z row b l = rw (deadline-named a z row b) (States.deadline-ahead (decoded a) (sound-area a z .sound-state) row b l)
+-- a live row has a deadline at or above the clock
+pub deadline-ahead : (a : List ℕ) → fitArea a ≡ true → (row : ℕ) → row < 32 → isLive (rowAt (decoded a) row .condition) ≡ true → decoded a .clock ≤ deadlineWord a row
+deadline-ahead a z row b l = rw (deadline-named a row b) (States.deadline-ahead (decoded a) (fit-area a z .sound-state) row b l)
 
 -- after an accepted tick a row that was live is told to be late exactly where the clock that the tick tells is above its deadline
 pub late-exactly : (a : List ℕ) (room clock : ℕ) → answerOn a (Tick room) ≡ Clock clock → (level number : ℕ) → level ≤ 3 → number ≤ 7
@@ -70,7 +48,7 @@ late-exactly a room clock e level number l n live =
     let x = tick-on a room clock e in
     let z = x .sound-before in
     let b : rowOf level number < 32 = omega arith in
-    rw (look-answer (areaAfter a (Tick room)) level number (x .sound-after) l n, x .left, deadline-named a z (rowOf level number) b)
+    rw (look-answer (areaAfter a (Tick room)) level number (sound-fit (areaAfter a (Tick room)) (x .sound-after)) l n, x .left, deadline-named a (rowOf level number) b)
     (States.late-exactly (decoded a) (x .sound-state) room clock (x .answer) (rowOf level number) b live)
 
 -- a fetch that is due by the clock that a tick tells is delivered where that clock is not above the row's deadline, unless a try of the same tick kills the row
@@ -84,9 +62,9 @@ due-delivered a room clock e level number due f d l =
     let m = look-named a level number (rw f) in
     let b = m .row-is in
     let p = looked-fetching (rowAt (decoded a) (rowOf level number) .condition) due (sym (look-answer a level number z (m .level-is) (m .number-is)) ∙ f) in
-    rw (look-answer (areaAfter a (Tick room)) level number (x .sound-after) (m .level-is) (m .number-is), x .left)
+    rw (look-answer (areaAfter a (Tick room)) level number (sound-fit (areaAfter a (Tick room)) (x .sound-after)) (m .level-is) (m .number-is), x .left)
     (go (rowAt (outcome (decoded a) (Tick room) .state) (rowOf level number) .condition)
-    (States.due-delivered (decoded a) (x .sound-state) room clock (x .answer) (rowOf level number) due b p d (rw (deadline-named a z (rowOf level number) b) at l)))
+    (States.due-delivered (decoded a) (x .sound-state) room clock (x .answer) (rowOf level number) due b p d (rw (deadline-named a (rowOf level number) b) at l)))
   where
     go : (x : Condition) → (x ≡ Idle) ⊎ (x ≡ Killed Taken) → (looked x ≡ RowIdle) ⊎ (looked x ≡ RowKilled Taken)
     go x (inl k) = inl (rw k)
@@ -103,7 +81,7 @@ delivered-alone a room clock e level number due f d l n =
     let b = m .row-is in
     let p = looked-fetching (rowAt (decoded a) (rowOf level number) .condition) due (sym (look-answer a level number z (m .level-is) (m .number-is)) ∙ f) in
     rw (
-      look-answer (areaAfter a (Tick room)) level number (x .sound-after) (m .level-is) (m .number-is),
+      look-answer (areaAfter a (Tick room)) level number (sound-fit (areaAfter a (Tick room)) (x .sound-after)) (m .level-is) (m .number-is),
       x .left,
-      States.delivered-alone (decoded a) (x .sound-state) room clock (x .answer) (rowOf level number) due b p d (rw (deadline-named a z (rowOf level number) b) at l) n,
+      States.delivered-alone (decoded a) (x .sound-state) room clock (x .answer) (rowOf level number) due b p d (rw (deadline-named a (rowOf level number) b) at l) n,
     )

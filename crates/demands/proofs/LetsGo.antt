@@ -25,10 +25,10 @@ use Rattle.rules.specs.Slots.{holdsPage, Refilled, Dirty, Reported}
 use Rattle.rules.proofs.Facts.SoundFacts.{facts}
 use Rattle.rules.proofs.Promises.LetsGo as States
 use Rattle.area.specs.Layout.{decoded}
-use Rattle.sabre.specs.Lent.{answerOn, isRefused, areaAfter, soundArea}
+use Rattle.sabre.specs.Lent.{answerOn, isRefused, areaAfter, fitArea}
 use Rattle.demands.proofs.Areas.{accepted-sound, sound-answer, look-answer, look-named}
 use Rattle.demands.proofs.Steps.{step-on}
-use Rattle.sabre.proofs.SoundAreas.{sound-area}
+use Rattle.sabre.proofs.SoundAreas.{fit-area}
 
 -- ---- rows
 
@@ -63,7 +63,7 @@ looked-unheld : (a : List ℕ) (level number : ℕ) (x : Answer) → isRefused x
 looked-unheld a level number x r d e slot b =
     let z = accepted-sound a (Look level number) refl (rw e r) in
     let m = look-named a level number (rw e r) in
-    unheld (decoded a) (sound-area a z .sound-state) (rowOf level number) slot (m .row-is) b
+    unheld (decoded a) (fit-area a z .sound-state) (rowOf level number) slot (m .row-is) b
     (d (rowAt (decoded a) (rowOf level number) .condition) (sym (look-answer a level number z (m .level-is) (m .number-is)) ∙ e))
 
 -- On any area: a row of which a look says that it was killed, as late or as taken, or that it is free, holds nothing in any slot.
@@ -76,21 +76,21 @@ pub free-unheld : (a : List ℕ) (level number : ℕ) → answerOn a (Look level
 unfolding word
 free-unheld a level number = looked-unheld a level number RowFree refl free-condition
 
--- ---- calls on a sound area
+-- ---- calls on an area that is sound in one of the two layouts
 
-module _ (a : List ℕ) (z : soundArea a ≡ true) (c : Call) (fits : Fits c) where
+module _ (a : List ℕ) (z : fitArea a ≡ true) (c : Call) (fits : Fits c) where
   -- a row that was live and is ended or killed, by whatever call of whatever row, has let go of every page that it held
   pub lets-go : (row slot : ℕ) → row < 32 → slot < 64
       → isLive (rowAt (decoded a) row .condition) ≡ true → isLive (rowAt (decoded (areaAfter a c)) row .condition) ≡ false
       → holds (decoded a) slot row ≡ true → holds (decoded (areaAfter a c)) slot row ≡ false
   lets-go row slot r b =
-      rw (step-on a c z fits .1) (States.lets-go (decoded a) (sound-area a z .sound-state) c row slot r b)
+      rw (step-on a c z fits .1) (States.lets-go (decoded a) (fit-area a z .sound-state) c row slot r b)
 
   -- a row no longer holds a page only where it is no longer live, or where it had no pin and a request that is served in the course of the call chose the slot for another page
   pub drops-only : (slot row page : ℕ) → slot < 64 → row < 32 → holdsPage (decoded a) slot row page ≡ true → holdsPage (decoded (areaAfter a c)) slot row page ≡ false
       → (isLive (rowAt (decoded (areaAfter a c)) row .condition) ≡ false) ⊎ Refilled (decoded a) c (decoded (areaAfter a c)) slot row
   drops-only slot row page b r =
-      rw (step-on a c z fits .1) (States.drops-only (decoded a) (sound-area a z .sound-state) c slot row page b r)
+      rw (step-on a c z fits .1) (States.drops-only (decoded a) (fit-area a z .sound-state) c slot row page b r)
 
   -- by every call but an accepted start
   module _ (again : isStarted (answerOn a c) ≡ false) (slot : ℕ) (b : slot < 64) where
@@ -99,7 +99,7 @@ module _ (a : List ℕ) (z : soundArea a ≡ true) (c : Call) (fits : Fits c) wh
         → Dirty (decoded (areaAfter a c)) slot (pageIn (slotAt (decoded a) slot .content)) ⊎ Reported (decoded a) c slot (pageIn (slotAt (decoded a) slot .content))
     dirty-not-lost =
         let x = step-on a c z fits in
-        rw (x .1) (States.dirty-not-lost (decoded a) (sound-area a z .sound-state) c (rw (sound-answer a c z) at again) slot b)
+        rw (x .1) (States.dirty-not-lost (decoded a) (fit-area a z .sound-state) c (rw (sound-answer a c z) at again) slot b)
 
     -- when a write pin goes and its arrival ≤ clock, the slot becomes dirty, or the page is reported for write-back from it
     pub write-not-lost : (row : ℕ) → row < 32 → isWrite (holdingAt (decoded a) slot row .pin) ≡ true → holdingAt (decoded a) slot row .arrival ≤ decoded (areaAfter a c) .clock
@@ -107,4 +107,4 @@ module _ (a : List ℕ) (z : soundArea a ≡ true) (c : Call) (fits : Fits c) wh
         → Dirty (decoded (areaAfter a c)) slot (pageIn (slotAt (decoded a) slot .content)) ⊎ Reported (decoded a) c slot (pageIn (slotAt (decoded a) slot .content))
     write-not-lost row r =
         let x = step-on a c z fits in
-        rw (x .1) (States.write-not-lost (decoded a) (sound-area a z .sound-state) c (rw (sound-answer a c z) at again) slot b row r)
+        rw (x .1) (States.write-not-lost (decoded a) (fit-area a z .sound-state) c (rw (sound-answer a c z) at again) slot b row r)

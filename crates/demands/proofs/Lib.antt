@@ -17,3 +17,4 @@ pub mod TickWaits
 -- demand 3
 pub mod TwoRuns
 pub mod Blind
+pub mod OldAreas

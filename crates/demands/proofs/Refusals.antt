@@ -1,13 +1,14 @@
 -- Demand 1 over lent areas: which areas are refused, what a refused call and a question leave, and that no call touches or reads a byte past 65,536.
 use mathlib.Core.Path.{_≡_, refl, sym, _∙_, ap}
-use mathlib.Core.Bool.{Bool, true, false, cond}
+use mathlib.Core.Bool.{Bool, true, false, cond, _||_}
 use mathlib.Core.List.{List, _++_}
 use Prim.Native.Nat.{ℕ, zero, suc, _<_, _≤_}
 use native.Mathlib.Omega.{arith}
-use borrow.Author.Tests.{not-false, eqb-true, le-ltb}
+use borrow.Author.Tests.{not-false, le-ltb}
+use lib.Dec.{lit≤}
 use lib.ListN.{length, take, drop, length-append, length-drop, take-append-drop}
 use lib.Seq.{take-at, drop-at}
-use Rattle.seq.proofs.Tests.{true-false, not-true-false, same-truth}
+use Rattle.seq.proofs.Tests.{true-false, same-truth, or-false, or-true-right}
 use Rattle.model.specs.declared.Answer.the-variants.{Refused, Started}
 use Rattle.model.specs.declared.Call.{Call}
 use Rattle.model.specs.declared.Call.the-variants.{Start}
@@ -20,22 +21,19 @@ use Rattle.rules.specs.Refusals.{startRefusal}
 use Rattle.rules.specs.Content.{fields, isStart, isReading}
 use Rattle.rules.specs.Run.{outcome}
 use Rattle.rules.proofs.Leaves.ContentLaws.{start-is}
-use Rattle.rules.proofs.Leaves.CallEffects.{reading-still}
-use Rattle.rules.proofs.Promises.Widths.{sound-ok}
-use Rattle.area.specs.Layout.{encoded, decoded}
-use Rattle.area.proofs.Elements.{decoded-deadline}
-use Rattle.area.proofs.RoundTrip.{encoded-long, decode-encode}
-use Rattle.sabre.specs.Lent.{unfit, answerOn, isRefused, areaAfter, soundArea}
-use Rattle.demands.proofs.Areas.{unfit-is, unfit-other, short-unfit, fit-long, fit-answer, accepted-fit, accepted-sound}
-use Rattle.sabre.proofs.SoundAreas.{encode-sound, sound-area, sound-area-bytes}
+use Rattle.area.specs.Layout.{version, encoded, encodedAs, decoded, versionIn, exactAs}
+use Rattle.area.proofs.RoundTrip.{encoded-long, decode-encode, encode-exact, version-there, exact-area, exact-long, exact-words}
+use Rattle.sabre.specs.Lent.{unfit, answerOn, isRefused, areaAfter, fitArea}
+use Rattle.demands.proofs.Areas.{unfit-is, unfit-other, short-unfit, fit-long, fit-answer, accepted-fit}
+use Rattle.sabre.proofs.SoundAreas.{fit-area, fit-ok, area-fit}
 
 -- an area under 65,536 bytes is refused by number 1, whatever the call
 pub short-refused : (a : List ℕ) (c : Call) → length a < 65536 → answerOn a c ≡ Refused 1
 unfolding answerOn
 short-refused a c h = rw (short-unfit a c h)
 
--- so is an unsound area, by every call but start
-pub unsound-refused : (a : List ℕ) (c : Call) → isStart c ≡ false → soundArea a ≡ false → answerOn a c ≡ Refused 1
+-- so is, by every call but start, an area that is sound in neither of the two layouts
+pub unsound-refused : (a : List ℕ) (c : Call) → isStart c ≡ false → fitArea a ≡ false → answerOn a c ≡ Refused 1
 unfolding answerOn
 unsound-refused a c o e = rw (unfit-other a c o, e)
 
@@ -47,47 +45,46 @@ refused-leaves a c e = rw e
 -- bytes past 65,536 are never touched
 pub past-untouched : (a : List ℕ) (c : Call) → drop 65536 (areaAfter a c) ≡ drop 65536 a
 unfolding areaAfter
-past-untouched a c = go (isRefused (answerOn a c))
+past-untouched a c = go (isRefused (answerOn a c) || isReading c)
   where
     go : (b : Bool) → drop 65536 (cond b a (encoded (outcome (decoded a) c .state) ++ drop 65536 a)) ≡ drop 65536 a
     go true = refl
-    go false = drop-at (encoded (outcome (decoded a) c .state)) (drop 65536 a) 65536 (encoded-long (outcome (decoded a) c .state))
+    go false = drop-at (encoded (outcome (decoded a) c .state)) (drop 65536 a) 65536 (encoded-long version (outcome (decoded a) c .state))
 
 -- a call leaves an area of the same length
 pub same-length : (a : List ℕ) (c : Call) → length (areaAfter a c) ≡ length a
 unfolding areaAfter
-same-length a c = go (isRefused (answerOn a c)) refl
+same-length a c = go (isRefused (answerOn a c) || isReading c) refl
   where
-    go : (b : Bool) → isRefused (answerOn a c) ≡ b → length (cond b a (encoded (outcome (decoded a) c .state) ++ drop 65536 a)) ≡ length a
+    go : (b : Bool) → isRefused (answerOn a c) || isReading c ≡ b → length (cond b a (encoded (outcome (decoded a) c .state) ++ drop 65536 a)) ≡ length a
     go true e = refl
     go false e =
-        let n = fit-long a c (accepted-fit a c e) in
+        let n = fit-long a c (accepted-fit a c (or-false (isRefused (answerOn a c)) (isReading c) e .0)) in
         let s = outcome (decoded a) c .state in
-        length-append (encoded s) (drop 65536 a) ∙ omega (arith, encoded-long s, length-drop 65536 a)
+        length-append (encoded s) (drop 65536 a) ∙ omega (arith, encoded-long version s, length-drop 65536 a)
 
 -- look, view and count leave every byte
 pub reading-leaves : (a : List ℕ) (c : Call) → isReading c ≡ true → areaAfter a c ≡ a
 unfolding areaAfter
-reading-leaves a c r = go (isRefused (answerOn a c)) refl
-  where
-    other : isStart c ≡ false
-    other = not-true-false (isStart c) (λ s. true-false (sym (rw (eqb-true (fields c .kind) 0 s) at r)))
-
-    go : (b : Bool) → isRefused (answerOn a c) ≡ b → cond b a (encoded (outcome (decoded a) c .state) ++ drop 65536 a) ≡ a
-    go true q = refl
-    go false q = rw (reading-still (decoded a) c r) (sound-area-bytes a (accepted-sound a c other q))
+reading-leaves a c r = rw (r, or-true-right (isRefused (answerOn a c)) true refl)
 
 -- ---- bytes past 65,536 are never read
 
--- an area with the first 65,536 bytes of a sound one is sound and names the same state
-same-state : (a b : List ℕ) → take 65536 a ≡ take 65536 b → soundArea a ≡ true → (soundArea b ≡ true) × (decoded b ≡ decoded a)
+-- an area with the first 65,536 bytes of one that is sound in one of the two layouts is so too and names the same state
+same-state : (a b : List ℕ) → take 65536 a ≡ take 65536 b → fitArea a ≡ true → (fitArea b ≡ true) × (decoded b ≡ decoded a)
 same-state a b e z =
     let s = decoded a in
-    let h = sound-area a z .sound-state in
-    let ok = sound-ok s h (decoded-deadline a) in
-    let x : take 65536 a ≡ encoded s = ap (take 65536) (sym (sound-area-bytes a z)) ∙ take-at (encoded s) (drop 65536 a) 65536 (encoded-long s) in
-    let y : encoded s ++ drop 65536 b ≡ b = rw (← x, e) (take-append-drop 65536 b) in
-    (rw y at (encode-sound s ok (drop 65536 b) h), rw y at (decode-encode s ok (drop 65536 b)))
+    let v = versionIn a in
+    let r = drop 65536 b in
+    let p = fit-area a z in
+    let ok = fit-ok a z in
+    let h = exact-words v a (p .exactly) 8 (lit≤ tt) in
+    let x : take 65536 a ≡ encodedAs v s = ap (take 65536) (sym (exact-area v a (p .exactly))) ∙ take-at (encodedAs v s) (drop 65536 a) 65536 (encoded-long v s) in
+    let y : encodedAs v s ++ r ≡ b = rw (← x, e) (take-append-drop 65536 b) in
+    let n : decoded b ≡ s = rw y at (decode-encode v h s ok r) in
+    let w : versionIn b ≡ v = rw y at (version-there v h s ok r) in
+    let t : exactAs v b ≡ true = rw y at (encode-exact v h s ok r) in
+    (area-fit b (record { long = exact-long v b t; exactly = rw w t; is-known = rw (w, n) (p .is-known); sound-state = rw n (p .sound-state) }), n)
 
 -- what a start answers, and what it leaves where it is accepted, is the same for every state
 start-any : (s t : State) (slots delay : ℕ)
@@ -103,13 +100,13 @@ start-any s t slots delay = go (startRefusal slots delay)
     go zero = (refl, λ _. refl)
     go (suc n) = (refl, λ k. true-false k)
 
-accepted-bytes : (a : List ℕ) (c : Call) → isRefused (answerOn a c) ≡ false → take 65536 (areaAfter a c) ≡ encoded (outcome (decoded a) c .state)
+accepted-bytes : (a : List ℕ) (c : Call) → isRefused (answerOn a c) ≡ false → isReading c ≡ false → take 65536 (areaAfter a c) ≡ encoded (outcome (decoded a) c .state)
 unfolding areaAfter
-accepted-bytes a c e = let s = outcome (decoded a) c .state in rw e (take-at (encoded s) (drop 65536 a) 65536 (encoded-long s))
+accepted-bytes a c e n = let s = outcome (decoded a) c .state in rw (e, n) (take-at (encoded s) (drop 65536 a) 65536 (encoded-long version s))
 
 module _ (a b : List ℕ) (a-long : 65536 ≤ length a) (b-long : 65536 ≤ length b) (e : take 65536 a ≡ take 65536 b) (c : Call) where
-  same-sound : soundArea a ≡ soundArea b
-  same-sound = same-truth (soundArea a) (soundArea b) (λ z. same-state a b e z .0) (λ z. same-state b a (sym e) z .0)
+  same-sound : fitArea a ≡ fitArea b
+  same-sound = same-truth (fitArea a) (fitArea b) (λ z. same-state a b e z .0) (λ z. same-state b a (sym e) z .0)
 
   same-fit : unfit a c ≡ unfit b c
   same-fit = unfit-is a c ∙ rw (le-ltb (length a) 65536 a-long, same-sound) (sym (unfit-is b c ∙ rw (le-ltb (length b) 65536 b-long)))
@@ -123,7 +120,7 @@ module _ (a b : List ℕ) (a-long : 65536 ≤ length a) (b-long : 65536 ≤ leng
           → (outcome (decoded a) c .answer ≡ outcome (decoded b) c .answer)
           × (isRefused (outcome (decoded a) c .answer) ≡ false → outcome (decoded a) c .state ≡ outcome (decoded b) c .state)
       go true o = rw (start-is c o) (start-any (decoded a) (decoded b) (fields c .slots) (fields c .delay))
-      go false o = rw (same-state a b e (not-false (soundArea a) (sym (unfit-other a c o) ∙ f)) .1) (refl, λ _. refl)
+      go false o = rw (same-state a b e (not-false (fitArea a) (sym (unfit-other a c o) ∙ f)) .1) (refl, λ _. refl)
 
   -- A call's answer and the first 65,536 bytes that it leaves do not depend on the bytes past them.
   pub past-unread : (answerOn a c ≡ answerOn b c) × (take 65536 (areaAfter a c) ≡ take 65536 (areaAfter b c))
@@ -134,7 +131,11 @@ module _ (a b : List ℕ) (a-long : 65536 ≤ length a) (b-long : 65536 ≤ leng
       bytes : answerOn a c ≡ answerOn b c → (isRefused (answerOn a c) ≡ false → outcome (decoded a) c .state ≡ outcome (decoded b) c .state)
           → (x : Bool) → isRefused (answerOn a c) ≡ x → take 65536 (areaAfter a c) ≡ take 65536 (areaAfter b c)
       bytes w s true r = rw (refused-leaves a c r, refused-leaves b c (rw (← w) r)) e
-      bytes w s false r = accepted-bytes a c r ∙ ap encoded (s r) ∙ sym (accepted-bytes b c (rw (← w) r))
+      bytes w s false r = go (isReading c) refl
+        where
+          go : (x : Bool) → isReading c ≡ x → take 65536 (areaAfter a c) ≡ take 65536 (areaAfter b c)
+          go true n = rw (reading-leaves a c n, reading-leaves b c n) e
+          go false n = accepted-bytes a c r n ∙ ap encoded (s r) ∙ sym (accepted-bytes b c (rw (← w) r) n)
 
       go : (u : Bool) → unfit a c ≡ u → (answerOn a c ≡ answerOn b c) × (take 65536 (areaAfter a c) ≡ take 65536 (areaAfter b c))
       go true u =

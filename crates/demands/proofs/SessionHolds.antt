@@ -15,7 +15,8 @@ use Rattle.rules.specs.Refusals.{startRefusal}
 use Rattle.rules.specs.Run.{outcome, answers}
 use Rattle.rules.proofs.MarkedHold.{table-holds}
 use Rattle.area.specs.Layout.{decoded}
-use Rattle.sabre.specs.Lent.{answerOn, areaAfter, answerNumbers, soundArea}
+use Rattle.sabre.specs.Lent.{answerOn, areaAfter, answerNumbers, fitArea}
+use Rattle.sabre.proofs.SoundAreas.{sound-fit}
 use Rattle.demands.specs.Runs.{AllFit}
 use Rattle.demands.specs.SessionNumbers.{numbersOn, sessionNumbers}
 use Rattle.demands.proofs.Steps.{step-on, start-on}
@@ -29,8 +30,8 @@ unfolding answerNumbers answers linesFrom
 numbers-lines s [] = refl
 numbers-lines s (c ∷ cs) = ap (_∷_ (answerNumbers (outcome s c .answer))) (numbers-lines (outcome s c .state) cs)
 
--- calls on a sound area give the numbers of the answers from its state on
-numbers-follow : (cs : List Call) (a : List ℕ) (s : State) → soundArea a ≡ true → decoded a ≡ s → AllFit cs → numbersOn a cs ≡ map answerNumbers (answers s cs)
+-- calls on an area that is sound in one of the two layouts give the numbers of the answers from its state on
+numbers-follow : (cs : List Call) (a : List ℕ) (s : State) → fitArea a ≡ true → decoded a ≡ s → AllFit cs → numbersOn a cs ≡ map answerNumbers (answers s cs)
 unfolding numbersOn answers
 numbers-follow [] a s z e f = refl
 numbers-follow (c ∷ cs) a s z e f =
@@ -47,7 +48,7 @@ pub session-numbers : (a : List ℕ) → 65536 ≤ length a → numbersOn a (map
 unfolding numbersOn answers outcome started startRefusal
 session-numbers a h =
     let x = start-on a 1 1 h (omega arith) (omega arith) (omega arith) (omega arith) in
-    let t = numbers-follow (drop 1 (map callOf session)) (areaAfter a (Start 1 1)) (fresh 1 1) (x .2) (x .1) fits in
+    let t = numbers-follow (drop 1 (map callOf session)) (areaAfter a (Start 1 1)) (fresh 1 1) (sound-fit (areaAfter a (Start 1 1)) (x .2)) (x .1) fits in
     let s : numbersOn a (map callOf session) ≡ map answerNumbers (answers (fresh 1 1) (map callOf session)) = λ i. answerNumbers (x .0 i) ∷ t i in
     s ∙ numbers-lines (fresh 1 1) (map callOf session) ∙ ap (map ownNumbers) session-lines
   where

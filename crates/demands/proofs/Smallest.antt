@@ -45,11 +45,11 @@ use Rattle.rules.proofs.Promises.CallCases.{viewed-is}
 use Rattle.rules.proofs.Facts.SoundFacts.{Sound, facts, borders-facts}
 use Rattle.rules.proofs.Leaves.PageLaws.{found-has, found-below, not-found, one-place}
 use Rattle.area.specs.Layout.{decoded}
-use Rattle.sabre.specs.Lent.{unfit, answerOn, isRefused, status, soundArea}
+use Rattle.sabre.specs.Lent.{unfit, answerOn, isRefused, status, fitArea}
 use Rattle.demands.specs.RefusalTable.{free, killed, fetchingOrWaiting, has, readOrWrite, pinned, class, order, place, refusals, applies}
 use Rattle.demands.proofs.Areas.{unfit-table, unfit-other}
 use Rattle.demands.proofs.Steps.{served-accepted}
-use Rattle.sabre.proofs.SoundAreas.{sound-area}
+use Rattle.sabre.proofs.SoundAreas.{fit-area}
 
 -- ---- an accepted call's answer is no refusal
 
@@ -84,7 +84,7 @@ numbered false (suc n) s o h = (refl, rw (ne-eqb (suc n) 0 (λ q. omega arith)))
 
 -- the table's first row is refusal 1; its other rows count where the area is fit for the call
 first-row : (a : List ℕ) (c : Call) (n m : ℕ) → (unfit a c ≡ false → n ≡ m) → Gives (answerOn a c) (cond (unfit a c) 1 n)
-    → Gives (answerOn a c) (cond (ltb (length a) 65536 || (not (isStart c) && not (soundArea a))) 1 m)
+    → Gives (answerOn a c) (cond (ltb (length a) 65536 || (not (isStart c) && not (fitArea a))) 1 m)
 first-row a c n m e = gives-same (answerOn a c) _ _ (go (unfit a c) refl ∙ ap (λ (u : Bool). cond u 1 m) (unfit-table a c))
   where
     go : (u : Bool) → unfit a c ≡ u → cond u 1 n ≡ cond u 1 m
@@ -220,7 +220,7 @@ gives a (Request level number page mode) =
     let c = Request level number page mode in
     first-row a c _ _
     (λ u.
-    let z = sound-area a (not-false (soundArea a) (sym (unfit-other a c refl) ∙ u)) .sound-state in
+    let z = fit-area a (not-false (fitArea a) (sym (unfit-other a c refl) ∙ u)) .sound-state in
     let k = classOf (decoded a .borders) page in
     let same = class-same (decoded a .borders) (borders-facts (decoded a) z .valid) page in
     request-rows (ltb 3 level) (ltb 7 number) (ltb 4095 page) (ltb 1 mode) (conditionAt (decoded a) level number) _ _ _ _
@@ -232,7 +232,7 @@ gives a (Unpin level number page) =
     let s = decoded a in
     first-row a c _ _
     (λ u.
-    let z = sound-area a (not-false (soundArea a) (sym (unfit-other a c refl) ∙ u)) .sound-state in
+    let z = fit-area a (not-false (fitArea a) (sym (unfit-other a c refl) ∙ u)) .sound-state in
     unpin-rows (ltb 3 level) (ltb 7 number) (ltb 4095 page) (conditionAt s level number) (pinsPage s (rowOf level number) page) (pinned s (rowOf level number) page)
     (pinned-same s (facts s z) (rowOf level number) page))
     (numbered (unfit a c) (unpinRefusal s level number page) s _ (λ _. refl))

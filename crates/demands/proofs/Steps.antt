@@ -1,10 +1,11 @@
--- Demand 2 over lent areas: a call on a sound area, and a start on any area, gives the answer and the next state of the definitions, and leaves a sound area.
+-- Demand 2 over lent areas: a call on an area that is sound in one of the two layouts, and a start on any area, gives the answer and the next state of the definitions, and leaves a sound area.
 use mathlib.Core.Path.{_≡_, refl, sym, _∙_, ap}
-use mathlib.Core.Bool.{Bool, true, false, not}
+use mathlib.Core.Bool.{Bool, true, false, not, _||_}
 use mathlib.Core.List.{List, [], _∷_, _++_}
 use Prim.Native.Nat.{ℕ, zero, suc, _≤_}
 use native.Mathlib.Omega.{arith}
 use borrow.Author.Tests.{le-ltb, le-leb, not-true}
+use lib.Dec.{lit<}
 use lib.ListN.{length, drop}
 use Rattle.seq.proofs.Tests.{true-false, and-true}
 use Rattle.seq.specs.Machine.{lastOf, throughout}
@@ -23,22 +24,21 @@ use Rattle.rules.specs.Calls.{unless, started, waiting, granted, served}
 use Rattle.model.specs.declared.Call.{Call}
 use Rattle.model.specs.declared.Call.the-variants.{Start, Tick}
 use Rattle.rules.specs.Run.{outcome}
-use Rattle.rules.specs.Content.{fields, isStart, Fits}
+use Rattle.rules.specs.Content.{fields, isStart, isReading, Fits}
 use Rattle.rules.proofs.Leaves.ContentLaws.{start-is}
 use Rattle.rules.proofs.Leaves.RefusalFacts.{start-taken}
-use Rattle.rules.proofs.Leaves.CallEffects.{Effect, unchanged, starts, begins, unpins, ends, ticks, sets, serves, effect}
+use Rattle.rules.proofs.Leaves.CallEffects.{Effect, unchanged, starts, begins, unpins, ends, ticks, sets, serves, effect, reading-still}
 use Rattle.rules.proofs.Promises.Serving.{Serving, waits, waits-g, joins, fills, serving}
 use Rattle.rules.proofs.Promises.Granting.{granted-answer}
 use Rattle.rules.proofs.Stays.StaysFresh.{fresh-sound}
 use Rattle.rules.proofs.Stays.StaysSound.{stays-sound}
 use Rattle.rules.proofs.Promises.Widths.{fresh-narrow, stays-narrow, sound-ok}
-use Rattle.area.specs.Layout.{encoded, decoded}
-use Rattle.area.proofs.Elements.{decoded-deadline}
+use Rattle.area.specs.Layout.{version, encoded, decoded}
 use Rattle.area.proofs.RoundTrip.{decode-encode}
-use Rattle.sabre.specs.Lent.{answerOn, isRefused, areaAfter, soundArea}
+use Rattle.sabre.specs.Lent.{answerOn, isRefused, areaAfter, soundArea, fitArea}
 use Rattle.demands.specs.Runs.{AllFit, areaAfterAll, notStartedAgain, Run, startedArea, FromFreshStart}
-use Rattle.demands.proofs.Areas.{unfit-start, accepted-sound, sound-fit, accepted-fit, fit-long, fit-answer}
-use Rattle.sabre.proofs.SoundAreas.{encode-sound, sound-area}
+use Rattle.demands.proofs.Areas.{unfit-start, accepted-sound, taken-fit, accepted-fit, fit-long, fit-answer}
+use Rattle.sabre.proofs.SoundAreas.{encode-sound, sound-fit, fit-area, fit-ok}
 
 -- ---- a refused call leaves the state
 
@@ -99,11 +99,11 @@ unfolding word
 start-only a slots delay e =
     (fit-long a (Start slots delay) (accepted-fit a (Start slots delay) (rw e)), start-taken slots delay (start-answer a slots delay (rw e) .0))
 
--- any other answer that is no refusal is given on sound areas alone
-pub other-sound : (a : List ℕ) (c : Call) (x : Answer) → answerOn a c ≡ x → isRefused x ≡ false → (x ≡ Started → ⊥) → soundArea a ≡ true
+-- any other answer that is no refusal is given on areas alone that are sound in one of the two layouts
+pub other-sound : (a : List ℕ) (c : Call) (x : Answer) → answerOn a c ≡ x → isRefused x ≡ false → (x ≡ Started → ⊥) → fitArea a ≡ true
 other-sound a c x e r n = go (isStart c) refl
   where
-    go : (b : Bool) → isStart c ≡ b → soundArea a ≡ true
+    go : (b : Bool) → isStart c ≡ b → fitArea a ≡ true
     go true o =
         let k : answerOn a (Start (fields c .slots) (fields c .delay)) ≡ x = rw (start-is c o) at e in
         absurd (n (sym k ∙ start-answer a (fields c .slots) (fields c .delay) (rw k r) .1))
@@ -111,40 +111,56 @@ other-sound a c x e r n = go (isStart c) refl
 
 -- ---- calls
 
--- the area that an accepted call leaves, where the next state's numbers fit
-accepted-area : (a : List ℕ) (c : Call) → isRefused (answerOn a c) ≡ false → StateOk (outcome (decoded a) c .state) → sound (outcome (decoded a) c .state) ≡ true
+-- the area that an accepted call leaves that does not only read, where the next state's numbers fit
+accepted-area : (a : List ℕ) (c : Call) → isRefused (answerOn a c) ≡ false → isReading c ≡ false → StateOk (outcome (decoded a) c .state) → sound (outcome (decoded a) c .state) ≡ true
     → (decoded (areaAfter a c) ≡ outcome (decoded a) c .state) × (soundArea (areaAfter a c) ≡ true)
 unfolding areaAfter
-accepted-area a c e ok z =
+accepted-area a c e r ok z =
     let t = outcome (decoded a) c .state in
-    (rw e (decode-encode t ok (drop 65536 a)), rw e (encode-sound t ok (drop 65536 a) z))
+    (rw (e, r) (decode-encode version (lit< tt) t ok (drop 65536 a)), rw (e, r) (encode-sound t ok (drop 65536 a) z))
 
-refused-area : (a : List ℕ) (c : Call) → isRefused (answerOn a c) ≡ true → soundArea a ≡ true → outcome (decoded a) c .state ≡ decoded a
-    → (decoded (areaAfter a c) ≡ outcome (decoded a) c .state) × (soundArea (areaAfter a c) ≡ true)
+-- a call on an area that is sound in one of the two layouts
+module _ (a : List ℕ) (c : Call) (z : fitArea a ≡ true) (f : Fits c) where
+  answered : answerOn a c ≡ outcome (decoded a) c .answer
+  answered = fit-answer a c (taken-fit a c z)
+
+  -- where it is refused or only reads
+  still-area : isRefused (answerOn a c) || isReading c ≡ true → outcome (decoded a) c .state ≡ decoded a
+      → (decoded (areaAfter a c) ≡ outcome (decoded a) c .state) × (fitArea (areaAfter a c) ≡ true)
+  unfolding areaAfter
+  still-area e k = (rw e (sym k), rw e z)
+
+  -- where it is accepted and does not only read, it leaves the layout that is written
+  pub changed-area : isRefused (answerOn a c) ≡ false → isReading c ≡ false → (decoded (areaAfter a c) ≡ outcome (decoded a) c .state) × (soundArea (areaAfter a c) ≡ true)
+  changed-area e r =
+      let s = fit-area a z .sound-state in
+      let t = stays-sound (decoded a) c s in
+      accepted-area a c e r (sound-ok (outcome (decoded a) c .state) t (stays-narrow (decoded a) c s f (λ row. fit-ok a z .row row .deadline))) t
+
+  pub step-on : (answerOn a c ≡ outcome (decoded a) c .answer) × (decoded (areaAfter a c) ≡ outcome (decoded a) c .state) × (fitArea (areaAfter a c) ≡ true)
+  step-on = let x = go (isRefused (answerOn a c)) (isReading c) refl refl in (answered, x .0, x .1)
+    where
+      go : (b r : Bool) → isRefused (answerOn a c) ≡ b → isReading c ≡ r → (decoded (areaAfter a c) ≡ outcome (decoded a) c .state) × (fitArea (areaAfter a c) ≡ true)
+      go true r e n = still-area (rw e) (refused-still (decoded a) c (sym (ap isRefused answered) ∙ e))
+      go false true e n = still-area (rw (e, n)) (reading-still (decoded a) c n)
+      go false false e n = let x = changed-area e n in (x .0, sound-fit (areaAfter a c) (x .1))
+
+-- an area of the layout that is written stays one
+pub step-sound : (a : List ℕ) (c : Call) → soundArea a ≡ true → Fits c → soundArea (areaAfter a c) ≡ true
 unfolding areaAfter
-refused-area a c e z k = (rw e (sym k), rw e z)
-
--- a call on a sound area
-pub step-on : (a : List ℕ) (c : Call) → soundArea a ≡ true → Fits c
-    → (answerOn a c ≡ outcome (decoded a) c .answer)
-    × (decoded (areaAfter a c) ≡ outcome (decoded a) c .state)
-    × (soundArea (areaAfter a c) ≡ true)
-step-on a c z f =
-    let w = fit-answer a c (sound-fit a c z) in
-    let x = go (isRefused (answerOn a c)) refl w in
-    (w, x .0, x .1)
+step-sound a c z f = go (isRefused (answerOn a c)) (isReading c) refl refl
   where
-    go : (b : Bool) → isRefused (answerOn a c) ≡ b → answerOn a c ≡ outcome (decoded a) c .answer
-        → (decoded (areaAfter a c) ≡ outcome (decoded a) c .state) × (soundArea (areaAfter a c) ≡ true)
-    go true e w = refused-area a c e z (refused-still (decoded a) c (sym (ap isRefused w) ∙ e))
-    go false e w =
-        let s = sound-area a z .sound-state in
-        let t = stays-sound (decoded a) c s in
-        accepted-area a c e (sound-ok (outcome (decoded a) c .state) t (stays-narrow (decoded a) c s f (decoded-deadline a))) t
+    still : isRefused (answerOn a c) || isReading c ≡ true → soundArea (areaAfter a c) ≡ true
+    still e = rw e z
+
+    go : (b r : Bool) → isRefused (answerOn a c) ≡ b → isReading c ≡ r → soundArea (areaAfter a c) ≡ true
+    go true r e n = still (rw e)
+    go false true e n = still (rw (e, n))
+    go false false e n = changed-area a c (sound-fit a z) f e n .1
 
 -- an accepted tick, on any area
 pub record TickOn (a : List ℕ) (room clock : ℕ) : Type 0 where
-  pub sound-before : soundArea a ≡ true
+  pub sound-before : fitArea a ≡ true
   pub sound-state : sound (decoded a) ≡ true
   pub answer : outcome (decoded a) (Tick room) .answer ≡ Clock clock
   pub left : decoded (areaAfter a (Tick room)) ≡ outcome (decoded a) (Tick room) .state
@@ -155,7 +171,7 @@ unfolding word
 tick-on a room clock e =
     let z = accepted-sound a (Tick room) refl (rw e) in
     let x = step-on a (Tick room) z (omega arith) in
-    record { sound-before = z; sound-state = sound-area a z .sound-state; answer = sym (x .0) ∙ e; left = x .1; sound-after = x .2 }
+    record { sound-before = z; sound-state = fit-area a z .sound-state; answer = sym (x .0) ∙ e; left = x .1; sound-after = changed-area a (Tick room) z (omega arith) (rw e) refl .1 }
 
 -- a start on any area that is long enough
 pub start-on : (a : List ℕ) (slots delay : ℕ) → 65536 ≤ length a → 1 ≤ slots → slots ≤ 64 → 1 ≤ delay → delay ≤ 255
@@ -168,7 +184,7 @@ start-on a slots delay n h i j k =
     let o : outcome (decoded a) (Start slots delay) ≡ record { state = fresh slots delay; answer = Started } = rw r in
     let w : answerOn a (Start slots delay) ≡ Started = fit-answer a (Start slots delay) (unfit-start a slots delay ∙ le-ltb (length a) 65536 n) ∙ rw o in
     let z = fresh-sound slots delay h i j k in
-    let x = accepted-area a (Start slots delay) (rw w) (rw o (sound-ok (fresh slots delay) z (fresh-narrow slots delay))) (rw o z) in
+    let x = accepted-area a (Start slots delay) (rw w) refl (rw o (sound-ok (fresh slots delay) z (fresh-narrow slots delay))) (rw o z) in
     (w, x .0 ∙ rw o, x .1)
 
 -- its bytes are those of the fresh state, whatever the area held before
@@ -181,11 +197,16 @@ start-bytes a slots delay e =
 
 -- ---- lists of calls
 
--- every list of calls leaves a sound area sound
+-- every list of calls leaves a sound area sound, and one that is sound in the last 32-bit layout sound in one of the two
 pub run-sound-on : (cs : List Call) (a : List ℕ) → soundArea a ≡ true → AllFit cs → soundArea (areaAfterAll a cs) ≡ true
 unfolding areaAfterAll lastOf
 run-sound-on [] a z f = z
-run-sound-on (c ∷ cs) a z f = run-sound-on cs (areaAfter a c) (step-on a c z (f .0) .2) (f .1)
+run-sound-on (c ∷ cs) a z f = run-sound-on cs (areaAfter a c) (step-sound a c z (f .0)) (f .1)
+
+pub run-fit-on : (cs : List Call) (a : List ℕ) → fitArea a ≡ true → AllFit cs → fitArea (areaAfterAll a cs) ≡ true
+unfolding areaAfterAll lastOf
+run-fit-on [] a z f = z
+run-fit-on (c ∷ cs) a z f = run-fit-on cs (areaAfter a c) (step-on a c z (f .0) .2) (f .1)
 
 -- so every area that a list of calls leaves from an accepted start on, whatever the area held before, is sound
 pub started-sound-on : (a : List ℕ) (slots delay : ℕ) (cs : List Call) → answerOn a (Start slots delay) ≡ Started → AllFit cs
@@ -208,3 +229,6 @@ started-area r f =
     let t = start-only (r .area) (r .slots) (r .delay) (f .started) in
     let x = start-on (r .area) (r .slots) (r .delay) (t .0) (t .1 .slots-least) (t .1 .slots-most) (t .1 .delay-least) (t .1 .delay-most) in
     (x .1, x .2)
+
+pub started-fit : (r : Run) → FromFreshStart r → fitArea (startedArea r) ≡ true
+started-fit r f = sound-fit (startedArea r) (started-area r f .1)

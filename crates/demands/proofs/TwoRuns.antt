@@ -19,16 +19,16 @@ use Rattle.rules.proofs.Leaves.ContentLaws.{unkept, request-own}
 use Rattle.rules.proofs.Leaves.SettingLaws.{frozen}
 use Rattle.rules.proofs.Similar.{Similar, similar-clock, similar-told, similar-kept, similar-other}
 use Rattle.area.specs.Layout.{decoded}
-use Rattle.sabre.specs.Lent.{answerOn, areaAfter, soundArea}
+use Rattle.sabre.specs.Lent.{answerOn, areaAfter, fitArea}
 use Rattle.demands.specs.Runs.{AllFit, areaAfterAll, notStartedAgain, keptAnswersOn, isDeliveryOn, deliveriesOn}
 use Rattle.demands.proofs.Areas.{sound-answer}
 use Rattle.demands.proofs.Steps.{step-on, not-now}
 
 module _ (L : ℕ) (most : L ≤ 3) (last : Borders) where
-  -- two sound areas that name states which the clearance cannot tell apart
+  -- two areas, each sound in one of the two layouts, that name states which the clearance cannot tell apart
   pub record Near (a b : List ℕ) : Type 0 where
-    pub first : soundArea a ≡ true
-    pub second : soundArea b ≡ true
+    pub first : fitArea a ≡ true
+    pub second : fitArea b ≡ true
     pub states : Similar L last (decoded a) (decoded b)
 
   -- once a row has begun, the area has the borders that the run ends with
@@ -59,7 +59,7 @@ module _ (L : ℕ) (most : L ≤ 3) (last : Borders) where
 
   -- what is known of a run that is not started again and ends with those borders, and of each of its calls
   abbrev pub Good : List ℕ → List Call → Type 0
-  Good a cs = (soundArea a ≡ true) × AllFit cs × (notStartedAgain a cs ≡ true) × (decoded (areaAfterAll a cs) .borders ≡ last)
+  Good a cs = (fitArea a ≡ true) × AllFit cs × (notStartedAgain a cs ≡ true) × (decoded (areaAfterAll a cs) .borders ≡ last)
 
   abbrev Fine : List ℕ → Call → Type 0
   Fine a c = Fits c × (isStarted (answerOn a c) ≡ false) × Settled a × Settled (areaAfter a c)

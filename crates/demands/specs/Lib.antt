@@ -4,3 +4,4 @@ pub mod SessionNumbers
 pub mod Runs
 pub mod BordersTold
 pub mod OrderTold
+pub mod HandedOver

@@ -1,4 +1,4 @@
--- Document 01, "Refusals": its table row by row, row 12 as T-01 of document 02 has it, rows 13 and 14 as T-02 has them and its rows 19 and 20, and the row 21 of T-04, over lent areas. Refusal 18 is the player's.
+-- Document 01, "Refusals": its table row by row, row 12 as T-01 of document 02 has it, rows 13 and 14 as T-02 has them and its rows 19 and 20, and the row 21 of T-04, rows 1 and 17 as T-07 has them, over lent areas. Refusal 18 is the player's.
 -- What it says of a row's condition, a deadline, a pin and a class is said here anew, and not by the words of the definitions that it judges.
 use mathlib.Core.Bool.{Bool, true, false, cond, _&&_, _||_, not}
 use mathlib.Core.List.{List, [], _∷_}
@@ -18,7 +18,7 @@ use Rattle.model.specs.declared.State.{State}
 use Rattle.model.specs.State.{rowAt, slotAt, holdingAt}
 use Rattle.rules.specs.Content.{fields, isStart, isBegin, isRequest, isUnpin, isEnd, isTick, isBorders, rowNamed}
 use Rattle.area.specs.Layout.{decoded}
-use Rattle.sabre.specs.Lent.{soundArea}
+use Rattle.sabre.specs.Lent.{fitArea}
 
 -- a row's condition
 abbrev pub free : Condition → Bool
@@ -75,7 +75,7 @@ refusals a c =
     let s = decoded a in
     let pageClass = class (s .borders) (x .page) in
     let condition = rowAt s (rowNamed c) .condition in
-    (1, ltb (length a) 65536 || (not (isStart c) && not (soundArea a)))
+    (1, ltb (length a) 65536 || (not (isStart c) && not (fitArea a)))
     ∷ (21, isTick c && ltb (x .room) 256)
     ∷ (2, isStart c && not (leb 1 (x .slots) && leb (x .slots) 64))
     ∷ (3, isStart c && not (leb 1 (x .delay) && leb (x .delay) 255))
@@ -91,7 +91,7 @@ refusals a c =
     ∷ (13, isRequest c && eqb (x .mode) 0 && ltb (x .level) pageClass)
     ∷ (14, isRequest c && eqb (x .mode) 1 && ltb pageClass (x .level))
     ∷ (15, isUnpin c && not (pinned s (rowNamed c) (x .page)))
-    ∷ (17, isTick c && leb 4000000000 (s .clock))
+    ∷ (17, isTick c && leb 9000000000000000000 (s .clock))
     ∷ (19, isBorders c && (ltb (x .second) (x .first) || ltb (x .third) (x .second) || ltb 4096 (x .first) || ltb 4096 (x .second) || ltb 4096 (x .third)))
     ∷ (20, isBorders c && s .begun)
     ∷ []

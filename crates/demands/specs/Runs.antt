@@ -14,7 +14,7 @@ use Rattle.rules.specs.Secrecy.{isKept, keptCalls, isQuestion}
 use Rattle.area.specs.Layout.{decoded}
 use Rattle.sabre.specs.Lent.{answerOn, areaAfter}
 
--- every number of every call of the list is an unsigned 32-bit number
+-- every number of every call of the list has its width
 abbrev pub AllFit : List Call → Type 0
 AllFit [] = Unit {0}
 AllFit (c ∷ cs) = Fits c × AllFit cs
@@ -58,7 +58,7 @@ pub record Run : Type 0 where
 abbrev pub startedArea : Run → List ℕ
 startedArea r = areaAfter (r .area) (Start (r .slots) (r .delay))
 
--- a run from a fresh start: the start is accepted, the run is not started again, and every number is an unsigned 32-bit number
+-- a run from a fresh start: the start is accepted, the run is not started again, and every number has its width
 pub record FromFreshStart (r : Run) : Type 0 where
   pub started : answerOn (r .area) (Start (r .slots) (r .delay)) ≡ Started
   pub not-again : notStartedAgain (startedArea r) (r .calls) ≡ true

@@ -31,25 +31,25 @@ use Rattle.model.proofs.State
 abbrev pub ConditionOk : Condition'.Condition → Type 0
 ConditionOk Free = Unit {0}
 ConditionOk Idle = Unit {0}
-ConditionOk (Fetching due) = due < 2 ^ 32
+ConditionOk (Fetching due) = due < 2 ^ 64
 ConditionOk (Waiting page mode) = page < 2 ^ 32
 ConditionOk (Killed cause) = Unit {0}
 
 abbrev pub ContentOk : Content'.Content → Type 0
 ContentOk Empty = Unit {0}
-ContentOk (Filled page arrival dirty lowest) = (page < 2 ^ 32) × (arrival < 2 ^ 32) × (lowest < 2 ^ 64)
+ContentOk (Filled page arrival dirty lowest) = (page < 2 ^ 32) × (arrival < 2 ^ 64) × (lowest < 2 ^ 64)
 
 pub record HoldingOk (h : Holding'.Holding) : Type 0 where
-  pub arrival : h .arrival < 2 ^ 32
-  pub touch : h .touch < 2 ^ 32
+  pub arrival : h .arrival < 2 ^ 64
+  pub touch : h .touch < 2 ^ 64
 
 pub record RowOk (r : Row'.Row) : Type 0 where
   pub condition : ConditionOk (r .condition)
-  pub deadline : r .deadline < 2 ^ 32
+  pub deadline : r .deadline < 2 ^ 64
 
 pub record SlotOk (t : Slot'.Slot) : Type 0 where
   pub content : ContentOk (t .content)
-  pub touch : t .touch < 2 ^ 32
+  pub touch : t .touch < 2 ^ 64
 
 pub record BordersOk (b : Borders'.Borders) : Type 0 where
   pub first : b .first < 2 ^ 32
@@ -58,8 +58,8 @@ pub record BordersOk (b : Borders'.Borders) : Type 0 where
 
 pub record StateOk (s : State'.State) : Type 0 where
   pub size : s .size < 2 ^ 64
-  pub delay : s .delay < 2 ^ 32
-  pub clock : s .clock < 2 ^ 32
+  pub delay : s .delay < 2 ^ 64
+  pub clock : s .clock < 2 ^ 64
   pub sized : Sized s
   pub row : (i : ℕ) → RowOk (getD (s .rows) i freeRow)
   pub slot : (i : ℕ) → SlotOk (getD (s .slots) i emptySlot)

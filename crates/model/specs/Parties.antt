@@ -49,7 +49,7 @@ mayAccess b level page mode = allowed level (classOf b page) mode
 
 -- the last tick of the clock
 abbrev pub lastClock : ℕ
-lastClock = 4000000000
+lastClock = 9000000000000000000
 
 -- a deadline is missed when it has passed: the clock is above it
 abbrev pub isPast : ℕ → ℕ → Bool

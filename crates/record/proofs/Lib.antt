@@ -3,3 +3,4 @@ pub mod TextLaws
 pub mod DecimalLaws
 pub mod PlayLaws
 pub mod RunLaws
+pub mod ShortRecords

@@ -54,7 +54,7 @@ one-small t a bytes = go (t .over)
         (rw length-append (omega (arith, line-most (t .number) (answerNumbers (answerTo a r)), fills-most (t .number) (listWith a zeroList r))), omega arith)
 
 -- after a cut record the run is over
-pub cut-over : (t : Progress) (a r : List ℕ) → (length r ≡ recordWidth → ⊥) → playedOne t a r .progress .over ≡ true
+pub cut-over : (t : Progress) (a r : List ℕ) → (length r ≡ recordWidth r → ⊥) → playedOne t a r .progress .over ≡ true
 unfolding playedOne playedRecord nextProgress admitted
 cut-over t a r f = go (t .over) refl
   where

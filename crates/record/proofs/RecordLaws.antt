@@ -1,9 +1,9 @@
 -- What the bytes of a record and its fields come to, how much of the list its call is lent, and which calls are no start and no tick.
 use Prim.{Unit}
-use mathlib.Core.Path.{_≡_, refl, _∙_, sym}
+use mathlib.Core.Path.{_≡_, refl, _∙_, sym, ap}
 use mathlib.Core.Bool.{Bool, true, false, cond, not, _&&_}
 use mathlib.Core.List.{List, [], _∷_, _++_}
-use Prim.Native.Nat.{ℕ, zero, suc, _+_, _*_, _^_, _<_, _≤_}
+use Prim.Native.Nat.{ℕ, zero, suc, _+_, _*_, _-_, _^_, _<_, _≤_}
 use native.Mathlib.Nat.{pow-suc, pow-le-pow-right}
 use native.Mathlib.Numerals.{add-one}
 use native.Mathlib.Decide.{ℕ-discrete}
@@ -12,8 +12,8 @@ use borrow.Author.Tests.{eq-eqb, ne-eqb, leb-true}
 use mir.Val.{hasKey}
 use denote.Enum.Declared.{tagOf}
 use types.Run.{OneOf, miss}
-use lib.Dec.{T, leb}
-use lib.ListN.{length, getD, drop, length-drop, List·getD-eq-default}
+use lib.Dec.{T, leb, eqb}
+use lib.ListN.{length, getD, take, drop, length-drop, List·getD-eq-default}
 use lib.Seq.{take-suc, getD-drop}
 use Rattle.words.specs.Bytes.{part}
 use Rattle.seq.proofs.Tests.{and-left, and-right, and-false-right}
@@ -23,7 +23,7 @@ use Rattle.model.specs.declared.Call.the-variants.{Start, Begin, Request, Unpin
 use Rattle.rules.specs.Content.{isStart, isTick}
 use Rattle.record.specs.declared.Input.{Input}
 use Rattle.record.specs.declared.Input.the-variants.{Bad, Good}
-use Rattle.record.specs.Record.{recordWidth, listLength, bigEndian, field, kinds, isWhole, ofKind, recordOf}
+use Rattle.record.specs.Record.{listLength, bigEndian, field, kinds, ofKind, shortMark, longMark, shortWidth, longWidth, recordWidth, hasMark, isWhole, recordOf}
 use Rattle.record.specs.Play.{admitted}
 use Rattle.record.specs.Inner.Room.{roomOf}
 
@@ -37,10 +37,10 @@ pub field-more : (r : List ℕ) (at i : ℕ) → at + i < length r → field r a
 unfolding field
 field-more r at i h = rw (add-one i, take-suc (drop at r) i 0 (rw length-drop (omega arith)), getD-drop) (big-last 0 (part r at i) (getD r (at + i) 0))
 
--- up to four bytes make a 32-bit number
-pub field-room : (x i b : ℕ) → i < 4 → x < 256 ^ i → b < 256 → (x * 256 + b < 2 ^ 32) × (x * 256 + b < 256 ^ (i + 1))
+-- up to eight bytes make a 64-bit number
+pub field-room : (x i b : ℕ) → i < 8 → x < 256 ^ i → b < 256 → (x * 256 + b < 2 ^ 64) × (x * 256 + b < 256 ^ (i + 1))
 field-room x i b h l k =
-    let p : 256 ^ i ≤ 256 ^ 3 = pow-le-pow-right (omega arith) {i = i} {j = 3} (omega arith) in
+    let p : 256 ^ i ≤ 256 ^ 7 = pow-le-pow-right (omega arith) {i = i} {j = 7} (omega arith) in
     (omega arith, rw (add-one i, pow-suc) (omega arith))
 
 -- what is known after the arms 0 to n - 1 of a match on a number
@@ -79,8 +79,8 @@ record-room : (r : List ℕ) → roomOf (recordOf r) ≤ listLength
 unfolding recordOf ofKind kinds allRoom
 record-room r = go (isWhole r)
   where
-    go : (b : Bool) → roomOf (cond b (ofKind (field r 2 1) (field r 3 1) (field r 4 1) (field r 5 1) (field r 6 2) (field r 8 4)) Bad) ≤ listLength
-    go true = each-room (kinds (field r 3 1) (field r 4 1) (field r 5 1) (field r 6 2) (field r 8 4)) refl (field r 2 1)
+    go : (b : Bool) → roomOf (cond b (ofKind (field r 2 1) (field r 3 1) (field r 4 1) (field r 5 1) (field r 6 2) (field r 8 (recordWidth r - 8))) Bad) ≤ listLength
+    go true = each-room (kinds (field r 3 1) (field r 4 1) (field r 5 1) (field r 6 2) (field r 8 (recordWidth r - 8))) refl (field r 2 1)
     go false = omega arith
 
 pub admitted-room : (started : Bool) (r : List ℕ) → roomOf (admitted started (recordOf r)) ≤ listLength
@@ -96,21 +96,62 @@ admitted-room started r = go started (recordOf r) (record-room r)
         pick true = h
         pick false = omega arith
 
+-- the first two bytes tell the width
+pub same-width : (a b : List ℕ) → take 2 a ≡ take 2 b → recordWidth a ≡ recordWidth b
+unfolding recordWidth field
+same-width a b e = ap (λ (m : List ℕ). cond (eqb (bigEndian 0 m) longMark) longWidth shortWidth) e
+
 module _ (r : List ℕ) where
-  pub cut : (length r ≡ recordWidth → ⊥) → Bad ≡ recordOf r
-  unfolding recordOf isWhole
-  cut h = rw (ne-eqb (length r) recordWidth h)
+  pub widths : (shortWidth ≤ recordWidth r) × (recordWidth r ≤ longWidth)
+  unfolding recordWidth
+  widths = go (eqb (field r 0 2) longMark)
+    where
+      go : (b : Bool) → (shortWidth ≤ cond b longWidth shortWidth) × (cond b longWidth shortWidth ≤ longWidth)
+      go true = (omega arith, omega arith)
+      go false = (omega arith, omega arith)
 
-  pub other-mark : (m : ℕ) → m ≡ field r 0 2 → (m ≡ 50010 → ⊥) → Bad ≡ recordOf r
-  unfolding recordOf isWhole
-  other-mark m e h = rw (and-false-right _ _ (ne-eqb (field r 0 2) 50010 (λ q. h (e ∙ q))))
+  pub not-short : (recordWidth r ≡ shortWidth → ⊥) → recordWidth r ≡ longWidth
+  unfolding recordWidth
+  not-short = go (eqb (field r 0 2) longMark)
+    where
+      go : (b : Bool) → (cond b longWidth shortWidth ≡ shortWidth → ⊥) → cond b longWidth shortWidth ≡ longWidth
+      go true f = refl
+      go false f = absurd (f refl)
 
-  pub whole : (m kind level number mode page value : ℕ) (x : Input) → length r ≡ recordWidth → m ≡ field r 0 2 → m ≡ 50010
-      → kind ≡ field r 2 1 → level ≡ field r 3 1 → number ≡ field r 4 1 → mode ≡ field r 5 1 → page ≡ field r 6 2 → value ≡ field r 8 4
+  module _ (m : ℕ) (e : m ≡ field r 0 2) where
+    pub long-width : m ≡ longMark → longWidth ≡ recordWidth r
+    unfolding recordWidth
+    long-width h = rw (eq-eqb (field r 0 2) longMark (sym e ∙ h))
+
+    pub short-width : (m ≡ longMark → ⊥) → shortWidth ≡ recordWidth r
+    unfolding recordWidth
+    short-width h = rw (ne-eqb (field r 0 2) longMark (λ q. h (e ∙ q)))
+
+    pub short-mark : m ≡ shortMark → true ≡ hasMark r
+    unfolding hasMark
+    short-mark h = rw (eq-eqb (field r 0 2) shortMark (sym e ∙ h))
+
+    pub other-mark : (m ≡ shortMark → ⊥) → eqb m longMark ≡ hasMark r
+    unfolding hasMark
+    other-mark h = rw (ne-eqb (field r 0 2) shortMark (λ q. h (e ∙ q)), e)
+
+  pub cut : (length r ≡ recordWidth r → ⊥) → Bad ≡ recordOf r
+  unfolding recordOf isWhole
+  cut h = rw (ne-eqb (length r) (recordWidth r) h)
+
+  pub too-short : length r < shortWidth → Bad ≡ recordOf r
+  too-short h = cut (λ e. omega (arith, widths .0))
+
+  pub no-mark : (m : Bool) → m ≡ hasMark r → m ≡ false → Bad ≡ recordOf r
+  unfolding recordOf isWhole
+  no-mark m e h = rw (and-false-right _ _ (sym e ∙ h))
+
+  pub whole : (width kind level number mode page value : ℕ) (m : Bool) (x : Input) → width ≡ recordWidth r → length r ≡ width → m ≡ hasMark r → m ≡ true
+      → kind ≡ field r 2 1 → level ≡ field r 3 1 → number ≡ field r 4 1 → mode ≡ field r 5 1 → page ≡ field r 6 2 → value ≡ field r 8 (width - 8)
       → x ≡ ofKind kind level number mode page value → x ≡ recordOf r
   unfolding recordOf isWhole
-  whole m kind level number mode page value x l e f e2 e3 e4 e5 e6 e8 q =
-      rw (eq-eqb (length r) recordWidth l, eq-eqb (field r 0 2) 50010 (sym e ∙ f), ← e2, ← e3, ← e4, ← e5, ← e6, ← e8) q
+  whole width kind level number mode page value m x w l e f e2 e3 e4 e5 e6 e8 q =
+      rw (eq-eqb (length r) (recordWidth r) (l ∙ w), sym e ∙ f, ← w, ← e2, ← e3, ← e4, ← e5, ← e6, ← e8) q
 
 -- start is the enum's variant 0, and tick its variant 5
 pub no-start : (c : Call) (tags : List ℕ) → T (not (hasKey tags 0)) → OneOf tags (tagOf the-type c) → isStart c ≡ false

@@ -6,11 +6,12 @@ use mathlib.Core.List.{List, [], _∷_, _++_, append-assoc, append-nil}
 use Prim.Native.Nat.{ℕ, zero, suc, _<_, _≤_}
 use native.Mathlib.Omega.{arith}
 use lib.ListN.{length, take, drop, length-append, length-drop, drop-of-length-le}
-use lib.Seq.{take-all, take-at, drop-at}
+use lib.Seq.{take-all, take-append-le, take-at, drop-at}
 use Rattle.record.specs.declared.Progress.{Progress}
-use Rattle.record.specs.Record.{recordWidth, recordOf}
+use Rattle.record.specs.Record.{shortWidth, recordWidth, recordOf}
 use Rattle.record.specs.Text.{header}
 use Rattle.record.specs.Play.{Played, admitted, playedRecord, unplayed, playedOne, andThen, played, firstRecords, recordsOf, firstProgress, printed}
+use Rattle.record.proofs.RecordLaws.{same-width, widths}
 
 then-then : (p q s : Played) → andThen p (andThen q s) ≡ andThen (andThen p q) s
 then-then p q s = λ i. record {
@@ -43,29 +44,35 @@ enough (suc m) zero [] h k = refl
 enough (suc m) zero (b ∷ bs) h k = absurd (omega arith)
 enough (suc m) (suc n) [] h k = refl
 enough (suc m) (suc n) (b ∷ bs) h k =
-    ap (λ (rs : List (List ℕ)). take recordWidth (b ∷ bs) ∷ rs) (enough m n (drop recordWidth (b ∷ bs)) (rw length-drop (omega arith)) (rw length-drop (omega arith)))
+    let w = recordWidth (b ∷ bs) in
+    let l : length (drop w (b ∷ bs)) ≤ length bs = rw length-drop (omega (arith, widths (b ∷ bs) .0)) in
+    ap (λ (rs : List (List ℕ)). take w (b ∷ bs) ∷ rs) (enough m n (drop w (b ∷ bs)) (omega arith) (omega arith))
 
 -- some bytes are their first record and the records of the rest
-pub first-record : (bytes : List ℕ) → 0 < length bytes → recordsOf bytes ≡ take recordWidth bytes ∷ recordsOf (drop recordWidth bytes)
+pub first-record : (bytes : List ℕ) → 0 < length bytes → recordsOf bytes ≡ take (recordWidth bytes) bytes ∷ recordsOf (drop (recordWidth bytes) bytes)
 unfolding recordsOf firstRecords
 first-record [] h = absurd (omega arith)
 first-record (b ∷ bs) h =
-    ap (λ (rs : List (List ℕ)). take recordWidth (b ∷ bs) ∷ rs) (enough (length bs) (length (drop recordWidth (b ∷ bs))) (drop recordWidth (b ∷ bs)) (rw length-drop (omega arith)) (omega arith))
+    let w = recordWidth (b ∷ bs) in
+    ap (λ (rs : List (List ℕ)). take w (b ∷ bs) ∷ rs) (enough (length bs) (length (drop w (b ∷ bs))) (drop w (b ∷ bs)) (rw length-drop (omega (arith, widths (b ∷ bs) .0))) (omega arith))
 
 -- so a record of full width is one, and at the end one that is cut
-pub full-record : (r bytes : List ℕ) → length r ≡ recordWidth → recordsOf (r ++ bytes) ≡ r ∷ recordsOf bytes
-full-record r bytes e = first-record (r ++ bytes) (rw length-append (omega arith)) ∙ rw (take-at r bytes recordWidth e, drop-at r bytes recordWidth e)
+pub full-record : (r bytes : List ℕ) → length r ≡ recordWidth r → recordsOf (r ++ bytes) ≡ r ∷ recordsOf bytes
+full-record r bytes e =
+    let l : shortWidth ≤ length r = omega (arith, widths r .0) in
+    let w : recordWidth (r ++ bytes) ≡ recordWidth r = same-width (r ++ bytes) r (take-append-le 2 r bytes (omega arith)) in
+    first-record (r ++ bytes) (rw length-append (omega arith)) ∙ rw (w, take-at r bytes (recordWidth r) e, drop-at r bytes (recordWidth r) e)
 
-pub last-record : (r : List ℕ) → 0 < length r → length r ≤ recordWidth → recordsOf r ≡ r ∷ []
+pub last-record : (r : List ℕ) → 0 < length r → length r ≤ recordWidth r → recordsOf r ≡ r ∷ []
 unfolding recordsOf firstRecords
-last-record r h k = first-record r h ∙ rw (take-all recordWidth r k, drop-of-length-le r {i = recordWidth} k)
+last-record r h k = first-record r h ∙ rw (take-all (recordWidth r) r k, drop-of-length-le r {i = recordWidth r} k)
 
 -- records of full width alone
 abbrev pub AllFull : List (List ℕ) → Type 0
 AllFull [] = Unit {0}
-AllFull (r ∷ rs) = (length r ≡ recordWidth) × AllFull rs
+AllFull (r ∷ rs) = (length r ≡ recordWidth r) × AllFull rs
 
-pub full-more : (rs : List (List ℕ)) (r : List ℕ) → AllFull rs → length r ≡ recordWidth → AllFull (rs ++ (r ∷ []))
+pub full-more : (rs : List (List ℕ)) (r : List ℕ) → AllFull rs → length r ≡ recordWidth r → AllFull (rs ++ (r ∷ []))
 full-more [] r h e = (e, tt)
 full-more (x ∷ rs) r h e = (h .0, full-more rs r (h .1) e)
 

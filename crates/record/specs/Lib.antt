@@ -1,5 +1,6 @@
 pub mod Record
 pub mod Text
 pub mod Play
+pub mod ShortRecord
 -- for the code
 pub mod Inner

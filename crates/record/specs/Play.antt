@@ -1,4 +1,4 @@
--- Document 01, "The player", and document 02, T-04: records played one after another on an area, and the text that comes out.
+-- Document 01, "The player", and document 02, T-04 and T-07: records played one after another on an area, and the text that comes out.
 use mathlib.Core.Bool.{Bool, true, false, cond, not, _||_}
 use mathlib.Core.List.{List, [], _∷_, _++_}
 use Prim.Native.Nat.{ℕ, zero, suc, _+_}
@@ -82,7 +82,7 @@ played t a (r ∷ rs) = let p = playedOne t a r in andThen p (played (p .progres
 unfoldable pub firstRecords : ℕ → List ℕ → List (List ℕ)
 firstRecords zero bytes = []
 firstRecords (suc n) [] = []
-firstRecords (suc n) (b ∷ bs) = take recordWidth (b ∷ bs) ∷ firstRecords n (drop recordWidth (b ∷ bs))
+firstRecords (suc n) (b ∷ bs) = let w = recordWidth (b ∷ bs) in take w (b ∷ bs) ∷ firstRecords n (drop w (b ∷ bs))
 
 -- all records of some bytes, of which there are no more than bytes
 unfoldable pub recordsOf : List ℕ → List (List ℕ)

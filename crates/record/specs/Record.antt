@@ -1,7 +1,7 @@
--- Document 01, "The player", and document 02, T-02 and T-04: the call that a record of 12 bytes names.
-use mathlib.Core.Bool.{Bool, cond, _&&_}
+-- Document 01, "The player", and document 02, T-02, T-04 and T-07: the call that a record of 12 or 16 bytes names.
+use mathlib.Core.Bool.{Bool, cond, _&&_, _||_}
 use mathlib.Core.List.{List, [], _∷_}
-use Prim.Native.Nat.{ℕ, _+_, _*_, _/_, _%_}
+use Prim.Native.Nat.{ℕ, _+_, _*_, _-_, _/_, _%_}
 use lib.Dec.{eqb}
 use lib.ListN.{length, getD}
 use Rattle.words.specs.Bytes.{part}
@@ -35,21 +35,37 @@ kinds level number mode page value =
     Good (Look level number) ∷  -- 7
     Good (View level page) ∷  -- 8
     Good (Count level) ∷  -- 9
-    Good (Borders page (value / 65536) (value % 65536)) ∷  -- 10: the borders in page and the two halves of value, high half first
+    Good (Borders page (value / 65536 % 65536) (value % 65536)) ∷  -- 10: the borders in page and the two halves of the lower four bytes of value, high half first
     []
 
 -- a record of another kind is bad
 unfoldable pub ofKind : (kind level number mode page value : ℕ) → Input
 ofKind kind level number mode page value = getD (kinds level number mode page value) kind Bad
 
--- how many bytes a record has
-abbrev pub recordWidth : ℕ
-recordWidth = 12
+-- the mark C3 5A begins a record of 12 bytes, with a value of four, and the mark C3 5B one of 16 bytes, with a value of eight
+abbrev pub shortMark : ℕ
+shortMark = 50010
 
--- a whole record has all its bytes, and the mark C3 5A stands first
+abbrev pub longMark : ℕ
+longMark = 50011
+
+abbrev pub shortWidth : ℕ
+shortWidth = 12
+
+abbrev pub longWidth : ℕ
+longWidth = 16
+
+-- how many bytes the record has that some bytes begin
+unfoldable pub recordWidth : List ℕ → ℕ
+recordWidth bytes = cond (eqb (field bytes 0 2) longMark) longWidth shortWidth
+
+unfoldable pub hasMark : List ℕ → Bool
+hasMark r = eqb (field r 0 2) shortMark || eqb (field r 0 2) longMark
+
+-- a whole record has all its bytes, and one of the two marks stands first
 unfoldable pub isWhole : List ℕ → Bool
-isWhole r = eqb (length r) recordWidth && eqb (field r 0 2) 50010
+isWhole r = eqb (length r) (recordWidth r) && hasMark r
 
--- kind, level, row number and mode have a byte each, page two bytes and value four
+-- kind, level, row number and mode have a byte each, page two bytes and value the others
 unfoldable pub recordOf : List ℕ → Input
-recordOf r = cond (isWhole r) (ofKind (field r 2 1) (field r 3 1) (field r 4 1) (field r 5 1) (field r 6 2) (field r 8 4)) Bad
+recordOf r = cond (isWhole r) (ofKind (field r 2 1) (field r 3 1) (field r 4 1) (field r 5 1) (field r 6 2) (field r 8 (recordWidth r - 8))) Bad

@@ -6,7 +6,7 @@ ghost use mathlib.Core.List.{[], _∷_};
 ghost use lib.ListN.{length};
 ghost use Rattle.words.specs.Inner.Written.{Wrote};
 ghost use Rattle.rules.specs.Content.{isStart};
-ghost use Rattle.record.specs.Record.{field, ofKind, recordOf};
+ghost use Rattle.record.specs.Record.{field, ofKind, recordWidth, hasMark, recordOf};
 ghost use Rattle.sabre.specs.Lent.{status, answerNumbers};
 ghost use Rattle.record.specs.Play.{isBad, admitted, answerTo, areaWith, zeroList, listWith, nextProgress, playedOne, firstProgress};
 ghost use Rattle.record.specs.Text.{digits, decimal, wordText, orDash, headText, tailText, lineOf, fillNumbers, fillLine, fillLines, mostText, header};
@@ -32,8 +32,11 @@ pub struct Step {
     pub end: usize,
 }
 
-// How many bytes a record has.
-pub const WIDTH: usize = 12;
+// How many bytes a record has that begins with the mark C3 5A.
+pub const SHORT_WIDTH: usize = 12;
+
+// How many bytes a record has that begins with the mark C3 5B; none has more.
+pub const LONG_WIDTH: usize = 16;
 
 // The most bytes of a record's text.
 pub const MOST_TEXT: usize = 3135;
@@ -41,16 +44,16 @@ pub const MOST_TEXT: usize = 3135;
 // How many bytes the list has that a tick is lent.
 const LIST_LENGTH: usize = 256;
 
-fn wide(x: u8) -> u32
+fn wide(x: u8) -> u64
     ensures { λ r. ⌜ (r ≡ x) × (r < 256) ⌝ }
 {
-    x as u32
+    x as u64
 }
 
-// The number in up to four bytes from a place on, the most significant byte first.
-fn number_at(bytes: &[u8], at: usize, n: usize) -> u32
-    requires { ⌜ (n ≤ 4) × (at + n ≤ length (now bytes)) ⌝ }
-    ensures { λ r. ⌜ r ≡ field (now (bytes .entry)) at n ⌝ }
+// The number in up to eight bytes from a place on, the most significant byte first.
+fn number_at(bytes: &[u8], at: usize, n: usize) -> u64
+    requires { ⌜ (n ≤ 8) × (at + n ≤ length (now bytes)) ⌝ }
+    ensures { λ r. ⌜ (r ≡ field (now (bytes .entry)) at n) × (r < 256 ^ n) ⌝ }
 {
     let mut x = 0;
     for i in 0..n {
@@ -60,7 +63,7 @@ fn number_at(bytes: &[u8], at: usize, n: usize) -> u32
 }
 
 // The call of a kind.
-fn input_of(kind: u32, level: u32, number: u32, mode: u32, page: u32, value: u32) -> Input
+fn input_of(kind: u32, level: u32, number: u32, mode: u32, page: u32, value: u64) -> Input
     ensures { λ r. ⌜ r ≡ ofKind kind level number mode page value ⌝ }
 {
     match kind {
@@ -91,29 +94,55 @@ fn input_of(kind: u32, level: u32, number: u32, mode: u32, page: u32, value: u32
         9 => Input::Good(Call::Count { level }),
         10 => Input::Good(Call::Borders {
             first: page,
-            second: value / 65536,
-            third: value % 65536,
+            second: (value / 65536 % 65536) as u32,
+            third: (value % 65536) as u32,
         }),
         _ => Input::Bad,
     }
 }
 
-// The record in some bytes: bad if they are not as many as a record has, or the mark is another, or the kind.
+// How many bytes the record has that some bytes begin.
+pub fn record_width(bytes: &[u8]) -> usize
+    requires { ⌜ 2 ≤ length (now bytes) ⌝ }
+    ensures { λ r. ⌜ r ≡ recordWidth (now (bytes .entry)) ⌝ }
+{
+    if number_at(bytes, 0, 2) == 0xC35B {
+        return LONG_WIDTH;
+    }
+    SHORT_WIDTH
+}
+
+fn has_mark(bytes: &[u8]) -> bool
+    requires { ⌜ 2 ≤ length (now bytes) ⌝ }
+    ensures { λ r. ⌜ r ≡ hasMark (now (bytes .entry)) ⌝ }
+{
+    let mark = number_at(bytes, 0, 2);
+    if mark == 0xC35A {
+        return true;
+    }
+    mark == 0xC35B
+}
+
+// The record in some bytes: bad if they are not as many as the record has, or the mark is another, or the kind.
 pub fn read_record(bytes: &[u8]) -> Input
     ensures { λ r. ⌜ r ≡ recordOf (now (bytes .entry)) ⌝ }
 {
-    if bytes.len() != WIDTH {
+    if bytes.len() < SHORT_WIDTH {
         return Input::Bad;
     }
-    if number_at(bytes, 0, 2) != 0xC35A {
+    let width = record_width(bytes);
+    if bytes.len() != width {
         return Input::Bad;
     }
-    let kind = number_at(bytes, 2, 1);
-    let level = number_at(bytes, 3, 1);
-    let number = number_at(bytes, 4, 1);
-    let mode = number_at(bytes, 5, 1);
-    let page = number_at(bytes, 6, 2);
-    let value = number_at(bytes, 8, 4);
+    if !has_mark(bytes) {
+        return Input::Bad;
+    }
+    let kind = number_at(bytes, 2, 1) as u32;
+    let level = number_at(bytes, 3, 1) as u32;
+    let number = number_at(bytes, 4, 1) as u32;
+    let mode = number_at(bytes, 5, 1) as u32;
+    let page = number_at(bytes, 6, 2) as u32;
+    let value = number_at(bytes, 8, width - 8);
     input_of(kind, level, number, mode, page, value)
 }
 
@@ -240,11 +269,11 @@ fn fill_numbers(list: &[u8], at: usize) -> [u64; 4]
     requires { ⌜ at + 8 ≤ length (now list) ⌝ }
     ensures { λ r. ⌜ r ≡ fillNumbers (now (list .entry)) at ⌝ }
 {
-    let level = number_at(list, at, 1) as u64;
-    let row = number_at(list, at + 1, 1) as u64;
-    let slot = number_at(list, at + 2, 1) as u64;
+    let level = number_at(list, at, 1);
+    let row = number_at(list, at + 1, 1);
+    let slot = number_at(list, at + 2, 1);
     if number_at(list, at + 3, 1) == 2 {
-        let page = number_at(list, at + 6, 2) as u64;
+        let page = number_at(list, at + 6, 2);
         return [20, level * 8 + row, slot + 1, page + 1];
     }
     [20, level * 8 + row, slot + 1, 0]

@@ -90,15 +90,15 @@ isServers c = isStart c || isTick c || isBorders c
 abbrev pub isMadeUpTo : ℕ → Call → Bool
 isMadeUpTo L c = not (isServers c) && leb (fields c .level) L
 
--- each number of the call is an unsigned 32-bit number; its length may be any
+-- each number of the call is an unsigned 32-bit number, a delay and a deadline a 64-bit one; its length may be any
 pub record Fits (c : Call) : Type 0 where
   pub level : fields c .level < 2 ^ 32
   pub number : fields c .number < 2 ^ 32
   pub page : fields c .page < 2 ^ 32
   pub mode : fields c .mode < 2 ^ 32
   pub slots : fields c .slots < 2 ^ 32
-  pub delay : fields c .delay < 2 ^ 32
-  pub deadline : fields c .deadline < 2 ^ 32
+  pub delay : fields c .delay < 2 ^ 64
+  pub deadline : fields c .deadline < 2 ^ 64
   pub first : fields c .first < 2 ^ 32
   pub second : fields c .second < 2 ^ 32
   pub third : fields c .third < 2 ^ 32

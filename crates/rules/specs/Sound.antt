@@ -67,8 +67,7 @@ inTime s deadline = not (isPast (s .clock) deadline)
 -- a row: a free or killed one is zero but for its mark; a live row's deadline is at or above the clock;
 -- a fetching row pins one page whose arrival is its due tick, above the clock, and its other holdings have arrived;
 -- all holdings of an idle or waiting row have arrived; a waiting row's mode is allowed for its page.
--- A deadline is any number that its word names: that it is an unsigned 32-bit number is tested by no sentence here,
--- but follows where an area's bytes are exactly those of its state (`exact`, crates/area; `deadline-fits`, crates/demands)
+-- A deadline is any number that its word names, an unsigned 64-bit one (`deadline-fits`, crates/demands)
 abbrev pub soundCondition : State → ℕ → Condition → ℕ → Bool
 soundCondition s row Free deadline = eqb deadline 0
 soundCondition s row (Killed cause) deadline = eqb deadline 0

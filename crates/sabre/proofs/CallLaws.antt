@@ -7,7 +7,7 @@ use native.Mathlib.Omega.{arith}
 use borrow.Author.Tests.{lt-ltb, le-ltb, lt-leb, ne-eqb}
 use lib.Dec.{eqb, lit<}
 use lib.ListN.{length, drop, getD}
-use Rattle.seq.proofs.Tests.{true-false}
+use Rattle.seq.proofs.Tests.{true-false, or-none, or-true-right}
 use mir.Val.{Val}
 use denote.Laws.{Is}
 use Rattle.model.proofs.Answer as Answer'
@@ -44,6 +44,7 @@ use Rattle.model.specs.declared.Answer.the-variants.{
   Open,
   Bordered,
 }
+use Rattle.model.specs.Parties.{lastClock}
 use Rattle.model.specs.State.{fresh}
 use Rattle.model.specs.Inner.Changed.{changed, outcomeOf}
 use Rattle.rules.specs.Sound.{sound}
@@ -58,9 +59,9 @@ use Rattle.rules.proofs.Facts.SoundFacts.{Sound, facts}
 use Rattle.rules.proofs.Promises.Granting.{grant-fetch, grant-ready}
 use Rattle.rules.proofs.Promises.CallCases.{isServed}
 use Rattle.rules.proofs.Promises.WaitFetch.{granted-alone}
-use Rattle.area.specs.Layout.{encoded, decoded, exact}
-use Rattle.sabre.specs.Lent.{unfit, isRefused, answerOn, areaAfter, status, answerNumbers, soundArea}
-use Rattle.sabre.proofs.SoundAreas.{sound-area}
+use Rattle.area.specs.Layout.{encoded, decoded, versionIn, exactAs}
+use Rattle.sabre.specs.Lent.{unfit, isRefused, answerOn, areaAfter, status, answerNumbers, fitArea}
+use Rattle.sabre.proofs.SoundAreas.{fit-area}
 
 -- what is promised of a call that returns r, tells ns and leaves b
 pub record Promise (a : List ℕ) (c : Call) (r : ℕ) (ns b : List ℕ) : Type 0 where
@@ -73,10 +74,15 @@ module _ (a : List ℕ) (c : Call) where
   unfolding answerOn areaAfter word
   refused-1 r ns u e f = record { returned = rw u e; told = rw u f; left = rw u }
 
-  pub finished : (o : Outcome) (r : ℕ) (ns b : List ℕ) → unfit a c ≡ false → o ≡ outcome (decoded a) c
+  pub finished : isReading c ≡ false → (o : Outcome) (r : ℕ) (ns b : List ℕ) → unfit a c ≡ false → o ≡ outcome (decoded a) c
       → r ≡ status (o .answer) → ns ≡ answerNumbers (o .answer) → b ≡ cond (isRefused (o .answer)) a (encoded (o .state) ++ drop 65536 a) → Promise a c r ns b
   unfolding answerOn areaAfter
-  finished o r ns b u e p q t = record { returned = rw (u, ← e) p; told = rw (u, ← e) q; left = rw (u, ← e) t }
+  finished n o r ns b u e p q t = record { returned = rw (u, ← e) p; told = rw (u, ← e) q; left = rw (u, ← e, n, or-none (isRefused (o .answer))) t }
+
+  -- a call that reads leaves the area
+  pub read-left : isReading c ≡ true → a ≡ areaAfter a c
+  unfolding areaAfter
+  read-left e = rw (e, or-true-right (isRefused (answerOn a c)) true refl)
 
 -- which calls are no start: those of the other tags, and look, view and count
 pub not-start : (c : Call) → OneOf (1 ∷ 2 ∷ 3 ∷ 4 ∷ 5 ∷ 6 ∷ 7 ∷ 8 ∷ 9 ∷ []) (tagOf Call'.the-type c) → isStart c ≡ false
@@ -98,17 +104,17 @@ reading-no-start c = go (fields c .kind)
     go zero e = true-false (sym e)
     go (suc kind) e = ne-eqb (suc kind) 0 (λ s. omega (arith, s))
 
--- the area of such a call is unfit where it is not sound
-pub unfit-by : (a : List ℕ) (c : Call) (b : Bool) → isStart c ≡ false → soundArea a ≡ b → unfit a c ≡ not b
+-- the area of such a call is unfit where it is sound in neither layout
+pub unfit-by : (a : List ℕ) (c : Call) (b : Bool) → isStart c ≡ false → fitArea a ≡ b → unfit a c ≡ not b
 unfolding unfit
 unfit-by a c b n e = rw (n, e)
 
--- a sound area's state is small enough for the call
-pub sound-state : (a : List ℕ) (s : State) → s ≡ decoded a → soundArea a ≡ true → Sound s
-sound-state a s e h = facts s (ap sound e ∙ sound-area a h .sound-state)
+-- such an area's state is small enough for the call
+pub sound-state : (a : List ℕ) (s : State) → s ≡ decoded a → fitArea a ≡ true → Sound s
+sound-state a s e h = facts s (ap sound e ∙ fit-area a h .sound-state)
 
-pub fits-clock : (s : State) → Sound s → (s .size ≤ 64) × (s .clock + s .delay < 2 ^ 32)
-fits-clock s z = (z .size-most, let b : 4000000255 < 2 ^ 32 = lit< tt in omega (arith, z .clock-most, z .delay-most))
+pub fits-clock : (s : State) → Sound s → (s .size ≤ 64) × (s .clock + s .delay < 2 ^ 64)
+fits-clock s z = (z .size-most, let b : lastClock + 255 < 2 ^ 64 = lit< tt in omega (arith, z .clock-most, z .delay-most))
 
 -- a slot that is told is below 64
 pub fits-slot : (s : State) → sound s ≡ true → (c : Call) → slotTold (outcome s c .answer) ≤ 64
@@ -213,13 +219,13 @@ module _ (x : Answer) (a b : List ℕ) (n : ℕ) (e : n ≡ word x) where
 
 -- the call on the state that decode gives
 module _ (a : List ℕ) (c : Call) (s : State) (e : s ≡ decoded a) where
-  pub answered-slot : (x : Answer) → soundArea a ≡ true → x ≡ outcome s c .answer → slotTold x ≤ 64
-  answered-slot x h f = rw f (fits-slot s (ap sound e ∙ sound-area a h .sound-state) c)
+  pub answered-slot : (x : Answer) → fitArea a ≡ true → x ≡ outcome s c .answer → slotTold x ≤ 64
+  answered-slot x h f = rw f (fits-slot s (ap sound e ∙ fit-area a h .sound-state) c)
 
   -- a reply for which the area is exact and its slot is below 64
-  pub replied : (x : Reply) → soundArea a ≡ true → outcomeOf s x ≡ outcome s c → (exact a ≡ true) × (slotTold (x .answer) ≤ 64)
+  pub replied : (x : Reply) → fitArea a ≡ true → outcomeOf s x ≡ outcome s c → (exactAs (versionIn a) a ≡ true) × (slotTold (x .answer) ≤ 64)
   unfolding outcomeOf
-  replied x h f = (sound-area a h .exactly, answered-slot (x .answer) h (ap (λ (o : Outcome). o .answer) f))
+  replied x h f = (fit-area a h .exactly, answered-slot (x .answer) h (ap (λ (o : Outcome). o .answer) f))
 
   -- a call that only answers
   pub answered : (x : Answer) (r : ℕ) (ns : List ℕ) → unfit a c ≡ false → x ≡ outcome s c .answer → r ≡ status x → ns ≡ answerNumbers x
@@ -230,19 +236,24 @@ module _ (a : List ℕ) (c : Call) (s : State) (e : s ≡ decoded a) where
       (rw (u, ← g) p, rw (u, ← g) q)
 
   -- a call that answers what it changes
-  pub amended : (x : Reply) (r : ℕ) (ns b : List ℕ) → unfit a c ≡ false → outcomeOf s x ≡ outcome s c → r ≡ status (x .answer) → ns ≡ answerNumbers (x .answer)
+  pub amended : isReading c ≡ false → (x : Reply) (r : ℕ) (ns b : List ℕ) → unfit a c ≡ false → outcomeOf s x ≡ outcome s c → r ≡ status (x .answer) → ns ≡ answerNumbers (x .answer)
       → b ≡ cond (isRefused (x .answer)) a (encoded (changed (decoded a) (x .change)) ++ drop 65536 a) → Promise a c r ns b
   unfolding outcomeOf
-  amended x r ns b u f p q t =
-      finished a c (outcomeOf (decoded a) x) r ns b u (ap (λ (t : State). outcomeOf t x) (sym e) ∙ f ∙ ap (λ (t : State). outcome t c) e) p q t
+  amended n x r ns b u f p q t =
+      finished a c n (outcomeOf (decoded a) x) r ns b u (ap (λ (t : State). outcomeOf t x) (sym e) ∙ f ∙ ap (λ (t : State). outcome t c) e) p q t
+
+-- a fresh state is the one of its own numbers
+pub fresh-again : (s : State) (slots delay : ℕ) → s ≡ fresh slots delay → s ≡ fresh (s .size) (s .delay)
+unfolding fresh
+fresh-again s slots delay e = rw e
 
 -- a start that is refused by its numbers, and one that is accepted
 module _ (a : List ℕ) (slots delay r : ℕ) (ns b : List ℕ) (l : 65536 ≤ length a) where
   pub start-refused : (n : ℕ) → n ≡ startRefusal slots delay → (n ≡ 0 → ⊥) → r ≡ status (Refused n) → ns ≡ answerNumbers (Refused n) → b ≡ a → Promise a (Start slots delay) r ns b
   unfolding unfit outcome started status word value
   start-refused zero e k p q t = absurd (k refl)
-  start-refused (suc n) e k p q t = finished a (Start slots delay) (record { state = decoded a; answer = Refused (suc n) }) r ns b (le-ltb (length a) 65536 l) (rw (← e)) p q t
+  start-refused (suc n) e k p q t = finished a (Start slots delay) refl (record { state = decoded a; answer = Refused (suc n) }) r ns b (le-ltb (length a) 65536 l) (rw (← e)) p q t
 
   pub start-accepted : (n : ℕ) → n ≡ startRefusal slots delay → n ≡ 0 → r ≡ status Started → ns ≡ answerNumbers Started → b ≡ encoded (fresh slots delay) ++ drop 65536 a → Promise a (Start slots delay) r ns b
   unfolding unfit outcome started status word value
-  start-accepted n e k p q t = finished a (Start slots delay) (record { state = fresh slots delay; answer = Started }) r ns b (le-ltb (length a) 65536 l) (rw (← e, k)) p q t
+  start-accepted n e k p q t = finished a (Start slots delay) refl (record { state = fresh slots delay; answer = Started }) r ns b (le-ltb (length a) 65536 l) (rw (← e, k)) p q t

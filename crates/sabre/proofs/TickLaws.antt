@@ -104,10 +104,10 @@ module _ (s : State) (z : sound s ≡ true) (room : ℕ) (x : Reply)
       go : (n : ℕ) → tickRefusal s room ≡ n → x .answer ≡ unless n s (record { state = threeSteps s; answer = Clock (s .clock + 1) }) .answer
           → changed s (x .change) ≡ unless n s (record { state = threeSteps s; answer = Clock (s .clock + 1) }) .state → Promise a (Tick room) r ns b × (m ≡ listAfter a (Tick room) l)
       go zero k y w = (
-        finished a (Tick room) (after 0) r ns b u (rw (← f, k)) (rw y at p) (rw y at q) (rw (y, w) at t),
+        finished a (Tick room) refl (after 0) r ns b u (rw (← f, k)) (rw y at p) (rw y at q) (rw (y, w) at t),
         rw (u, ← f, k) (rw (y, w) at v),
       )
       go (suc n) k y w = (
-        finished a (Tick room) (after (suc n)) r ns b u (rw (← f, k)) (rw y at p) (rw y at q) (rw y at t),
+        finished a (Tick room) refl (after (suc n)) r ns b u (rw (← f, k)) (rw y at p) (rw y at q) (rw y at t),
         rw (u, ← f, k) (rw y at v),
       )

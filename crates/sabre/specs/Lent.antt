@@ -1,5 +1,5 @@
 -- Demands 1 and 2 over the bytes of a lent area: what each exported call answers, the area that it leaves, and the list that a tick leaves.
-use mathlib.Core.Bool.{Bool, cond, not, _&&_}
+use mathlib.Core.Bool.{Bool, cond, not, _&&_, _||_}
 use mathlib.Core.List.{List, [], _∷_, _++_}
 use Prim.Native.Nat.{ℕ}
 use lib.Dec.{eqb, leb, ltb}
@@ -7,20 +7,25 @@ use lib.ListN.{length, drop}
 use Rattle.model.specs.declared.Answer.{Answer}
 use Rattle.model.specs.declared.Answer.the-variants.{Refused}
 use Rattle.rules.specs.Sound.{sound}
-use Rattle.rules.specs.Content.{isStart}
+use Rattle.rules.specs.Content.{isStart, isReading}
 use Rattle.rules.specs.Answers.{word, value, slotTold, backTold, isClock}
 use Rattle.model.specs.declared.Call.{Call}
 use Rattle.rules.specs.Run.{outcome, fillsOf}
 use Rattle.rules.specs.Tries.{listBytes}
 use Rattle.area.specs.Layout.{encoded, decoded, exact}
+use Rattle.layout32.specs.Sound32.{soundArea32}
 
 -- an area is sound if it is long enough, its first 65,536 bytes are exactly those of the state that they name, and that state is sound
 unfoldable pub soundArea : List ℕ → Bool
 soundArea a = leb 65536 (length a) && (exact a && sound (decoded a))
 
--- refusal 1: the area is under 65,536 bytes, or (not for start) unsound
+-- a call other than start takes a sound area, and a sound area of the last 32-bit layout
+unfoldable pub fitArea : List ℕ → Bool
+fitArea a = soundArea a || soundArea32 a
+
+-- refusal 1: the area is under 65,536 bytes, or (not for start) sound in neither of the two layouts
 unfoldable pub unfit : List ℕ → Call → Bool
-unfit a c = cond (isStart c) (ltb (length a) 65536) (not (soundArea a))
+unfit a c = cond (isStart c) (ltb (length a) 65536) (not (fitArea a))
 
 -- the answer of a call on an area
 unfoldable pub answerOn : List ℕ → Call → Answer
@@ -29,9 +34,10 @@ answerOn a c = cond (unfit a c) (Refused 1) (outcome (decoded a) c .answer)
 abbrev pub isRefused : Answer → Bool
 isRefused x = eqb (word x) 0
 
--- the area that a call leaves: after a refusal every byte as before; else the bytes of the next state, and those past 65,536 as before
+-- the area that a call leaves: after a refusal, and after a look, a view or a count, every byte as before; else the bytes of the next state, and those past 65,536
+-- as before
 unfoldable pub areaAfter : List ℕ → Call → List ℕ
-areaAfter a c = cond (isRefused (answerOn a c)) a (encoded (outcome (decoded a) c .state) ++ drop 65536 a)
+areaAfter a c = cond (isRefused (answerOn a c) || isReading c) a (encoded (outcome (decoded a) c .state) ++ drop 65536 a)
 
 -- the list that a call leaves: an accepted tick writes its first 256 bytes; any other call, and a refused tick, leaves every byte
 unfoldable pub listAfter : List ℕ → Call → List ℕ → List ℕ

@@ -1,5 +1,6 @@
 // The exported calls. Each makes its call by `make`: the lent area is read, the call made on the state by value, and what it changes written over the
-// area. Look, view and count, which change nothing, go by `ask`, a start, which takes any bytes, by `start`, and a tick, which is lent a list too, by `tick`.
+// area. Look, view and count, which change nothing, go by `ask`, a start, which takes any bytes, by `start`, and a tick, which is lent a list too, by
+// `tick`.
 use model::Answer;
 use model::Back;
 use model::Call;
@@ -19,7 +20,8 @@ ghost use Rattle.rules.specs.Answers.{causeWord, pageBack, slotTold};
 ghost use Rattle.model.specs.declared.Answer.the-variants.{Refused};
 ghost use Rattle.model.specs.declared.Call.the-variants.{Start, Begin, Request, Unpin, End, Tick, Look, View, Count, Borders};
 ghost use Rattle.model.specs.Inner.Changed.{changed, LeavesSetting};
-ghost use Rattle.area.specs.Layout.{encoded, decoded, exact};
+ghost use Rattle.area.specs.Layout.{encoded, decoded, versionIn, exactAs};
+ghost use Rattle.layout32.specs.Inner.Known.{known};
 ghost use Rattle.sabre.specs.Lent.{isRefused, answerOn, areaAfter, listAfter, status, answerNumbers};
 
 fn cause_word(cause: Cause) -> u64
@@ -55,25 +57,25 @@ fn answer_numbers(x: Answer) -> [u64; 4]
         }
         Answer::Fetch { due, slot, back } => {
             let page = back_number(back);
-            [4, due as u64, slot as u64 + 1, page]
+            [4, due, slot as u64 + 1, page]
         }
         Answer::Wait => [5, 0, 0, 0],
         Answer::Unpinned => [6, 0, 0, 0],
         Answer::Ended => [7, 0, 0, 0],
-        Answer::Clock(clock) => [8, clock as u64, 0, 0],
+        Answer::Clock(clock) => [8, clock, 0, 0],
         Answer::RowFree => [9, 0, 0, 0],
         Answer::RowIdle => [10, 0, 0, 0],
-        Answer::RowFetching(due) => [4, due as u64, 0, 0],
+        Answer::RowFetching(due) => [4, due, 0, 0],
         Answer::RowWaiting => [5, 0, 0, 0],
         Answer::RowKilled(cause) => {
             let word = cause_word(cause);
             [word, 0, 0, 0]
         }
         Answer::PageUnseen => [13, 0, 0, 0],
-        Answer::PageActive(arrival) => [14, arrival as u64, 0, 0],
-        Answer::PageRead(arrival) => [15, arrival as u64, 0, 0],
-        Answer::PageWrite(arrival) => [16, arrival as u64, 0, 0],
-        Answer::PageDormant(arrival) => [17, arrival as u64, 0, 0],
+        Answer::PageActive(arrival) => [14, arrival, 0, 0],
+        Answer::PageRead(arrival) => [15, arrival, 0, 0],
+        Answer::PageWrite(arrival) => [16, arrival, 0, 0],
+        Answer::PageDormant(arrival) => [17, arrival, 0, 0],
         Answer::Open(count) => [18, count as u64, 0, 0],
         Answer::Bordered => [19, 0, 0, 0],
     }
@@ -99,19 +101,23 @@ fn refuse(answer: &mut [u64; 4]) -> u32
     tell(answer, Answer::Refused(1))
 }
 
-// Whether an area of at least 65,536 bytes is sound: its bytes are exactly those of the state that it names, and that state is sound.
-fn is_area_sound(exact: bool, s: State) -> bool
-    ensures { λ r. ⌜ r ≡ exact && sound s ⌝ }
+// Whether an area of at least 65,536 bytes is sound, or was in the last 32-bit layout: its bytes are exactly those of the state that it names, its version
+// is known, and that state is sound.
+fn is_area_sound(area: &[u8], exact: bool, s: State) -> bool
+    requires { ⌜ (65536 ≤ length (now area)) × (s ≡ decoded (now area)) ⌝ }
+    ensures { λ r. ⌜ r ≡ exact && known (versionIn (now (area .entry))) (s .clock) (s .rows) && sound s ⌝ }
 {
-    if exact {
-        return sound::is_sound(s);
+    let version = area::version_of(area);
+    let rows = s.rows;
+    if seq::both(exact, layout32::is_known(version, s.clock, rows)) {
+        return sound::is_sound(area, s);
     }
     false
 }
 
 // The answer told and, where the call is accepted, what it changes written over the area.
 fn finish(area: &mut [u8], answer: &mut [u64; 4], r: Reply) -> u32
-    requires { ⌜ (exact (now area) ≡ true) × (slotTold (r .answer) ≤ 64) ⌝ }
+    requires { ⌜ (exactAs (versionIn (now area)) (now area) ≡ true) × (slotTold (r .answer) ≤ 64) ⌝ }
     ensures { λ n. ⌜ (n ≡ status (r .answer)) × (now (answer .exit) ≡ answerNumbers (r .answer)) × (now (area .exit) ≡ cond (isRefused (r .answer)) (now (area .entry)) (encoded (changed (decoded (now (area .entry))) (r .change)) ++ drop 65536 (now (area .entry)))) ⌝ }
 {
     let x = r.answer;
@@ -125,7 +131,7 @@ fn finish(area: &mut [u8], answer: &mut [u64; 4], r: Reply) -> u32
 }
 
 // A fresh start on any area of at least 65,536 bytes.
-fn start(area: &mut [u8], slots: u32, delay: u32, answer: &mut [u64; 4]) -> u32
+fn start(area: &mut [u8], slots: u32, delay: u64, answer: &mut [u64; 4]) -> u32
     ensures returned { λ r. ⌜ r ≡ status (answerOn (now (area .entry)) (Start slots delay)) ⌝ }
     ensures told { λ _. ⌜ now (answer .exit) ≡ answerNumbers (answerOn (now (area .entry)) (Start slots delay)) ⌝ }
     ensures left { λ _. ⌜ now (area .exit) ≡ areaAfter (now (area .entry)) (Start slots delay) ⌝ }
@@ -138,14 +144,14 @@ fn start(area: &mut [u8], slots: u32, delay: u32, answer: &mut [u64; 4]) -> u32
         return tell(answer, Answer::Refused(number));
     }
     let s = model::fresh_state(slots as usize, delay);
-    area::encode(area, s);
+    area::encode_fresh(area, s);
     tell(answer, Answer::Started)
 }
 
 // What the steps of a tick change is done, and each waiting row is tried: the next state written over the area, and what was filled over the list.
 // Where no row waits only the change is written.
 fn fill(area: &mut [u8], list: &mut [u8], s: State, c: Change)
-    requires { ⌜ (exact (now area) ≡ true) × (s ≡ decoded (now area)) × (sound (changed s c) ≡ true) × (256 ≤ length (now list)) × LeavesSetting s c ⌝ }
+    requires { ⌜ (exactAs (versionIn (now area)) (now area) ≡ true) × (s ≡ decoded (now area)) × (sound (changed s c) ≡ true) × (256 ≤ length (now list)) × LeavesSetting s c ⌝ }
     ensures { λ _. ⌜ (now (area .exit) ≡ encoded (allTried (changed s c) .state) ++ drop 65536 (now (area .entry)))
         × (now (list .exit) ≡ listBytes (allTried (changed s c) .fills) ++ drop 256 (now (list .entry))) ⌝ }
 {
@@ -164,7 +170,7 @@ fn fill(area: &mut [u8], list: &mut [u8], s: State, c: Change)
 
 // The answer of a tick told and, where it is accepted, its steps and its tries done.
 fn finish_tick(area: &mut [u8], list: &mut [u8], answer: &mut [u64; 4], s: State, r: Reply) -> u32
-    requires { ⌜ (exact (now area) ≡ true) × (s ≡ decoded (now area)) × (slotTold (r .answer) ≤ 64)
+    requires { ⌜ (exactAs (versionIn (now area)) (now area) ≡ true) × (s ≡ decoded (now area)) × (slotTold (r .answer) ≤ 64)
         × (isRefused (r .answer) ≡ false → (sound (changed s (r .change)) ≡ true) × (256 ≤ length (now list)) × LeavesSetting s (r .change)) ⌝ }
     ensures { λ n. ⌜ (n ≡ status (r .answer)) × (now (answer .exit) ≡ answerNumbers (r .answer))
         × (now (area .exit) ≡ cond (isRefused (r .answer)) (now (area .entry)) (encoded (allTried (changed s (r .change)) .state) ++ drop 65536 (now (area .entry))))
@@ -194,7 +200,7 @@ pub fn tick(area: &mut [u8], list: &mut [u8], room: usize, answer: &mut [u64; 4]
     }
     let mut exact = false;
     let s = area::decode(area, &mut exact);
-    if is_area_sound(exact, s) {
+    if is_area_sound(area, exact, s) {
         let r = calls::tick(s, room);
         return finish_tick(area, list, answer, s, r);
     }
@@ -211,12 +217,15 @@ pub fn make(area: &mut [u8], c: Call, answer: &mut [u64; 4]) -> u32
     if let Call::Start { slots, delay } = c {
         return start(area, slots, delay, answer);
     }
+    if calls::is_reading(c) {
+        return ask(area, c, answer);
+    }
     if area.len() < 65536 {
         return refuse(answer);
     }
     let mut exact = false;
     let s = area::decode(area, &mut exact);
-    if is_area_sound(exact, s) {
+    if is_area_sound(area, exact, s) {
         let r = calls::make(s, c);
         return finish(area, answer, r);
     }
@@ -234,7 +243,7 @@ fn ask(area: &[u8], c: Call, answer: &mut [u64; 4]) -> u32
     }
     let mut exact = false;
     let s = area::decode(area, &mut exact);
-    if is_area_sound(exact, s) {
+    if is_area_sound(area, exact, s) {
         let x = calls::ask(s, c);
         return tell(answer, x);
     }
@@ -242,7 +251,7 @@ fn ask(area: &[u8], c: Call, answer: &mut [u64; 4]) -> u32
 }
 
 #[no_mangle]
-pub extern "C" fn sabre_start(area: &mut [u8], slots: u32, delay: u32, answer: &mut [u64; 4]) -> u32
+pub extern "C" fn sabre_start(area: &mut [u8], slots: u32, delay: u64, answer: &mut [u64; 4]) -> u32
     ensures returned { λ r. ⌜ r ≡ status (answerOn (now (area .entry)) (Start slots delay)) ⌝ }
     ensures told { λ _. ⌜ now (answer .exit) ≡ answerNumbers (answerOn (now (area .entry)) (Start slots delay)) ⌝ }
     ensures left { λ _. ⌜ now (area .exit) ≡ areaAfter (now (area .entry)) (Start slots delay) ⌝ }
@@ -255,7 +264,7 @@ pub extern "C" fn sabre_begin(
     area: &mut [u8],
     level: u32,
     row: u32,
-    deadline: u32,
+    deadline: u64,
     answer: &mut [u64; 4],
 ) -> u32
     ensures returned { λ r. ⌜ r ≡ status (answerOn (now (area .entry)) (Begin level row deadline)) ⌝ }

@@ -17,17 +17,18 @@ use model::State;
 use seq::Found;
 ghost use mathlib.Core.Path.{_≡_};
 ghost use Prim.Native.Nat.{_+_, _<_, _≤_, _^_, min};
-ghost use lib.ListN.{getD};
-ghost use Rattle.model.specs.State.{emptySlot};
+ghost use lib.ListN.{getD, replicate};
+ghost use Rattle.model.specs.State.{emptySlot, emptyHolding};
 ghost use Rattle.model.specs.Words.{arrivalIn};
 ghost use Rattle.model.specs.Parties.{levelOf};
 ghost use Rattle.model.specs.Inner.Changed.{outcomeOf};
+ghost use Rattle.rules.specs.Choice.{orElse, chosen};
 ghost use Rattle.rules.specs.Calls.{writeBack, served};
 ghost use Rattle.serve.specs.Inner.SlotHoldings.{holdingsOn, seenTest, seenIn, lesser, leastIn, seesDormantIn, killTest, marksOf, mustWaitIn};
 ghost use Rattle.serve.specs.Inner.Granted.{heldNow, filledSlot, touchedSlot, grantedRow, grantedAnswer};
-ghost use Rattle.serve.specs.Inner.Replies.{waitReply, planned, rowsTaken, slotFilled, granting};
+ghost use Rattle.serve.specs.Inner.Replies.{waitReply, planned, plannedFor, rowsTaken, slotFilled, granting, settled};
 
-pub fn arrival_in(c: Content) -> u32
+pub fn arrival_in(c: Content) -> u64
     ensures { λ r. ⌜ r ≡ arrivalIn c ⌝ }
 {
     match c {
@@ -51,7 +52,7 @@ pub fn is_seen(level: usize, row: usize, h: Holding) -> bool
 }
 
 // The least arrival so far, with one holding more where it passes.
-fn lesser_arrival(passes: bool, arrival: u32, found: bool, least: u32) -> u32
+fn lesser_arrival(passes: bool, arrival: u64, found: bool, least: u64) -> u64
     ensures { λ r. ⌜ r ≡ lesser passes arrival found least ⌝ }
 {
     if passes {
@@ -98,11 +99,11 @@ pub fn see(held: [Holding; 32], level: usize) -> bool
 }
 
 // The least arrival among the holdings that the level sees.
-pub fn least_arrival(held: [Holding; 32], level: usize) -> u32
+pub fn least_arrival(held: [Holding; 32], level: usize) -> u64
     ensures { λ r. ⌜ r ≡ leastIn held level ⌝ }
 {
     let mut found = false;
-    let mut least: u32 = 0;
+    let mut least: u64 = 0;
     for r in 0..32usize {
         let h = held[r];
         let t = is_seen(level, r, h);
@@ -176,7 +177,7 @@ fn must_wait(marks: [bool; 32], ranks: [Rank; 32], row: usize) -> bool
 }
 
 // Step 4: a row's own holding keeps its arrival and the stronger pin.
-fn hold(own: Holding, mode: Mode, arrival: u32, clock: u32) -> Holding
+fn hold(own: Holding, mode: Mode, arrival: u64, clock: u64) -> Holding
     ensures { λ r. ⌜ r ≡ heldNow own mode arrival clock ⌝ }
 {
     let p = own.pin;
@@ -206,7 +207,7 @@ fn lower(level: usize, other: usize) -> usize
 }
 
 // The slot's lowest level and latest touch.
-fn touch_slot(x: Slot, level: usize, clock: u32) -> Slot
+fn touch_slot(x: Slot, level: usize, clock: u64) -> Slot
     ensures { λ r. ⌜ r ≡ touchedSlot x level clock ⌝ }
 {
     let c = x.content;
@@ -238,7 +239,7 @@ fn touch_slot(x: Slot, level: usize, clock: u32) -> Slot
 }
 
 // Idle, if arrival ≤ clock, else fetching until then.
-fn grant_row(x: Row, arrival: u32, clock: u32) -> Row
+fn grant_row(x: Row, arrival: u64, clock: u64) -> Row
     ensures { λ r. ⌜ r ≡ grantedRow x arrival clock ⌝ }
 {
     if arrival <= clock {
@@ -254,7 +255,7 @@ fn grant_row(x: Row, arrival: u32, clock: u32) -> Row
 }
 
 // Ready, if arrival ≤ clock, else fetch.
-fn grant_answer(slot: usize, arrival: u32, clock: u32, back: Back) -> Answer
+fn grant_answer(slot: usize, arrival: u64, clock: u64, back: Back) -> Answer
     ensures { λ r. ⌜ r ≡ grantedAnswer slot arrival clock back ⌝ }
 {
     if arrival <= clock {
@@ -268,7 +269,7 @@ fn grant_answer(slot: usize, arrival: u32, clock: u32, back: Back) -> Answer
 }
 
 // Step 4 on what the steps before it make of the state: the holding, the slot and the row of a request that is granted, and its answer.
-fn grant(c: Change, row: usize, mode: Mode, arrival: u32, back: Back) -> Reply
+fn grant(c: Change, row: usize, mode: Mode, arrival: u64, back: Back) -> Reply
     requires { ⌜ (c .slot < 64) × (row < 32) ⌝ }
     ensures { λ r. ⌜ r ≡ granting c row mode arrival back ⌝ }
 {
@@ -302,7 +303,7 @@ fn grant(c: Change, row: usize, mode: Mode, arrival: u32, back: Back) -> Reply
 }
 
 // A wait alters only the row's own condition.
-fn wait(clock: u32, rows: [Row; 32], slots: [Slot; 64], row: usize, page: u32, mode: Mode) -> Reply
+fn wait(clock: u64, rows: [Row; 32], slots: [Slot; 64], row: usize, page: u32, mode: Mode) -> Reply
     requires { ⌜ row < 32 ⌝ }
     ensures { λ r. ⌜ r ≡ waitReply clock rows slots row page mode ⌝ }
 {
@@ -320,7 +321,7 @@ fn wait(clock: u32, rows: [Row; 32], slots: [Slot; 64], row: usize, page: u32, m
 }
 
 // A slot newly given to a page.
-fn fill(page: u32, arrival: u32, level: usize, clock: u32) -> Slot
+fn fill(page: u32, arrival: u64, level: usize, clock: u64) -> Slot
     ensures { λ r. ⌜ r ≡ filledSlot page arrival level clock ⌝ }
 {
     Slot {
@@ -361,7 +362,7 @@ fn write_back(x: Slot) -> Back
 struct Plan {
     wait: bool,
     marks: [bool; 32],
-    arrival: u32,
+    arrival: u64,
 }
 
 // Step 1, page seen through a holding; step 2, level 3, dormant page; step 3, not seen.
@@ -372,7 +373,7 @@ fn plan_steps(
     x: Slot,
     row: usize,
     mode: Mode,
-    due: u32,
+    due: u64,
 ) -> Plan
     requires { ⌜ row < 32 ⌝ }
     ensures { λ r. ⌜ r ≡ planned held rows places x row mode due ⌝ }
@@ -428,7 +429,7 @@ fn take_rows(c: Change) -> Change
 }
 
 // The holders of the slot lose it, and it is given to the page.
-fn fill_slot(c: Change, page: u32, due: u32, level: usize) -> Change
+fn fill_slot(c: Change, page: u32, due: u64, level: usize) -> Change
     requires { ⌜ c .slot < 64 ⌝ }
     ensures { λ r. ⌜ r ≡ slotFilled c page due level ⌝ }
 {
@@ -455,7 +456,7 @@ fn fill_slot(c: Change, page: u32, due: u32, level: usize) -> Change
 }
 
 // Step 3, not seen, in a chosen slot: rows that pin it are killed, other holders lose it, and it is given to the page, which is due at a tick.
-fn into_slot(c: Change, row: usize, page: u32, mode: Mode, due: u32) -> Reply
+fn into_slot(c: Change, row: usize, page: u32, mode: Mode, due: u64) -> Reply
     requires { ⌜ (c .slot < 64) × (row < 32) ⌝ }
     ensures { λ r. ⌜ r ≡ granting (slotFilled (rowsTaken c) page due (levelOf row)) row mode due (writeBack (getD (c .slots) (c .slot) emptySlot)) ⌝ }
 {
@@ -468,45 +469,95 @@ fn into_slot(c: Change, row: usize, page: u32, mode: Mode, due: u32) -> Reply
     grant(filled, row, mode, due, back)
 }
 
-// The request of a row for a page: the search for the page, and steps 1 to 4.
+// The slot that has the page or, where none has it, the slot that is chosen.
+fn aim(s: State, row: usize, found: Found) -> Found
+    requires { ⌜ (s .size ≤ 64) × (row < 32) ⌝ }
+    ensures { λ r. ⌜ r ≡ orElse found (chosen s row) ⌝ }
+{
+    let Found::At(slot) = found else {
+        return choice::choose(s, row);
+    };
+    Found::At(slot)
+}
+
+// Steps 1 to 3, by where the page was found: in a chosen slot the rows that pin it are killed.
+fn plan_for(
+    found: Found,
+    held: [Holding; 32],
+    rows: [Row; 32],
+    places: [usize; 32],
+    x: Slot,
+    row: usize,
+    mode: Mode,
+    due: u64,
+) -> Plan
+    requires { ⌜ row < 32 ⌝ }
+    ensures { λ r. ⌜ r ≡ plannedFor found held rows places x row mode due ⌝ }
+{
+    match found {
+        Found::Nowhere => {
+            let marks = mark_rows(held, Kills::Pinning);
+            Plan {
+                wait: false,
+                marks,
+                arrival: due,
+            }
+        }
+        Found::At(_) => plan_steps(held, rows, places, x, row, mode, due),
+    }
+}
+
+// The reply of a request that does not wait, by where the page was found.
+fn settle(found: Found, c: Change, row: usize, page: u32, mode: Mode, arrival: u64) -> Reply
+    requires { ⌜ (c .slot < 64) × (row < 32) ⌝ }
+    ensures { λ r. ⌜ r ≡ settled found c row page mode arrival ⌝ }
+{
+    match found {
+        Found::Nowhere => into_slot(c, row, page, mode, arrival),
+        Found::At(_) => {
+            let taken = take_rows(c);
+            grant(taken, row, mode, arrival, Back::Nothing)
+        }
+    }
+}
+
+fn no_held() -> [Holding; 32]
+    ensures { λ r. ⌜ r ≡ replicate 32 emptyHolding ⌝ }
+{
+    [Holding {
+        pin: Pin::Absent,
+        arrival: 0,
+        touch: 0,
+    }; 32]
+}
+
+// The request of a row for a page: the search for the page, and steps 1 to 4. The slot's holdings are read here, not by holdings_on, since a function
+// that takes the state copies it; and the search stands first, since the compiler makes more copies where it stands after the numbers.
 pub fn serve(s: State, row: usize, page: u32, mode: Mode) -> Reply
-    requires { ⌜ (s .size ≤ 64) × (row < 32) × (s .clock + s .delay < 2 ^ 32) ⌝ }
+    requires { ⌜ (s .size ≤ 64) × (row < 32) × (s .clock + s .delay < 2 ^ 64) ⌝ }
     ensures { λ r. ⌜ outcomeOf s r ≡ served s row page mode ⌝ }
 {
-    let clock = s.clock;
-    let due = s.clock + s.delay;
     let size = s.size;
-    let rows = s.rows;
     let slots = s.slots;
-    let Found::At(slot) = choice::find_page(slots, size, page) else {
-        let Found::At(chosen) = choice::choose(s, row) else {
-            let same = s.slots;
-            return wait(clock, rows, same, row, page, mode);
-        };
-        let held = holdings_on(s, chosen);
-        let gone = mark_rows(held, Kills::Pinning);
-        let left = model::released_slots(s, clock, gone);
-        let c = Change {
-            clock,
-            rows,
-            slots: left,
-            gone,
-            slot: chosen,
-            held,
-            setting: Setting::Left,
-        };
-        return into_slot(c, row, page, mode, due);
+    let found = choice::find_page(slots, size, page);
+    let clock = s.clock;
+    let rows = s.rows;
+    let due = s.clock + s.delay;
+    let Found::At(slot) = aim(s, row, found) else {
+        return wait(clock, rows, slots, row, page, mode);
     };
-    let held = holdings_on(s, slot);
-    let x = s.slots[slot];
+    let mut held = no_held();
+    for r in 0..32usize {
+        let h = s.holdings[slot * 32 + r];
+        held[r] = h;
+    }
+    let x = slots[slot];
     let places = s.places;
-    let p = plan_steps(held, rows, places, x, row, mode, due);
+    let p = plan_for(found, held, rows, places, x, row, mode, due);
     if p.wait {
-        let same = s.slots;
-        return wait(clock, rows, same, row, page, mode);
+        return wait(clock, rows, slots, row, page, mode);
     }
     let gone = p.marks;
-    let arrival = p.arrival;
     let left = model::released_slots(s, clock, gone);
     let c = Change {
         clock,
@@ -517,6 +568,5 @@ pub fn serve(s: State, row: usize, page: u32, mode: Mode) -> Reply
         held,
         setting: Setting::Left,
     };
-    let taken = take_rows(c);
-    grant(taken, row, mode, arrival, Back::Nothing)
+    settle(found, c, row, page, mode, p.arrival)
 }

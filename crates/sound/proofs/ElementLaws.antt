@@ -2,23 +2,24 @@
 use mathlib.Core.Path.{_≡_, refl, sym, _∙_, ap}
 use mathlib.Core.Bool.{Bool, true, false, cond, _&&_, _||_, not}
 use mathlib.Core.List.{List}
-use Prim.Native.Nat.{ℕ, _+_, _<_}
+use Prim.Native.Nat.{ℕ, _+_, _<_, _^_}
 use native.Mathlib.Omega.{arith}
-use lib.Dec.{leb, ltb, eqb}
+use lib.Dec.{leb, ltb, eqb, lit<}
 use lib.ListN.{getD}
 use borrow.Author.Tests.{leb-true, ltb-true, ne-eqb}
 use Rattle.seq.specs.Below.{allBelow, countBelow}
-use Rattle.seq.proofs.Tests.{or-true-right, and-false-right}
-use Rattle.seq.proofs.BelowLaws.{all-each, each-all, count-none}
+use Rattle.seq.proofs.Tests.{true-false, or-true-right, and-false-right, and-left, and-right}
+use Rattle.seq.proofs.BelowLaws.{all-each, each-all, all-same, count-none}
 use Rattle.model.specs.declared.Condition.{Condition}
 use Rattle.model.specs.declared.Condition.the-variants.{Free, Idle, Fetching, Waiting, Killed}
 use Rattle.model.specs.declared.Content.{Content}
 use Rattle.model.specs.declared.Content.the-variants.{Empty, Filled}
+use Rattle.model.specs.declared.Holding.{Holding}
 use Rattle.model.specs.declared.Row.{Row}
 use Rattle.model.specs.declared.State.{State}
-use Rattle.model.specs.Parties.{rowOf, levelOf, classOf, isPast}
-use Rattle.model.specs.State.{freeRow, rowAt, slotAt, holdingAt}
-use Rattle.model.specs.Words.{isFree, isFilled, pageIn, holds, pins}
+use Rattle.model.specs.Parties.{rowOf, levelOf, classOf, lastClock, isPast}
+use Rattle.model.specs.State.{freeRow, emptyHolding, rowAt, slotAt, holdingAt}
+use Rattle.model.specs.Words.{isFree, isLive, isFilled, pageIn, holds, pins}
 use Rattle.model.specs.Changes.{rowsNotFree}
 use Rattle.model.proofs.StateLaws.{Sized}
 use Rattle.rules.specs.Sound.{soundNumbers, arrived, awaits, soundContent, soundSlot, soundCondition, soundRow, soundHolding, soundPins, soundPages, soundBorders, soundPlace, samePlace, soundOrder, sound}
@@ -49,6 +50,10 @@ slot-test s slot = go (slotAt s slot .content)
     go Empty = rw (← or-true (ltb slot (s .size))) (and-true (eqb (slotAt s slot .touch) 0))
     go (Filled page arrival dirty lowest) = rw (← or-false (ltb slot (s .size)))
 
+pub slots-test : (s : State) (latest : ℕ) (t : Bool) → latest ≡ s .clock + s .delay
+    → t ≡ allBelow 64 (λ slot. slotTest (slotAt s slot) slot (s .size) (s .clock) latest) → t ≡ allBelow 64 (soundSlot s)
+slots-test s latest t e h = h ∙ all-same _ (soundSlot s) 64 (λ i b. ap (λ (n : ℕ). slotTest (slotAt s i) i (s .size) (s .clock) n) e ∙ slot-test s i)
+
 pub arrived-test : (s : State) (slot row : ℕ) → arrivedTest (s .clock) (holdingAt s slot row) ≡ arrived s slot row
 unfolding arrivedTest arrived
 arrived-test s slot row = refl
@@ -56,6 +61,10 @@ arrived-test s slot row = refl
 pub awaits-test : (s : State) (row due slot : ℕ) → awaitsTest due (holdingAt s slot row) ≡ awaits s row due slot
 unfolding awaitsTest awaits
 awaits-test s row due slot = refl
+
+-- a holding of the state, read from another name of it
+pub holding-of : (s t : State) (k : ℕ) (h : Holding) → s ≡ t → h ≡ getD (t .holdings) k emptyHolding → h ≡ getD (s .holdings) k emptyHolding
+holding-of s t k h e f = f ∙ ap (λ (u : State). getD (u .holdings) k emptyHolding) (sym e)
 
 -- what a row's holdings are
 abbrev pub settledIn : State → ℕ → Bool
@@ -126,7 +135,7 @@ module _ (s : State) (row : ℕ) (past : (slot : ℕ) → slot < 64 → leb (hol
       go (Killed cause) = refl
 
 -- the test of a row, as its two loops leave it: the second runs where the first met an arrival above the clock
-pub row-again : (s : State) (row due m n k : ℕ) (quiet settled expected : Bool) (number : ℕ) → m ≡ 64 → k ≡ n → due ≡ dueIn (rowAt s row .condition)
+row-again : (s : State) (row due m n k : ℕ) (quiet settled expected : Bool) (number : ℕ) → m ≡ 64 → k ≡ n → due ≡ dueIn (rowAt s row .condition)
     → quiet ≡ allBelow m (λ slot. leb (holdingAt s slot row .arrival) (s .clock)) → n ≡ cond quiet 0 64
     → settled ≡ allBelow k (λ slot. arrived s slot row) → expected ≡ allBelow k (λ slot. arrived s slot row || awaits s row due slot) → number ≡ countBelow k (awaits s row due)
     → (t : Bool) → t ≡ rowTest (s .borders) (rowAt s row) (levelOf row) (s .clock) settled expected number → t ≡ soundRow s row
@@ -141,6 +150,31 @@ row-again s row due m n k quiet settled expected number e f d q w x y z t h = h 
       where
         none : k ≡ 0 → rowTest (s .borders) (rowAt s row) (levelOf row) (s .clock) settled expected number ≡ soundRow s row
         none v = rw (x, y, z, v) (past-row s row (λ slot h. all-each (λ i. leb (holdingAt s i row .arrival) (s .clock)) 64 slot (ap (λ (j : ℕ). allBelow j (λ i. leb (holdingAt s i row .arrival) (s .clock))) (sym e) ∙ sym q ∙ g) h))
+
+-- the test of a row that is not live, which does not ask for its holdings
+row-still : (s : State) (row : ℕ) (settled expected : Bool) (number : ℕ) → isLive (rowAt s row .condition) ≡ false
+    → rowTest (s .borders) (rowAt s row) (levelOf row) (s .clock) settled expected number ≡ soundRow s row
+unfolding rowTest soundRow
+row-still s row settled expected number = go (rowAt s row .condition)
+  where
+    go : (c : Condition) → isLive c ≡ false
+        → conditionTest (s .borders) c (rowAt s row .deadline) (levelOf row) (s .clock) settled expected number ≡ soundCondition s row c (rowAt s row .deadline)
+    go Free e = refl
+    go Idle e = true-false e
+    go (Fetching due) e = true-false e
+    go (Waiting page mode) e = true-false e
+    go (Killed cause) e = refl
+
+-- the test of any row: the first loop runs where it is live
+pub row-looked : (s : State) (row due most m n k : ℕ) (quiet settled expected : Bool) (number : ℕ) → most ≡ cond (isLive (rowAt s row .condition)) 64 0 → m ≡ most → k ≡ n
+    → due ≡ dueIn (rowAt s row .condition) → quiet ≡ allBelow m (λ slot. leb (holdingAt s slot row .arrival) (s .clock)) → n ≡ cond quiet 0 64
+    → settled ≡ allBelow k (λ slot. arrived s slot row) → expected ≡ allBelow k (λ slot. arrived s slot row || awaits s row due slot) → number ≡ countBelow k (awaits s row due)
+    → (t : Bool) → t ≡ rowTest (s .borders) (rowAt s row) (levelOf row) (s .clock) settled expected number → t ≡ soundRow s row
+row-looked s row due most m n k quiet settled expected number l e f d q w x y z t h = go (isLive (rowAt s row .condition)) refl
+  where
+    go : (b : Bool) → isLive (rowAt s row .condition) ≡ b → t ≡ soundRow s row
+    go true g = row-again s row due m n k quiet settled expected number (e ∙ l ∙ rw g) f d q w x y z t h
+    go false g = h ∙ row-still s row settled expected number g
 
 and-assoc : (a b c : Bool) → a && (b && c) ≡ a && b && c
 and-assoc true b c = refl
@@ -177,6 +211,18 @@ unfolding orderTest placeTest soundOrder soundPlace samePlace
 orders-test s = refl
 
 -- the whole test from its parts, each joined to those before it
+pub out-of-range : (s : State) → Sized s → inRange (s .size) (s .delay) (s .clock) ≡ false → false ≡ sound s
+unfolding sound
+out-of-range s z e = rw (← numbers-test s z, e)
+
+pub range-room : (s : State) → inRange (s .size) (s .delay) (s .clock) ≡ true → s .clock + s .delay < 2 ^ 64
+unfolding inRange
+range-room s e =
+    let clock = leb-true (s .clock) lastClock (and-right (leb 1 (s .size) && leb (s .size) 64 && leb 1 (s .delay) && leb (s .delay) 255) (leb (s .clock) lastClock) e) in
+    let delay = leb-true (s .delay) 255 (and-right (leb 1 (s .size) && leb (s .size) 64 && leb 1 (s .delay)) (leb (s .delay) 255) (and-left (leb 1 (s .size) && leb (s .size) 64 && leb 1 (s .delay) && leb (s .delay) 255) (leb (s .clock) lastClock) e)) in
+    let room : lastClock + 255 < 2 ^ 64 = lit< tt in
+    omega (arith, clock, delay, room)
+
 pub sound-test : (s : State) → Sized s → (numbers slots pages holdings borders orders b2 b3 b4 b5 b6 : Bool) → numbers ≡ inRange (s .size) (s .delay) (s .clock) → slots ≡ allBelow 64 (soundSlot s)
     → pages ≡ allBelow 64 (λ slot. not (placeTaken (s .slots) slot)) → holdings ≡ allBelow 32 (soundRow s) && allBelow 64 (λ slot. allBelow 32 (soundHolding s slot)) && allBelow 64 (soundPins s)
     → borders ≡ bordersTest (s .borders) (s .begun) (s .rows) (s .slots) → orders ≡ allBelow 4 (orderTest (s .rows) (s .places))

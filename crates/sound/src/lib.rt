@@ -10,13 +10,14 @@ use model::Slot;
 use model::State;
 ghost use mathlib.Core.Path.{_≡_};
 ghost use mathlib.Core.Bool.{cond, _&&_, not};
-ghost use Prim.Native.Nat.{_+_, _<_, _≤_};
+ghost use Prim.Native.Nat.{_+_, _<_, _≤_, _^_};
 ghost use Rattle.seq.specs.Below.{allBelow};
 ghost use Rattle.model.specs.Parties.{classOf};
 ghost use Rattle.model.specs.State.{freeRow, emptySlot};
-ghost use Rattle.model.specs.Words.{isFree, isFilled, pageIn};
-ghost use lib.ListN.{getD};
-ghost use Rattle.rules.specs.Sound.{pinAllowed, soundSlot, soundRow, soundHolding, soundPins, sound};
+ghost use Rattle.model.specs.Words.{isFree, isLive, isFilled, pageIn};
+ghost use lib.ListN.{length, getD};
+ghost use Rattle.area.specs.Layout.{decoded};
+ghost use Rattle.rules.specs.Sound.{pinAllowed, soundRow, soundHolding, soundPins, sound};
 ghost use Rattle.sound.specs.Inner.Tests.{inRange, slotTest, placeIn, noPages, placeTaken, dueIn, arrivedTest, awaitsTest, fetchingTest, waitingTest, rowTest, fitTest, heldTest, holdingTest, bordersTest, placeTest, orderTest, pinWeight};
 
 fn unless(a: bool, b: bool) -> bool
@@ -42,7 +43,7 @@ fn counted(n: usize, b: bool) -> usize
     n
 }
 
-fn is_in_range(size: usize, delay: u32, clock: u32) -> bool
+fn is_in_range(size: usize, delay: u64, clock: u64) -> bool
     ensures { λ r. ⌜ r ≡ inRange size delay clock ⌝ }
 {
     if size < 1 {
@@ -57,17 +58,18 @@ fn is_in_range(size: usize, delay: u32, clock: u32) -> bool
     if 255 < delay {
         return false;
     }
-    clock <= 4000000000
+    clock <= 9000000000000000000
 }
 
-// The tick clock + delay, which no arrival of a sound state passes. It is wide, since the numbers of a state may be any.
-fn latest_arrival(clock: u32, delay: u32) -> u64
+// The tick clock + delay, which no arrival of a sound state passes.
+fn latest_arrival(clock: u64, delay: u64) -> u64
+    requires { ⌜ clock + delay < 2 ^ 64 ⌝ }
     ensures { λ r. ⌜ r ≡ clock + delay ⌝ }
 {
-    clock as u64 + delay as u64
+    clock + delay
 }
 
-fn is_slot_sound(x: Slot, slot: usize, size: usize, clock: u32, latest: u64) -> bool
+fn is_slot_sound(x: Slot, slot: usize, size: usize, clock: u64, latest: u64) -> bool
     ensures { λ r. ⌜ r ≡ slotTest x slot size clock latest ⌝ }
 {
     let c = x.content;
@@ -90,7 +92,7 @@ fn is_slot_sound(x: Slot, slot: usize, size: usize, clock: u32, latest: u64) -> 
             if clock < x.touch {
                 return false;
             }
-            if latest < arrival as u64 {
+            if latest < arrival {
                 return false;
             }
             return slot < size;
@@ -98,13 +100,9 @@ fn is_slot_sound(x: Slot, slot: usize, size: usize, clock: u32, latest: u64) -> 
     }
 }
 
-fn are_slots_sound(s: State) -> bool
-    ensures { λ r. ⌜ r ≡ allBelow 64 (soundSlot s) ⌝ }
+fn are_slots_sound(slots: [Slot; 64], size: usize, clock: u64, latest: u64) -> bool
+    ensures { λ r. ⌜ r ≡ allBelow 64 (λ slot. slotTest (getD slots slot emptySlot) slot size clock latest) ⌝ }
 {
-    let size = s.size;
-    let clock = s.clock;
-    let latest = latest_arrival(clock, s.delay);
-    let slots = s.slots;
     let mut ok = true;
     for i in 0..64usize {
         let x = slots[i];
@@ -144,10 +142,9 @@ fn no_pages() -> [bool; 4097]
 }
 
 // No page below 4096 is in two slots.
-fn are_pages_apart(s: State) -> bool
-    ensures { λ r. ⌜ r ≡ allBelow 64 (λ slot. not (placeTaken (s .slots) slot)) ⌝ }
+fn are_pages_apart(slots: [Slot; 64]) -> bool
+    ensures { λ r. ⌜ r ≡ allBelow 64 (λ slot. not (placeTaken slots slot)) ⌝ }
 {
-    let slots = s.slots;
     let mut seen = no_pages();
     let mut ok = true;
     for i in 0..64usize {
@@ -161,7 +158,7 @@ fn are_pages_apart(s: State) -> bool
 }
 
 // The due tick of a fetching row, and 0 of another.
-fn due_of(c: Condition) -> u32
+fn due_of(c: Condition) -> u64
     ensures { λ r. ⌜ r ≡ dueIn c ⌝ }
 {
     match c {
@@ -173,7 +170,7 @@ fn due_of(c: Condition) -> u32
     }
 }
 
-fn has_arrived(h: Holding, clock: u32) -> bool
+fn has_arrived(h: Holding, clock: u64) -> bool
     ensures { λ r. ⌜ r ≡ arrivedTest clock h ⌝ }
 {
     let p = h.pin;
@@ -183,7 +180,7 @@ fn has_arrived(h: Holding, clock: u32) -> bool
     true
 }
 
-fn is_awaited(h: Holding, due: u32) -> bool
+fn is_awaited(h: Holding, due: u64) -> bool
     ensures { λ r. ⌜ r ≡ awaitsTest due h ⌝ }
 {
     let p = h.pin;
@@ -194,7 +191,7 @@ fn is_awaited(h: Holding, due: u32) -> bool
 }
 
 // A fetching row, by whether its deadline is past, whether all its holdings have arrived or are awaited, and how many are awaited.
-fn is_fetching_sound(due: u32, past: bool, clock: u32, expected: bool, number: usize) -> bool
+fn is_fetching_sound(due: u64, past: bool, clock: u64, expected: bool, number: usize) -> bool
     ensures { λ r. ⌜ r ≡ fetchingTest due past clock expected number ⌝ }
 {
     if past {
@@ -238,7 +235,7 @@ fn is_row_sound(
     b: Borders,
     x: Row,
     level: usize,
-    clock: u32,
+    clock: u64,
     settled: bool,
     expected: bool,
     number: usize,
@@ -267,6 +264,16 @@ fn is_row_sound(
             return x.deadline == 0;
         }
     }
+}
+
+// How many of the 64 slots are looked at for a row: none where it is not live.
+fn live_slots(c: Condition) -> usize
+    ensures { λ r. ⌜ (r ≡ cond (isLive c) 64 0) × (r ≤ 64) ⌝ }
+{
+    if model::is_live(c) {
+        return 64;
+    }
+    0
 }
 
 // How many of the 64 slots are looked at again: none where a test of them all passed.
@@ -302,9 +309,9 @@ fn is_pin_allowed(level: usize, class: usize, p: Pin) -> bool
 fn is_fit(
     level: usize,
     class: usize,
-    arrival: u32,
+    arrival: u64,
     lowest: usize,
-    touch: u32,
+    touch: u64,
     h: Holding,
     latest: u64,
 ) -> bool
@@ -315,7 +322,7 @@ fn is_fit(
         if h.arrival < arrival {
             return false;
         }
-        if latest < h.arrival as u64 {
+        if latest < h.arrival {
             return false;
         }
         if touch < h.touch {
@@ -392,21 +399,22 @@ fn pin_weight(p: Pin) -> u32
     }
 }
 
-// The rows, the holdings and the pins on each slot, in one function: each function over the holdings copies them.
-fn are_rows_and_holdings_sound(s: State) -> bool
+// The rows, the holdings and the pins on each slot. The holdings are read from the area that names the state: reading them from the state copies them all.
+fn are_rows_and_holdings_sound(a: &[u8], s: State) -> bool
+    requires { ⌜ (65536 ≤ length (now a)) × (s ≡ decoded (now a)) × (s .clock + s .delay < 2 ^ 64) ⌝ }
     ensures { λ r. ⌜ r ≡ allBelow 32 (soundRow s) && allBelow 64 (λ slot. allBelow 32 (soundHolding s slot)) && allBelow 64 (soundPins s) ⌝ }
 {
     let rows = s.rows;
     let slots = s.slots;
-    let holdings = s.holdings;
     let mut valid = true;
     for r in 0..32usize {
         let x = rows[r];
         let c = x.condition;
         let due = due_of(c);
+        let most = live_slots(c);
         let mut quiet = true;
-        for i in 0..64usize {
-            let h = holdings[i * 32 + r];
+        for i in 0..most {
+            let h = area::holding_at(a, i * 32 + r);
             let past = h.arrival <= s.clock;
             quiet = seq::both(quiet, past);
         }
@@ -415,7 +423,7 @@ fn are_rows_and_holdings_sound(s: State) -> bool
         let mut expected = true;
         let mut number: usize = 0;
         for i in 0..n {
-            let h = holdings[i * 32 + r];
+            let h = area::holding_at(a, i * 32 + r);
             let here = has_arrived(h, s.clock);
             let awaited = is_awaited(h, due);
             let known = seq::either(here, awaited);
@@ -435,7 +443,7 @@ fn are_rows_and_holdings_sound(s: State) -> bool
         let mut fit = true;
         let mut weight: u32 = 0;
         for r in 0..32usize {
-            let h = holdings[i * 32 + r];
+            let h = area::holding_at(a, i * 32 + r);
             let y = rows[r];
             let t = is_holding_sound(r / 8, y, class, x, h, latest);
             let p = h.pin;
@@ -535,24 +543,25 @@ fn are_orders_sound(rows: [Row; 32], places: [usize; 32]) -> bool
     ok
 }
 
-// Whether the state is sound.
-pub fn is_sound(s: State) -> bool
+// Whether the state that an area names is sound. Its numbers may be any, so their ranges come first: else clock + delay may be no number of 64 bits.
+pub fn is_sound(a: &[u8], s: State) -> bool
+    requires { ⌜ (65536 ≤ length (now a)) × (s ≡ decoded (now a)) ⌝ }
     ensures { λ r. ⌜ r ≡ sound s ⌝ }
 {
-    let numbers = is_in_range(s.size, s.delay, s.clock);
-    let slots = are_slots_sound(s);
-    let pages = are_pages_apart(s);
-    let holdings = are_rows_and_holdings_sound(s);
-    let rows = s.rows;
+    if !is_in_range(s.size, s.delay, s.clock) {
+        return false;
+    }
     let all = s.slots;
+    let latest = latest_arrival(s.clock, s.delay);
+    let slots = are_slots_sound(all, s.size, s.clock, latest);
+    let pages = are_pages_apart(all);
+    let holdings = are_rows_and_holdings_sound(a, s);
+    let rows = s.rows;
     let borders = are_borders_sound(s.borders, s.begun, rows, all);
     let places = s.places;
     let orders = are_orders_sound(rows, places);
     seq::both(
-        seq::both(
-            seq::both(seq::both(seq::both(numbers, slots), pages), holdings),
-            borders,
-        ),
+        seq::both(seq::both(seq::both(slots, pages), holdings), borders),
         orders,
     )
 }

@@ -9,7 +9,6 @@ use native.Mathlib.Omega.{arith}
 use borrow.Author.Tests.{eqb-false, ltb-false}
 use lib.Dec.{eqb, ltb}
 use lib.ListN.{length, take}
-use lib.Seq.{length-take-le}
 use Rattle.seq.proofs.Tests.{true-false, or-false}
 use Rattle.words.proofs.WroteLaws.{wrote-none}
 use Rattle.record.specs.declared.Progress.{Progress}
@@ -30,20 +29,20 @@ module _ (t : Progress) (a : List ℕ) where
   unfolding played recordsOf firstRecords
   read-none = refl
 
-  module _ (r : List ℕ) (h : length r ≤ recordWidth) where
+  module _ (r : List ℕ) (h : length r ≤ recordWidth r) where
     read-one : 0 < length r → played t a (recordsOf r) ≡ playedOne t a r
     read-one p = ap (λ (rs : List (List ℕ)). played t a rs) (last-record r p h) ∙ played-alone t a r
 
     -- only a whole record lets the run go on
-    read-full : 0 < length r → played t a (recordsOf r) .progress .over ≡ false → length r ≡ recordWidth
-    read-full p e = elim (decLt (length r) recordWidth) [
+    read-full : 0 < length r → played t a (recordsOf r) .progress .over ≡ false → length r ≡ recordWidth r
+    read-full p e = elim (decLt (length r) (recordWidth r)) [
       | yes l ↦
           let o : playedOne t a r .progress .over ≡ true = cut-over t a r (λ q. absurd (omega arith)) in
           true-false (sym o ∙ ap (λ (q : Played). q .progress .over) (sym (read-one p)) ∙ e)
       | no l ↦ omega arith
     ]
 
-  read-small : (r : List ℕ) → length r ≤ recordWidth → (length (played t a (recordsOf r) .text) ≤ mostText) × (played t a (recordsOf r) .progress .number ≤ t .number + 1)
+  read-small : (r : List ℕ) → length r ≤ recordWidth r → (length (played t a (recordsOf r) .text) ≤ mostText) × (played t a (recordsOf r) .progress .number ≤ t .number + 1)
   read-small [] h = rw read-none (omega arith, omega arith)
   read-small (b ∷ bs) h = rw (read-one (b ∷ bs) h (omega arith)) (one-small t a (b ∷ bs))
 
@@ -51,7 +50,7 @@ module _ (t : Progress) (a : List ℕ) where
     pub none-read : n ≡ 0 → Came (played t a (recordsOf (take n bytes))) t a out at out at
     none-read e = rw (e, read-none) (refl, (refl, wrote-none out at))
 
-    module _ (h : n ≤ recordWidth) (l : length (take n bytes) ≡ n) (p : Progress) (b out' : List ℕ) (end : ℕ) where
+    module _ (h : n ≤ recordWidth (take n bytes)) (l : length (take n bytes) ≡ n) (p : Progress) (b out' : List ℕ) (end : ℕ) where
       pub one-read : (n ≡ 0 → ⊥) → Came (playedOne t a (take n bytes)) p b out at out' end → Came (played t a (recordsOf (take n bytes))) p b out at out' end
       one-read f w = rw (read-one (take n bytes) (omega arith) (omega arith)) w
 
@@ -59,10 +58,6 @@ module _ (t : Progress) (a : List ℕ) where
       turn-small w =
           let s = read-small (take n bytes) (omega arith) in
           (omega (arith, w .1 .1 .ends, s .0), rw (w .0) (s .1))
-
--- what is read of a record's bytes
-pub read-long : (n : ℕ) (bytes bytes₀ : List ℕ) → n ≤ recordWidth → length bytes ≡ length bytes₀ → recordWidth ≡ length bytes₀ → length (take n bytes) ≡ n
-read-long n bytes bytes₀ h k e = length-take-le n bytes (omega arith)
 
 -- a run from t on a stands at n on b after whole records
 pub record Reached (t : Progress) (a : List ℕ) (n : Progress) (b : List ℕ) : Type 0 where
@@ -79,7 +74,7 @@ module _ (t : Progress) (a : List ℕ) (n : Progress) (b : List ℕ) (h : Reache
   goes-on : (rs : List (List ℕ)) → played t a (h .records ++ rs) ≡ andThen (played t a (h .records)) (played n b rs)
   goes-on rs = rw (h .progress-is, h .area-is) (played-append t a (h .records) rs)
 
-  pub reached-more : (r : List ℕ) → 0 < length r → length r ≤ recordWidth → (n' : Progress) (b' : List ℕ) → n' ≡ played n b (recordsOf r) .progress
+  pub reached-more : (r : List ℕ) → 0 < length r → length r ≤ recordWidth r → (n' : Progress) (b' : List ℕ) → n' ≡ played n b (recordsOf r) .progress
       → b' ≡ played n b (recordsOf r) .area → n' .over ≡ false → Reached t a n' b'
   reached-more r p k n' b' e f o =
       let all : played t a (h .records ++ (r ∷ [])) ≡ andThen (played t a (h .records)) (played n b (recordsOf r)) = rw (last-record r p k) (goes-on (r ∷ [])) in

@@ -8,7 +8,7 @@ ghost use lib.Dec.{eqb, ltb};
 ghost use Prim.Native.Nat.{_+_, _-_, _^_, _<_, _≤_};
 ghost use lib.ListN.{length, take};
 ghost use Rattle.words.specs.Inner.Written.{Wrote};
-ghost use Rattle.record.specs.Record.{recordWidth};
+ghost use Rattle.record.specs.Record.{longWidth, recordWidth};
 ghost use Rattle.record.specs.Text.{mostText};
 ghost use Rattle.record.specs.Play.{played, recordsOf};
 ghost use Rattle.stream.specs.Left.{LeftBySome};
@@ -20,6 +20,21 @@ pub struct Turn {
     pub end: usize,
 }
 
+// The next record, read into the bytes that are lent for it: how many there are, none where the input has ended. After the mark C3 5B four more than 12 are read.
+fn read_next(fd: i32, bytes: &mut [u8]) -> usize
+    requires { ⌜ longWidth ≡ length (now bytes) ⌝ }
+    ensures { λ r. ⌜ r ≤ recordWidth (take r (now (bytes .exit))) ⌝ }
+{
+    let read = io::read_full(fd, &mut bytes[..record::SHORT_WIDTH]);
+    if read < record::SHORT_WIDTH {
+        return read;
+    }
+    if record::record_width(bytes) == record::SHORT_WIDTH {
+        return read;
+    }
+    read + io::read_full(fd, &mut bytes[read..])
+}
+
 // The next record, read into the bytes that are lent for it and played on the area; its text is written at a place.
 pub fn play_next(
     fd: i32,
@@ -29,13 +44,13 @@ pub fn play_next(
     out: &mut [u8],
     at: usize,
 ) -> Turn
-    requires { ⌜ (recordWidth ≡ length (now bytes)) × (progress .number + 1 < 2 ^ 64) × (at + mostText ≤ length (now out)) ⌝ }
-    ensures read { λ r. ⌜ r .read ≤ recordWidth ⌝ }
+    requires { ⌜ (longWidth ≡ length (now bytes)) × (progress .number + 1 < 2 ^ 64) × (at + mostText ≤ length (now out)) ⌝ }
+    ensures read { λ r. ⌜ r .read ≤ recordWidth (take (r .read) (now (bytes .exit))) ⌝ }
     ensures next { λ r. ⌜ r .progress ≡ played progress (now (area .entry)) (recordsOf (take (r .read) (now (bytes .exit)))) .progress ⌝ }
     ensures left { λ r. ⌜ now (area .exit) ≡ played progress (now (area .entry)) (recordsOf (take (r .read) (now (bytes .exit)))) .area ⌝ }
     ensures text { λ r. ⌜ Wrote (now (out .entry)) at (played progress (now (area .entry)) (recordsOf (take (r .read) (now (bytes .exit)))) .text) (now (out .exit)) (r .end) ⌝ }
 {
-    let read = io::read_full(fd, bytes);
+    let read = read_next(fd, bytes);
     if read == 0 {
         return Turn {
             read,
@@ -52,10 +67,10 @@ pub fn play_next(
     }
 }
 
-fn record_buffer() -> [u8; record::WIDTH]
-    ensures { λ r. ⌜ recordWidth ≡ length r ⌝ }
+fn record_buffer() -> [u8; record::LONG_WIDTH]
+    ensures { λ r. ⌜ longWidth ≡ length r ⌝ }
 {
-    [0; record::WIDTH]
+    [0; record::LONG_WIDTH]
 }
 
 // Nothing follows: the input has ended, or the record was bad.

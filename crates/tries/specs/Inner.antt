@@ -1,2 +1,1 @@
 pub mod Queued
-pub mod Turns

@@ -5,8 +5,8 @@ use Prim.Native.Nat.{ℕ, zero, suc, _+_, _*_, _/_, _%_, _^_, _<_, _≤_}
 use native.Mathlib.Nat.{add-zero, pow-suc, pow-zero, le-of-suc-le-suc, lt-of-lt-of-le, pow-le-pow-right}
 use native.Mathlib.Omega.{arith}
 use lib.Dec.{lit<}
-use lib.ListN.{length, getD, take, drop, replicate, length-append, length-take}
-use lib.Seq.{drop-append-add, take-at, getD-drop}
+use lib.ListN.{length, getD, take, drop, replicate, length-append, length-take, length-drop}
+use lib.Seq.{drop-append-add, drop-append-le, take-append-le, take-at, getD-drop}
 use Rattle.seq.proofs.EachLaws.{replicate-at}
 use Rattle.words.specs.Bytes.{valueOf, bytesOf, part, wordAt, wordBytes}
 
@@ -109,6 +109,13 @@ unfolding wordAt
 word-under a at h =
     let l : length (part a at 8) ≤ 8 = simp length-take (omega arith) in
     lt-of-lt-of-le (value-under (part a at 8) (under-part 256 a at 8 h)) (pow-le-pow-right (lit< tt) l)
+
+-- a word that ends within a list is that of the list, whatever follows
+pub word-within : (p q : List ℕ) (at : ℕ) → at + 8 ≤ length p → wordAt (p ++ q) at ≡ wordAt p at
+unfolding wordAt
+word-within p q at h =
+    let l : 8 ≤ length (drop at p) = simp length-drop (omega arith) in
+    rw (drop-append-le at p q (omega arith), take-append-le 8 (drop at p) q l)
 
 pub word-after : (p q : List ℕ) (at j : ℕ) → length p ≡ at → wordAt (p ++ q) (at + j) ≡ wordAt q j
 unfolding wordAt

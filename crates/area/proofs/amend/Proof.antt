@@ -1,7 +1,7 @@
 use mathlib.Core.Path.{refl}
 use native.Mathlib.Omega.{arith}
 use lib.ListN.{drop}
-use Rattle.area.specs.Layout.{decoded}
+use Rattle.area.specs.Layout.{versionIn, decoded}
 use Rattle.area.proofs.Elements.{decoded-sized}
 use Rattle.area.proofs.RoundTrip.{exact-area, exact-long}
 use Rattle.area.proofs.Amends.{amended, amended-rows}
@@ -11,51 +11,45 @@ use Rattle.area.proofs.amend.Tie as tie
 use Rattle.area.proofs.amend.Reads as reads
 use Rattle.area.proofs.amend.Lts as lts
 use Rattle.area.proofs.drop_rows.Reads as drop-rows-reads
+use Rattle.area.proofs.put_header.Reads as put-header-reads
 use Rattle.area.proofs.put_held.Reads as put-held-reads
 use Rattle.area.proofs.put_order.Reads as put-order-reads
 use Rattle.area.proofs.put_rows.Reads as put-rows-reads
 use Rattle.area.proofs.put_setting.Reads as put-setting-reads
 use Rattle.area.proofs.put_slots.Reads as put-slots-reads
-use Rattle.words.proofs.put_words.Reads as put-words-reads
 
 put-order-requires : tie.Need-put-order-requires
-put-order-requires c κs = let g = c .before .before in omega (arith, exact-long (g .args .a .now) (g .pre))
+put-order-requires c κs = let g = c .before .before in omega (arith, exact-long (versionIn (g .args .a .now)) (g .args .a .now) (g .pre))
 
-cast-t13 : tie.Need-cast-t13
-cast-t13 c = search needs
-
-slice-aggregate-put-words : tie.Need-slice-aggregate-put-words
-slice-aggregate-put-words c = search needs
-
-put-words-requires : tie.Need-put-words-requires
-put-words-requires c κs =
-    let o = c .before .before .before .before .before in
+put-header-requires : tie.Need-put-header-requires
+put-header-requires c κs =
+    let o = c .before .before .before in
     let g = o .before .before .before in
-    omega (arith, exact-long (g .args .a .now) (g .pre), o .put-order .kept .0)
+    omega (arith, exact-long (versionIn (g .args .a .now)) (g .args .a .now) (g .pre), o .put-order .kept .0)
 
 put-setting-requires : tie.Need-put-setting-requires
 put-setting-requires c κs =
     let w = c .before .before .before in
-    let o = w .before .before .before .before .before .before in
+    let o = w .before .before .before .before in
     let g = o .before .before .before in
-    omega (arith, exact-long (g .args .a .now) (g .pre), o .put-order .kept .0, w .put-words .kept .0)
+    omega (arith, exact-long (versionIn (g .args .a .now)) (g .args .a .now) (g .pre), o .put-order .kept .0, w .put-header .kept .0)
 
 put-rows-requires : tie.Need-put-rows-requires
 put-rows-requires c κs =
     let t = c .before .before .before .before in
     let w = t .before .before .before .before in
-    let o = w .before .before .before .before .before .before in
+    let o = w .before .before .before .before in
     let g = o .before .before .before in
-    omega (arith, exact-long (g .args .a .now) (g .pre), o .put-order .kept .0, w .put-words .kept .0, t .put-setting .kept .0)
+    omega (arith, exact-long (versionIn (g .args .a .now)) (g .args .a .now) (g .pre), o .put-order .kept .0, w .put-header .kept .0, t .put-setting .kept .0)
 
 put-slots-requires : tie.Need-put-slots-requires
 put-slots-requires c κs =
     let r = c .before .before .before .before in
     let t = r .before .before .before .before .before in
     let w = t .before .before .before .before in
-    let o = w .before .before .before .before .before .before in
+    let o = w .before .before .before .before in
     let g = o .before .before .before in
-    omega (arith, exact-long (g .args .a .now) (g .pre), o .put-order .kept .0, w .put-words .kept .0, t .put-setting .kept .0, r .put-rows .kept .0)
+    omega (arith, exact-long (versionIn (g .args .a .now)) (g .args .a .now) (g .pre), o .put-order .kept .0, w .put-header .kept .0, t .put-setting .kept .0, r .put-rows .kept .0)
 
 drop-rows-requires : tie.Need-drop-rows-requires
 drop-rows-requires c κs =
@@ -63,9 +57,9 @@ drop-rows-requires c κs =
     let r = s .before .before .before .before .before in
     let t = r .before .before .before .before .before in
     let w = t .before .before .before .before in
-    let o = w .before .before .before .before .before .before in
+    let o = w .before .before .before .before in
     let g = o .before .before .before in
-    omega (arith, exact-long (g .args .a .now) (g .pre), o .put-order .kept .0, w .put-words .kept .0, t .put-setting .kept .0, r .put-rows .kept .0, s .put-slots .kept .0)
+    omega (arith, exact-long (versionIn (g .args .a .now)) (g .args .a .now) (g .pre), o .put-order .kept .0, w .put-header .kept .0, t .put-setting .kept .0, r .put-rows .kept .0, s .put-slots .kept .0)
 
 put-held-requires : tie.Need-put-held-requires
 put-held-requires c κs =
@@ -74,9 +68,9 @@ put-held-requires c κs =
     let r = s .before .before .before .before .before in
     let t = r .before .before .before .before .before in
     let w = t .before .before .before .before in
-    let o = w .before .before .before .before .before .before in
+    let o = w .before .before .before .before in
     let g = o .before .before .before in
-    (omega (arith, exact-long (g .args .a .now) (g .pre), o .put-order .kept .0, w .put-words .kept .0, t .put-setting .kept .0, r .put-rows .kept .0, s .put-slots .kept .0, d .drop-rows .kept .0), c .before .before .if1 .taken)
+    (omega (arith, exact-long (versionIn (g .args .a .now)) (g .args .a .now) (g .pre), o .put-order .kept .0, w .put-header .kept .0, t .put-setting .kept .0, r .put-rows .kept .0, s .put-slots .kept .0, d .drop-rows .kept .0), c .before .before .if1 .taken)
 
 same-length : tie.Need-same-length
 same-length c = search needs
@@ -89,11 +83,11 @@ returns c =
     let r = s .before .before .before .before .before in
     let t = r .before .before .before .before .before in
     let w = t .before .before .before .before in
-    let o = w .before .before .before .before .before .before in
+    let o = w .before .before .before .before in
     let g = o .before .before .before in
     let a = g .args .a .now in
-    amended (decoded a) (decoded-sized a .holdings) (g .args .c) (drop 65536 a) a _ _ _ _ _ _ (exact-area a (g .pre)) refl (o .put-order .ensures)
-    (w .put-words .ensures) (t .put-setting .ensures) (r .put-rows .ensures) (s .put-slots .ensures) (d .drop-rows .ensures) _ (c .before .before .before .before .before .if1 .taken) (c .before .before .put-held .ensures)
+    amended (versionIn a) (decoded a) (decoded-sized a .holdings) (g .args .c) (drop 65536 a) a _ _ _ _ _ _ (exact-area (versionIn a) a (g .pre)) refl (o .put-order .ensures)
+    (w .put-header .ensures) (t .put-setting .ensures) (r .put-rows .ensures) (s .put-slots .ensures) (d .drop-rows .ensures) _ (c .before .before .before .before .before .if1 .taken) (c .before .before .put-held .ensures)
 
 same-length-2 : tie.Need-same-length-2
 same-length-2 c = search needs
@@ -106,20 +100,18 @@ returns-2 c =
     let r = s .before .before .before .before .before in
     let t = r .before .before .before .before .before in
     let w = t .before .before .before .before in
-    let o = w .before .before .before .before .before .before in
+    let o = w .before .before .before .before in
     let g = o .before .before .before in
     let a = g .args .a .now in
-    amended-rows (decoded a) (decoded-sized a .holdings) (g .args .c) (drop 65536 a) a _ _ _ _ _ _ (exact-area a (g .pre)) refl (o .put-order .ensures)
-    (w .put-words .ensures) (t .put-setting .ensures) (r .put-rows .ensures) (s .put-slots .ensures) (d .drop-rows .ensures) (c .if1 .left)
+    amended-rows (versionIn a) (decoded a) (decoded-sized a .holdings) (g .args .c) (drop 65536 a) a _ _ _ _ _ _ (exact-area (versionIn a) a (g .pre)) refl (o .put-order .ensures)
+    (w .put-header .ensures) (t .put-setting .ensures) (r .put-rows .ensures) (s .put-slots .ensures) (d .drop-rows .ensures) (c .if1 .left)
 
 pub amend-spec : {M : Type 1} → statement M
 amend-spec =
     tie.close
     (tie.spec
     put-order-requires
-    cast-t13
-    slice-aggregate-put-words
-    put-words-requires
+    put-header-requires
     put-setting-requires
     put-rows-requires
     put-slots-requires

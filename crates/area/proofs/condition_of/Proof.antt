@@ -34,21 +34,18 @@ returns-2 : tie.Need-returns-2
 unfolding conditionOf
 returns-2 c = simp (c .if2 .taken)
 
-low-requires : tie.Need-low-requires
-low-requires c κs = search needs
-
 returns-3 : tie.Need-returns-3
 unfolding conditionOf
-returns-3 c = simp (c .low .ensures, c .before .if3 .taken)
+returns-3 c = simp (c .if3 .taken)
 
-low-requires-2 : tie.Need-low-requires-2
-low-requires-2 c κs = search needs
+low-requires : tie.Need-low-requires
+low-requires c κs = search needs
 
 mode-of-requires : tie.Need-mode-of-requires
 mode-of-requires c κs = search needs
 
 returns-4 : tie.Need-returns-4
-returns-4 c = waiting _ _ _ _ _ (c .before .before .if4 .taken) (c .before .low2 .ensures) (c .mode-of .ensures)
+returns-4 c = waiting _ _ _ _ _ (c .before .before .if4 .taken) (c .before .low .ensures) (c .mode-of .ensures)
 
 returns-5 : tie.Need-returns-5
 returns-5 c = late _ _ _ (c .if5 .taken)
@@ -62,9 +59,8 @@ condition-of-spec =
     (tie.spec
     returns
     returns-2
-    low-requires
     returns-3
-    low-requires-2
+    low-requires
     mode-of-requires
     returns-4
     returns-5

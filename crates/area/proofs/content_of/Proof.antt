@@ -14,12 +14,9 @@ returns c = simp (c .if1 .taken)
 low-requires : tie.Need-low-requires
 low-requires c κs = search needs
 
-low-requires-2 : tie.Need-low-requires-2
-low-requires-2 c κs = search needs
-
 returns-2 : tie.Need-returns-2
 unfolding contentOf
-returns-2 c = simp (tests, c .low2 .ensures, c .before .low .ensures, c .before .before .if1 .left)
+returns-2 c = simp (tests, c .low .ensures, c .before .if1 .left)
 
 pub content-of-spec : {M : Type 1} → statement M
-content-of-spec = tie.close (tie.spec returns low-requires low-requires-2 returns-2)
+content-of-spec = tie.close (tie.spec returns low-requires returns-2)

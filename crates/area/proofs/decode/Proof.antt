@@ -8,10 +8,11 @@ use Rattle.seq.specs.Below.{allBelow}
 use Rattle.seq.specs.Each.{each, eachBelow}
 use Rattle.seq.proofs.EachLaws.{each-below-none}
 use Rattle.words.specs.Bytes.{hasWords}
+use Rattle.words.proofs.ByteLaws.{AllUnder, word-under}
 use Rattle.model.specs.State.{emptyHolding, emptyHoldings}
-use Rattle.area.specs.Layout.{low, decoded, holdingFrom, holdingWords}
+use Rattle.area.specs.Layout.{versionIn, decoded, holdingFrom, holdingWords}
 use Rattle.area.specs.Inner.Exact.{exactHoldings}
-use Rattle.area.proofs.LoopLaws.{empty-holdings-long, read-turn, read-all, read-test}
+use Rattle.area.proofs.LoopLaws.{empty-holdings-long, read-turn, read-all}
 use Rattle.area.proofs.AreaSteps.{fresh-holdings, decode-state, exact-tests, tests-next, framed}
 use Rattle.area.proofs.decode.Statement.{statement}
 use Rattle.area.proofs.decode.Tie as tie
@@ -19,15 +20,12 @@ use Rattle.area.proofs.decode.Reads as reads
 use Rattle.area.proofs.decode.Lts as lts
 use Rattle.seq.proofs.both.Reads as both-reads
 use Rattle.area.proofs.get_borders.Reads as get-borders-reads
-use Rattle.area.proofs.get_holding.Reads as get-holding-reads
 use Rattle.area.proofs.get_places.Reads as get-places-reads
 use Rattle.area.proofs.get_rows.Reads as get-rows-reads
 use Rattle.area.proofs.get_slots.Reads as get-slots-reads
-use Rattle.area.proofs.holding_words.Reads as holding-words-reads
 use Rattle.area.proofs.is_frame.Reads as is-frame-reads
-use Rattle.area.proofs.low.Reads as low-reads
+use Rattle.area.proofs.get_holding.Reads as get-holding-reads
 use Rattle.model.proofs.fresh_state.Reads as fresh-state-reads
-use Rattle.words.proofs.has_words.Reads as has-words-reads
 use Rattle.words.proofs.word.Reads as word-reads
 
 and-true : (b : Bool) → b && true ≡ b
@@ -54,14 +52,8 @@ word-requires c κs = omega arith
 word-requires-2 : tie.Need-word-requires-2 Inv-loop μ-loop
 word-requires-2 c κs = omega arith
 
-low-requires : tie.Need-low-requires Inv-loop μ-loop
-low-requires c κs = omega arith
-
 word-requires-3 : tie.Need-word-requires-3 Inv-loop μ-loop
 word-requires-3 c κs = omega arith
-
-low-requires-2 : tie.Need-low-requires-2 Inv-loop μ-loop
-low-requires-2 c κs = omega arith
 
 get-rows-requires : tie.Need-get-rows-requires Inv-loop μ-loop
 get-rows-requires c κs = omega arith
@@ -93,7 +85,7 @@ fresh-state-requires c κs = omega arith
 loop-holds : tie.Need-loop-holds Inv-loop μ-loop
 unfolding allBelow
 loop-holds c =
-    let a = c .before .before .before .before .before .before .before .before .before .before .before .before .before .before .before .before .before .before .args .a .now in
+    let a = c .before .before .before .before .before .before .before .before .before .before .before .before .before .before .before .before .args .a .now in
     (omega arith, fresh-holdings _ _ _ (c .before .fresh-state .ensures) ∙ each-below-none (λ j _. holdingFrom a (6656 + j * 24)) emptyHoldings, sym (and-true _))
 
 mul-at : tie.Need-mul-at Inv-loop μ-loop
@@ -103,16 +95,7 @@ add-at : tie.Need-add-at Inv-loop μ-loop
 add-at c = omega arith
 
 get-holding-requires : tie.Need-get-holding-requires Inv-loop μ-loop
-get-holding-requires c κs = omega (arith, c .before .before .before .before .before .before .before .before .before .before .before .before .before .before .before .before .before .before .before .before .pre)
-
-holding-words-requires : tie.Need-holding-words-requires Inv-loop μ-loop
-holding-words-requires c κs = omega arith
-
-slice-aggregate-has-words : tie.Need-slice-aggregate-has-words Inv-loop μ-loop
-slice-aggregate-has-words c = omega arith
-
-has-words-requires : tie.Need-has-words-requires Inv-loop μ-loop
-has-words-requires c κs = omega (arith, c .before .before .before .before .before .before .before .before .before .before .before .before .before .before .before .before .before .before .before .before .before .before .before .pre)
+get-holding-requires c κs = omega (arith, c .before .before .before .before .before .before .before .before .before .before .before .before .before .before .before .before .before .before .pre)
 
 both-requires-3 : tie.Need-both-requires-3 Inv-loop μ-loop
 both-requires-3 c κs = omega arith
@@ -131,16 +114,13 @@ loop-less c = omega arith
 
 loop-again : tie.Need-loop-again Inv-loop μ-loop
 loop-again c =
-    let g = c .before .before .before .before in
-    let w = g .before .before .loop in
-    let b = g .before .before .before .before .before .before .before in
-    let a = b .before .before .before .before .before .before .before .before .before .before .before .before .before .before .args .a .now in
-    let words = c .before .before .before .holding-words in (
+    let h = c .before .before .get-holding in
+    let w = c .before .before .before .before .loop in
+    let b = c .before .before .before .before .before .before .before .before .before in
+    let a = b .before .before .before .before .before .before .before .before .before .before .before .before .args .a .now in (
       omega arith,
-      read-turn (λ j. holdingFrom a (6656 + j * 24)) emptyHoldings emptyHolding 2048 empty-holdings-long (w .k) (w .holdings) _ (omega arith) (w .inv .1) (g .get-holding .ensures),
-      tests-next (λ j. hasWords a (6656 + j * 24) (holdingWords (holdingFrom a (6656 + j * 24)))) (w .k) (b .both2 .result) (w .same) _ _ (w .inv .2)
-          (read-test holdingWords a (6656 + w .k * 24) _ (g .get-holding .result) _ (words .result) (c .before .has-words .ensures) (words .ensures) (g .get-holding .ensures))
-          (c .both3 .ensures),
+      read-turn (λ j. holdingFrom a (6656 + j * 24)) emptyHoldings emptyHolding 2048 empty-holdings-long (w .k) (w .holdings) _ (omega arith) (w .inv .1) (h .ensures .0),
+      tests-next (λ j. hasWords a (6656 + j * 24) (holdingWords (holdingFrom a (6656 + j * 24)))) (w .k) (b .both2 .result) (w .same) _ _ (w .inv .2) (h .ensures .1) (c .before .both3 .ensures),
     )
 
 returns : tie.Need-returns Inv-loop μ-loop
@@ -149,21 +129,21 @@ returns c =
     let b = c .before .before .before .before .before .before in
     let f = b .before .before in
     let g = f .before .before .before in
-    let l = g .before .before .before in
-    let d = l .before .before in
+    let d = g .before .before .before in
     let a = d .before .before .before .before .args .a .now in
     let e : w .k ≡ 2048 = omega arith in
     let size = d .before .before .word .ensures in
-    let delay = d .low .ensures ∙ ap low (d .before .word2 .ensures) in
-    let clock = l .low2 .ensures ∙ ap low (l .before .word3 .ensures) in
+    let delay = d .before .word2 .ensures in
+    let clock = d .word3 .ensures in
     let rows = g .before .before .get-rows .ensures in
     let slots = g .before .get-slots .ensures in
     let borders = g .get-borders .ensures in
     let begun = ap (λ (n : ℕ). not (eqb n 0)) (f .before .before .word4 .ensures) in
     let holdings = read-all (λ j. holdingFrom a (6656 + j * 24)) emptyHoldings emptyHolding 2048 empty-holdings-long (w .k) (w .holdings) e (w .inv .1) ∙ all-read a in
-    let framing = framed a _ _ _ _ _ _ size delay clock borders begun (f .is-frame .ensures) in (
+    let bytes : AllUnder 256 a = λ i. omega (arith, d .before .before .before .shared-slice-known .given i) in
+    let framing = framed (versionIn a) a _ _ _ _ _ _ size delay clock borders begun (f .is-frame .ensures) in (
       decode-state a _ size delay clock (rows .0) (slots .0) holdings borders begun (f .before .get-places .ensures),
-      exact-tests a _ _ _ _ _ _ _ (λ i. omega (arith, d .before .before .before .shared-slice-known .given i)) (omega arith) framing (rows .1) (slots .1) (all-exact a) (b .before .both .ensures) (b .both2 .ensures) (w .inv .2 ∙ rw e),
+      exact-tests (versionIn a) (word-under a 8 bytes) a _ _ _ _ _ _ _ bytes (omega arith) framing (rows .1) (slots .1) (all-exact a) (b .before .both .ensures) (b .both2 .ensures) (w .inv .2 ∙ rw e),
     )
 
 pub decode-spec : {M : Type 1} → statement M
@@ -174,9 +154,7 @@ decode-spec =
     μ-loop
     word-requires
     word-requires-2
-    low-requires
     word-requires-3
-    low-requires-2
     get-rows-requires
     get-slots-requires
     get-borders-requires
@@ -190,9 +168,6 @@ decode-spec =
     mul-at
     add-at
     get-holding-requires
-    holding-words-requires
-    slice-aggregate-has-words
-    has-words-requires
     both-requires-3
     mul-holdings
     array-set-from-holdings

@@ -5,7 +5,6 @@ use Rattle.area.proofs.get_row.Tie as tie
 use Rattle.area.proofs.get_row.Reads as reads
 use Rattle.area.proofs.get_row.Lts as lts
 use Rattle.area.proofs.condition_of.Reads as condition-of-reads
-use Rattle.area.proofs.low.Reads as low-reads
 use Rattle.words.proofs.word.Reads as word-reads
 
 word-requires : tie.Need-word-requires
@@ -32,12 +31,9 @@ word-requires-4 c κs = search needs
 condition-of-requires : tie.Need-condition-of-requires
 condition-of-requires c κs = search needs
 
-low-requires : tie.Need-low-requires
-low-requires c κs = search needs
-
 returns : tie.Need-returns
 unfolding rowFrom
-returns c = simp (c .low .ensures, c .before .condition-of .ensures, c .before .before .word4 .ensures, c .before .before .before .word3 .ensures, c .before .before .before .before .word2 .ensures, c .before .before .before .before .before .word .ensures)
+returns c = simp (c .condition-of .ensures, c .before .word4 .ensures, c .before .before .word3 .ensures, c .before .before .before .word2 .ensures, c .before .before .before .before .word .ensures)
 
 pub get-row-spec : {M : Type 1} → statement M
 get-row-spec =
@@ -51,5 +47,4 @@ get-row-spec =
     add-word-3
     word-requires-4
     condition-of-requires
-    low-requires
     returns)

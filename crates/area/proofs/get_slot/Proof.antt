@@ -5,7 +5,6 @@ use Rattle.area.proofs.get_slot.Tie as tie
 use Rattle.area.proofs.get_slot.Reads as reads
 use Rattle.area.proofs.get_slot.Lts as lts
 use Rattle.area.proofs.content_of.Reads as content-of-reads
-use Rattle.area.proofs.low.Reads as low-reads
 use Rattle.words.proofs.word.Reads as word-reads
 
 word-requires : tie.Need-word-requires
@@ -44,12 +43,9 @@ word-requires-6 c κs = search needs
 content-of-requires : tie.Need-content-of-requires
 content-of-requires c κs = search needs
 
-low-requires : tie.Need-low-requires
-low-requires c κs = search needs
-
 returns : tie.Need-returns
 unfolding slotFrom
-returns c = simp (c .low .ensures, c .before .content-of .ensures, c .before .before .word6 .ensures, c .before .before .before .word5 .ensures, c .before .before .before .before .word4 .ensures, c .before .before .before .before .before .word3 .ensures, c .before .before .before .before .before .before .word2 .ensures, c .before .before .before .before .before .before .before .word .ensures)
+returns c = simp (c .content-of .ensures, c .before .word6 .ensures, c .before .before .word5 .ensures, c .before .before .before .word4 .ensures, c .before .before .before .before .word3 .ensures, c .before .before .before .before .before .word2 .ensures, c .before .before .before .before .before .before .word .ensures)
 
 pub get-slot-spec : {M : Type 1} → statement M
 get-slot-spec =
@@ -67,5 +63,4 @@ get-slot-spec =
     add-word-5
     word-requires-6
     content-of-requires
-    low-requires
     returns)

@@ -12,15 +12,9 @@ pin-strength-requires c κs = search needs
 cast-t4 : tie.Need-cast-t4
 cast-t4 c = search needs
 
-cast-t5 : tie.Need-cast-t5
-cast-t5 c = search needs
-
-cast-t6 : tie.Need-cast-t6
-cast-t6 c = search needs
-
 returns : tie.Need-returns
 unfolding holdingWords
-returns c = simp (c .before .before .pin-strength .ensures)
+returns c = simp (c .pin-strength .ensures)
 
 pub holding-words-spec : {M : Type 1} → statement M
-holding-words-spec = tie.close (tie.spec pin-strength-requires cast-t4 cast-t5 cast-t6 returns)
+holding-words-spec = tie.close (tie.spec pin-strength-requires cast-t4 returns)

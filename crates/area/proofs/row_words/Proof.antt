@@ -7,9 +7,6 @@ use Rattle.area.proofs.row_words.Lts as lts
 use Rattle.area.proofs.cause_number.Reads as cause-number-reads
 use Rattle.model.proofs.mode_number.Reads as mode-number-reads
 
-cast-deadline : tie.Need-cast-deadline
-cast-deadline c = search needs
-
 enum-told : tie.Need-enum-told
 enum-told c = search needs
 
@@ -19,17 +16,14 @@ enum-told-2 c = search needs
 enum-known-c : tie.Need-enum-known-c
 enum-known-c c = search needs
 
-cast-t11 : tie.Need-cast-t11
-cast-t11 c = search needs
-
 enum-known-c-2 : tie.Need-enum-known-c-2
 enum-known-c-2 c = search needs
 
 mode-number-requires : tie.Need-mode-number-requires
 mode-number-requires c κs = search needs
 
-cast-t12 : tie.Need-cast-t12
-cast-t12 c = search needs
+cast-t11 : tie.Need-cast-t11
+cast-t11 c = search needs
 
 enum-known-c-3 : tie.Need-enum-known-c-3
 enum-known-c-3 c = search needs
@@ -61,14 +55,12 @@ pub row-words-spec : {M : Type 1} → statement M
 row-words-spec =
     tie.close
     (tie.spec
-    cast-deadline
     enum-told
     enum-told-2
     enum-known-c
-    cast-t11
     enum-known-c-2
     mode-number-requires
-    cast-t12
+    cast-t11
     enum-known-c-3
     cause-number-requires
     returns

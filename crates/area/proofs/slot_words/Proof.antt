@@ -6,9 +6,6 @@ use Rattle.area.proofs.slot_words.Reads as reads
 use Rattle.area.proofs.slot_words.Lts as lts
 use Rattle.area.proofs.bit.Reads as bit-reads
 
-cast-touch : tie.Need-cast-touch
-cast-touch c = search needs
-
 enum-told : tie.Need-enum-told
 enum-told c = search needs
 
@@ -21,9 +18,6 @@ bit-requires c κs = search needs
 cast-t10 : tie.Need-cast-t10
 cast-t10 c = search needs
 
-cast-t11 : tie.Need-cast-t11
-cast-t11 c = search needs
-
 returns : tie.Need-returns
 unfolding slotWords
 returns c = simp (c .enum-told .given .1)
@@ -35,4 +29,4 @@ returns-2 c = simp (c .bit .ensures, c .before .before .c .given .1)
 pub slot-words-spec : {M : Type 1} → statement M
 slot-words-spec =
     tie.close
-    (tie.spec cast-touch enum-told enum-known-c bit-requires cast-t10 cast-t11 returns returns-2)
+    (tie.spec enum-told enum-known-c bit-requires cast-t10 returns returns-2)

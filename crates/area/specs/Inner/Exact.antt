@@ -1,4 +1,4 @@
--- For the code; proved equal to `exact`, proofs/AreaSteps.antt: the test of exactness by rows, slots and holdings.
+-- For the code; proved equal to `exactAs` with the version that the area names, proofs/AreaSteps.antt: the test of exactness by rows, slots and holdings.
 use mathlib.Core.Bool.{Bool}
 use mathlib.Core.List.{List}
 use Prim.Native.Nat.{ℕ, _+_, _*_}

@@ -1,4 +1,4 @@
--- For the code; proved equal to the bytes of the changed state, proofs/Amends.antt: what a call makes of the begin orders, of the borders and of whether a row has begun written over them, and the holdings of some
+-- For the code; proved equal to the bytes of the changed state, proofs/Amends.antt: the version, and what a call makes of the begin orders, of the clock, of the borders and of whether a row has begun, written over the header, and the holdings of some
 -- rows with zeros, in all 64 slots.
 use mathlib.Core.Bool.{Bool, cond}
 use mathlib.Core.List.{List, [], _∷_}
@@ -7,7 +7,7 @@ use Rattle.words.specs.Bytes.{spliced, wordBytes, zeroWords}
 use Rattle.model.specs.declared.Setting.{Setting}
 use Rattle.model.specs.declared.Setting.the-variants.{Left, Begun, Ended, Set}
 use Rattle.model.specs.Inner.Changed.{placesAfter}
-use Rattle.area.specs.Layout.{placesBytes, placesFrom}
+use Rattle.area.specs.Layout.{version, placesBytes, placesFrom}
 
 -- the places in the begin orders
 unfoldable pub placesPut : Setting → List ℕ → List ℕ
@@ -19,6 +19,10 @@ orderPut Left a = a
 orderPut (Begun row place) a = placesPut (Begun row place) a
 orderPut (Ended row) a = placesPut (Ended row) a
 orderPut (Set first second third) a = a
+
+-- the version and the clock
+unfoldable pub headerPut : ℕ → List ℕ → List ℕ
+headerPut clock a = spliced (spliced a 8 (wordBytes (version ∷ []))) 32 (wordBytes (clock ∷ []))
 
 -- the borders, and the mark that a row has begun
 unfoldable pub settingPut : Setting → List ℕ → List ℕ

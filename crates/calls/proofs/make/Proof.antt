@@ -1,13 +1,10 @@
-use Rattle.model.proofs.Ranges.{state-ok}
+use mathlib.Core.Path.{sym, _∙_}
+use Rattle.seq.proofs.Tests.{true-false}
 use Rattle.rules.specs.Run.{outcome}
 use Rattle.calls.proofs.TagLaws.{it-reads}
-use Rattle.calls.proofs.ReplyLaws.{same-after}
 use borrow.Author.Needs.{needs}
 use Rattle.calls.proofs.make.Statement.{statement}
 use Rattle.calls.proofs.make.Tie as tie
-
-ask-requires : tie.Need-ask-requires
-ask-requires c κs = (it-reads (c .before .args .s) (c .before .args .c) (c .match .keys6) (c .before .pre .0) (c .before .pre .1) .0, c .before .pre .2)
 
 returns : tie.Need-returns
 unfolding outcome
@@ -31,14 +28,13 @@ returns-5 c = rw (c .before .before .c5 .given .1) (c .set-borders .ensures)
 
 returns-6 : tie.Need-returns-6
 returns-6 c =
-    let b = c .before .before .before .before .before in
-    let k = c .before .before .before .before .match .keys6 in
-    same-after (b .args .s) (state-ok (b .args .s) _ (b .good .0) .sized) (c .leave-holdings .result) _ _ (c .leave-holdings .ensures) (c .before .before .before .ask .ensures) (it-reads (b .args .s) (b .args .c) k (b .pre .0) (b .pre .1) .1)
+    let b = c .before .before .before .before in
+    true-false (sym (it-reads (b .args .c) (c .before .before .before .match .keys6) (b .pre .0) (b .pre .1)) ∙ b .pre .2)
 
 pub make-spec : {M : Type 1} → statement M
 make-spec =
     tie.close
     (tie.spec
     (λ c. search needs) (λ c κs. search needs) (λ c. search needs) (λ c κs. search needs) (λ c. search needs) (λ c κs. search needs)
-    (λ c. search needs) (λ c κs. search needs) (λ c. search needs) (λ c κs. search needs) ask-requires
+    (λ c. search needs) (λ c κs. search needs) (λ c. search needs) (λ c κs. search needs)
     (λ c κs. search needs) returns returns-2 returns-3 returns-4 returns-5 returns-6)

@@ -3,7 +3,7 @@ use mathlib.Core.Path.{_≡_}
 use mathlib.Core.Bool.{Bool, true, false, cond}
 use mathlib.Core.List.{List}
 use Prim.Native.Nat.{ℕ, _/_, _%_}
-use lib.Dec.{eqb}
+use lib.Dec.{eqb, ltb}
 use lib.ListN.{getD, set, replicate}
 use Rattle.seq.specs.Each.{each}
 use Rattle.model.specs.declared.Row.{Row}
@@ -79,3 +79,10 @@ outcomeOf s r = record { state = changed s (r .change); answer = r .answer }
 unfoldable pub holdingsDropped : ℕ → List Row → List Slot → List Bool → Setting → Change
 holdingsDropped clock rows slots gone setting =
     record { clock = clock; rows = rows; slots = slots; gone = gone; slot = 64; held = replicate 32 emptyHolding; setting = setting }
+
+-- how many of the slots a row loses, by its mark, and how many holdings are put on a slot
+unfoldable pub lostBy : Bool → ℕ
+lostBy gone = cond gone 64 0
+
+unfoldable pub putOn : ℕ → ℕ
+putOn slot = cond (ltb slot 64) 32 0

@@ -10,7 +10,7 @@ returns c =
     let row = c .before .before .before .before .number-at2 in
     let slot = c .before .before .before .number-at3 in
     let flag = c .before .before .number-at4 in
-    fill-back (a .list .now) (a .at) (level .result) (row .result) (slot .result) (flag .result) (level .ensures) (row .ensures) (slot .ensures) (flag .ensures) (c .number-at5 .result) (c .number-at5 .ensures) (c .before .if1 .taken)
+    fill-back (a .list .now) (a .at) (level .result) (row .result) (slot .result) (flag .result) (level .ensures .0) (row .ensures .0) (slot .ensures .0) (flag .ensures .0) (c .number-at5 .result) (c .number-at5 .ensures .0) (c .before .if1 .taken)
 
 returns-2 : tie.Need-returns-2
 returns-2 c =
@@ -19,7 +19,7 @@ returns-2 c =
     let row = c .before .before .before .number-at2 in
     let slot = c .before .before .number-at3 in
     let flag = c .before .number-at4 in
-    fill-alone (a .list .now) (a .at) (level .result) (row .result) (slot .result) (flag .result) (level .ensures) (row .ensures) (slot .ensures) (flag .ensures) (c .if1 .left)
+    fill-alone (a .list .now) (a .at) (level .result) (row .result) (slot .result) (flag .result) (level .ensures .0) (row .ensures .0) (slot .ensures .0) (flag .ensures .0) (c .if1 .left)
 
 pub fill-numbers-spec : {M : Type 1} → statement M
 fill-numbers-spec =
@@ -27,17 +27,13 @@ fill-numbers-spec =
     (tie.spec
     (λ c κs. search needs)
     (λ c. search needs)
-    (λ c. search needs)
     (λ c κs. search needs)
-    (λ c. search needs)
-    (λ c. search needs)
-    (λ c κs. search needs)
-    (λ c. search needs)
     (λ c. search needs)
     (λ c κs. search needs)
     (λ c. search needs)
     (λ c κs. search needs)
     (λ c. search needs)
+    (λ c κs. search needs)
     (λ c. search needs)
     (λ c. search needs)
     (λ c. search needs)

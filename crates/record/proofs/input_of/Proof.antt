@@ -1,5 +1,6 @@
 use Rattle.record.specs.Record.{kinds, ofKind}
 use Rattle.record.proofs.RecordLaws.{other-kind}
+use borrow.Author.Needs.{needs}
 use Rattle.record.proofs.input_of.Statement.{statement}
 use Rattle.record.proofs.input_of.Tie as tie
 
@@ -8,6 +9,8 @@ unfolding ofKind kinds
 input-of-spec =
     tie.close
     (tie.spec
+    (λ c. search needs)
+    (λ c. search needs)
     (λ c. rw (c .match .keys1))
     (λ c. rw (c .match .keys2))
     (λ c. rw (c .match .keys3))

@@ -22,7 +22,7 @@ loop-again c =
 returns : tie.Need-returns Inv-loop μ-loop
 returns c =
     let e : c .before .loop .i ≡ c .before .before .before .args .n = omega arith in
-    rw (← e) (c .before .loop .inv .1)
+    rw (← e) (c .before .loop .inv .1, c .before .loop .inv .2)
 
 pub number-at-spec : {M : Type 1} → statement M
 unfolding field bigEndian

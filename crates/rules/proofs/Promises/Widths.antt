@@ -1,4 +1,4 @@
--- Every number of a sound state fits its word where the deadlines fit 32 bits, and they stay so under calls whose numbers do.
+-- Every number of a sound state fits its word where the deadlines do, and they stay so under calls whose numbers do.
 use mathlib.Core.Path.{_≡_, refl}
 use mathlib.Core.Bool.{Bool, true, false, cond, not}
 use mathlib.Core.List.{List}
@@ -6,7 +6,7 @@ use Prim.Native.Nat.{ℕ, _+_, _*_, _/_, _%_, _<_, _≤_, _^_}
 use native.Mathlib.Omega.{arith}
 use native.Mathlib.Decide.{decLt}
 use borrow.Author.Tests.{eqb-true}
-use lib.Dec.{eqb}
+use lib.Dec.{eqb, lit<}
 use lib.ListN.{length, getD, List·getD-eq-default}
 use Rattle.seq.proofs.Tests.{and-true}
 use Rattle.seq.proofs.BelowLaws.{count-at-most}
@@ -22,9 +22,9 @@ use Rattle.model.specs.declared.Outcome.{Outcome}
 use Rattle.model.specs.declared.Row.{Row}
 use Rattle.model.specs.declared.Borders.{Borders}
 use Rattle.model.specs.declared.State.{State}
-use Rattle.model.specs.Parties.{rowOf, levelOf, areBorders}
+use Rattle.model.specs.Parties.{rowOf, levelOf, areBorders, lastClock}
 use Rattle.model.specs.State.{freeRow, emptySlot, emptyHolding, fresh, rowAt, slotAt, holdingAt, placeAt}
-use Rattle.model.specs.Words.{holds, pins, isFree}
+use Rattle.model.specs.Words.{holds, pins, isFree, isFilled, arrivalIn}
 use Rattle.model.specs.Changes.{killedRow, released, killed, cleared, rowsNotFree}
 use Rattle.model.proofs.StateLaws.{Sized, row-put, fresh-row}
 use Rattle.model.proofs.ChangeLaws.{killed-row, sized-released, sized-killed}
@@ -58,29 +58,29 @@ everywhere P l d n e z f i = elim (decLt i n) [
 
 -- ---- the deadlines
 
--- each row's deadline is an unsigned 32-bit number
+-- each row's deadline is an unsigned 64-bit number
 abbrev pub Narrow : State → Type 0
-Narrow s = (row : ℕ) → rowAt s row .deadline < 2 ^ 32
+Narrow s = (row : ℕ) → rowAt s row .deadline < 2 ^ 64
 
 pub fresh-narrow : (slots delay : ℕ) → Narrow (fresh slots delay)
 fresh-narrow slots delay row = rw (fresh-row slots delay row) (omega arith)
 
-either : (b : Bool) (x y : Row) → x .deadline < 2 ^ 32 → y .deadline < 2 ^ 32 → cond b x y .deadline < 2 ^ 32
+either : (b : Bool) (x y : Row) → x .deadline < 2 ^ 64 → y .deadline < 2 ^ 64 → cond b x y .deadline < 2 ^ 64
 either true x y h k = h
 either false x y h k = k
 
 module _ (s : State) (z : Sound s) (narrow : Narrow s) (q : ℕ) (b : q < 32) where
-  killed-narrow : (some : ℕ → Bool) (cause : Cause) (r : ℕ) → r < 32 → rowAt (killed some cause s) r .deadline < 2 ^ 32
+  killed-narrow : (some : ℕ → Bool) (cause : Cause) (r : ℕ) → r < 32 → rowAt (killed some cause s) r .deadline < 2 ^ 64
   killed-narrow some cause r h = rw (killed-row some s (z .sized) cause r h) (either (some r) (killedRow cause) (rowAt s r) (omega arith) (narrow r))
 
   -- a grant on a state with the rows that a kill left
   granted-narrow : (some : ℕ → Bool) (u : State) → Sized u → ((r : ℕ) → rowAt u r ≡ rowAt (killed some Taken s) r)
-      → (row slot : ℕ) → row < 32 → slot < 64 → (mode : Mode) (arrival : ℕ) (back : Back) → rowAt (granted u row slot mode arrival back .state) q .deadline < 2 ^ 32
+      → (row slot : ℕ) → row < 32 → slot < 64 → (mode : Mode) (arrival : ℕ) (back : Back) → rowAt (granted u row slot mode arrival back .state) q .deadline < 2 ^ 64
   granted-narrow some u y same row slot r i mode arrival back =
       rw (granted-row u y row slot r i mode arrival back q)
       (either (eqb q row) (grantedRow u row arrival) (rowAt u q) (rw (same row) (killed-narrow some Taken row r)) (rw (same q) (killed-narrow some Taken q b)))
 
-  served-narrow : (row page : ℕ) (mode : Mode) → row < 32 → (o : Outcome) → Serving s row page mode o → rowAt (o .state) q .deadline < 2 ^ 32
+  served-narrow : (row page : ℕ) (mode : Mode) → row < 32 → (o : Outcome) → Serving s row page mode o → rowAt (o .state) q .deadline < 2 ^ 64
   unfolding waiting filled cleared pinnersKilled
   served-narrow row page mode r o (waits slot e v w k) = rw (k, row-put s (z .sized) row _ q r) (either (eqb q row) _ (rowAt s q) (narrow row) (narrow q))
   served-narrow row page mode r o (waits-g e n k) = rw (k, row-put s (z .sized) row _ q r) (either (eqb q row) _ (rowAt s q) (narrow row) (narrow q))
@@ -91,8 +91,8 @@ module _ (s : State) (z : Sound s) (narrow : Narrow s) (q : ℕ) (b : q < 32) wh
       let g = filled-ground s z page slot (levelOf row) (chosen-free s row r z slot n .0) in
       rw k (granted-narrow _ _ (g .sized) (λ _. refl) row slot r (g .slot-is) mode _ _)
 
-all-narrow : (s : State) → Sized s → ((q : ℕ) → q < 32 → rowAt s q .deadline < 2 ^ 32) → Narrow s
-all-narrow s z = everywhere (λ x. x .deadline < 2 ^ 32) (s .rows) freeRow 32 (z .rows) (omega arith)
+all-narrow : (s : State) → Sized s → ((q : ℕ) → q < 32 → rowAt s q .deadline < 2 ^ 64) → Narrow s
+all-narrow s z = everywhere (λ x. x .deadline < 2 ^ 64) (s .rows) freeRow 32 (z .rows) (omega arith)
 
 -- the three steps of a tick, and each of its tries
 tried-narrow : (s : State) → Sound s → BordersSound s → Narrow s → Narrow (allTried s .state)
@@ -107,7 +107,7 @@ steps-narrow s z narrow = all-narrow (threeSteps s) (sized-killed (isLate (later
     rw (ticked-row s (z .sized) q b) (either (isLate (later s) q) (killedRow Late) (deliveredRow (s .clock + 1) (rowAt s q)) (omega arith) (narrow q)))
 
 module _ (s : State) (z : Sound s) (y : BordersSound s) (narrow : Narrow s) (q : ℕ) (b : q < 32) where
-  call-narrow : (c : Call) → Fits c → (o : Outcome) → Effect s c o → rowAt (o .state) q .deadline < 2 ^ 32
+  call-narrow : (c : Call) → Fits c → (o : Outcome) → Effect s c o → rowAt (o .state) q .deadline < 2 ^ 64
   unfolding unpinnedAt released
   call-narrow c f o (unchanged a x e) = rw e (narrow q)
   call-narrow c f o (starts slots delay k x e) = rw e (fresh-narrow slots delay q)
@@ -127,19 +127,40 @@ stays-narrow s c z f narrow =
 
 -- ---- the other numbers
 
-module _ (s : State) (z : Sound s) where
+-- each tick of a sound state is below what clock + delay is below, but for the deadlines
+module _ (s : State) (z : Sound s) (n : ℕ) (room : s .clock + s .delay < n) where
   -- a fetching row's due tick is the arrival of one of its holdings
-  due-fits : (row due deadline : ℕ) → row < 32 → Awaiting s row due deadline → due < 2 ^ 32
+  pub due-below : (row due deadline : ℕ) → row < 32 → Awaiting s row due deadline → due < n
   unfolding awaits
-  due-fits row due deadline b h =
+  due-below row due deadline b h =
       let slot = h .one .at in
       let w = and-true (pins s slot row) (eqb (holdingAt s slot row .arrival) due) (h .one .passes) in
-      omega (arith, eqb-true (holdingAt s slot row .arrival) due (w .1), z .held slot row (h .one .below) b (pin-held (holdingAt s slot row .pin) (w .0)) .arrival, z .clock-most, z .delay-most)
+      omega (arith, eqb-true (holdingAt s slot row .arrival) due (w .1), z .held slot row (h .one .below) b (pin-held (holdingAt s slot row .pin) (w .0)) .arrival)
+
+  pub touch-below : (slot : ℕ) → slot < 64 → slotAt s slot .touch < n
+  touch-below slot b = omega (arith, z .slot slot b .touch)
+
+  pub arrival-below : (slot : ℕ) → slot < 64 → isFilled (slotAt s slot .content) ≡ true → arrivalIn (slotAt s slot .content) < n
+  arrival-below slot b e = omega (arith, z .slot slot b .arrival e)
+
+  pub held-below : (slot row : ℕ) → slot < 64 → row < 32 → (holdingAt s slot row .arrival < n) × (holdingAt s slot row .touch < n)
+  held-below slot row b r = go (holds s slot row) refl
+    where
+      go : (v : Bool) → holds s slot row ≡ v → (holdingAt s slot row .arrival < n) × (holdingAt s slot row .touch < n)
+      go true e =
+          let h = z .held slot row b r e in
+          (omega (arith, h .arrival), omega (arith, h .touch, z .slot slot b .touch))
+      go false e = rw (z .unheld slot row b r e) (omega arith, omega arith)
+
+module _ (s : State) (z : Sound s) where
+  -- there is room in a word
+  word-room : s .clock + s .delay < 2 ^ 64
+  word-room = let b : lastClock + 255 < 2 ^ 64 = lit< tt in omega (arith, z .clock-most, z .delay-most)
 
   condition-fits : (row : ℕ) → row < 32 → (c : Condition) (deadline : ℕ) → RowSound s row c deadline → ConditionOk c
   condition-fits row b Free deadline h = tt
   condition-fits row b Idle deadline h = tt
-  condition-fits row b (Fetching due) deadline h = due-fits row due deadline b h
+  condition-fits row b (Fetching due) deadline h = due-below s z (2 ^ 64) word-room row due deadline b h
   condition-fits row b (Waiting page mode) deadline h = omega (arith, h .1)
   condition-fits row b (Killed cause) deadline h = tt
 
@@ -148,18 +169,12 @@ module _ (s : State) (z : Sound s) where
   content-fits slot b (Filled page arrival dirty lowest) e =
       let k = z .slot slot b in
       let p : page ≤ 4095 = rw e at (k .page (rw e)) in
-      let a : arrival ≤ s .clock + s .delay = rw e at (k .arrival (rw e)) in
+      let a : arrival < 2 ^ 64 = rw e at (arrival-below s z (2 ^ 64) word-room slot b (rw e)) in
       let l : lowest ≤ 3 = rw e at (k .lowest (rw e)) in
-      (omega arith, omega (arith, z .clock-most, z .delay-most), omega arith)
+      (omega arith, a, omega arith)
 
   holding-fits : (slot row : ℕ) → slot < 64 → row < 32 → HoldingOk (holdingAt s slot row)
-  holding-fits slot row b r = go (holds s slot row) refl
-    where
-      go : (v : Bool) → holds s slot row ≡ v → HoldingOk (holdingAt s slot row)
-      go true e =
-          let h = z .held slot row b r e in
-          record { arrival = omega (arith, h .arrival, z .clock-most, z .delay-most); touch = omega (arith, h .touch, z .slot slot b .touch, z .clock-most) }
-      go false e = rw (z .unheld slot row b r e) (record { arrival = omega arith; touch = omega arith })
+  holding-fits slot row b r = let h = held-below s z (2 ^ 64) word-room slot row b r in record { arrival = h .0; touch = h .1 }
 
 pub borders-fit : (b : Borders) → areBorders b ≡ true → BordersOk b
 borders-fit b e =
@@ -172,12 +187,12 @@ unfolding rowsNotFree
 sound-ok s e narrow = record {
   size = omega (arith, z .size-most);
   delay = omega (arith, z .delay-most);
-  clock = omega (arith, z .clock-most);
+  clock = omega (arith, word-room s z);
   sized = z .sized;
   row = everywhere RowOk (s .rows) freeRow 32 (z .sized .rows) (record { condition = tt; deadline = omega arith })
       (λ i b. record { condition = condition-fits s z i b (rowAt s i .condition) (rowAt s i .deadline) (z .row i b); deadline = narrow i });
   slot = everywhere SlotOk (s .slots) emptySlot 64 (z .sized .slots) (record { content = tt; touch = omega arith })
-      (λ i b. record { content = content-fits s z i b (slotAt s i .content) refl; touch = omega (arith, z .slot i b .touch, z .clock-most) });
+      (λ i b. record { content = content-fits s z i b (slotAt s i .content) refl; touch = touch-below s z (2 ^ 64) (word-room s z) i b });
   holding = everywhere HoldingOk (s .holdings) emptyHolding 2048 (z .sized .holdings) (record { arrival = omega arith; touch = omega arith })
       (λ k b. let n : k / 32 * 32 + k % 32 ≡ k = omega arith in rw n at (holding-fits s z (k / 32) (k % 32) (omega arith) (omega arith)));
   borders = borders-fit (s .borders) (borders-facts s e .valid);

@@ -37,11 +37,8 @@ enum-known-x-3 c = search needs
 back-number-requires-2 : tie.Need-back-number-requires-2
 back-number-requires-2 c κs = search needs
 
-cast-t23 : tie.Need-cast-t23
-cast-t23 c = search needs
-
-add-t25 : tie.Need-add-t25
-add-t25 c = omega (arith, fetch-slot _ (c .before .before .x3 .given .0 .0) _ (c .before .before .x3 .given .0 .1 .1 .0) (c .before .before .x3 .given .1) (c .before .before .before .before .pre))
+add-t24 : tie.Need-add-t24
+add-t24 c = omega (arith, fetch-slot _ (c .before .before .x3 .given .0 .0) _ (c .before .before .x3 .given .0 .1 .1 .0) (c .before .before .x3 .given .1) (c .before .before .before .before .pre))
 
 enum-told-3 : tie.Need-enum-told-3
 enum-told-3 c = search needs
@@ -55,9 +52,6 @@ enum-told-5 c = search needs
 enum-known-x-4 : tie.Need-enum-known-x-4
 enum-known-x-4 c = search needs
 
-cast-t26 : tie.Need-cast-t26
-cast-t26 c = search needs
-
 enum-told-6 : tie.Need-enum-told-6
 enum-told-6 c = search needs
 
@@ -66,9 +60,6 @@ enum-told-7 c = search needs
 
 enum-known-x-5 : tie.Need-enum-known-x-5
 enum-known-x-5 c = search needs
-
-cast-t27 : tie.Need-cast-t27
-cast-t27 c = search needs
 
 enum-told-8 : tie.Need-enum-told-8
 enum-told-8 c = search needs
@@ -85,26 +76,14 @@ enum-told-9 c = search needs
 enum-known-x-7 : tie.Need-enum-known-x-7
 enum-known-x-7 c = search needs
 
-cast-t28 : tie.Need-cast-t28
-cast-t28 c = search needs
-
 enum-known-x-8 : tie.Need-enum-known-x-8
 enum-known-x-8 c = search needs
-
-cast-t29 : tie.Need-cast-t29
-cast-t29 c = search needs
 
 enum-known-x-9 : tie.Need-enum-known-x-9
 enum-known-x-9 c = search needs
 
-cast-t30 : tie.Need-cast-t30
-cast-t30 c = search needs
-
 enum-known-x-10 : tie.Need-enum-known-x-10
 enum-known-x-10 c = search needs
-
-cast-t31 : tie.Need-cast-t31
-cast-t31 c = search needs
 
 enum-known-x-11 : tie.Need-enum-known-x-11
 enum-known-x-11 c = search needs
@@ -209,29 +188,22 @@ answer-numbers-spec =
     add-t22
     enum-known-x-3
     back-number-requires-2
-    cast-t23
-    add-t25
+    add-t24
     enum-told-3
     enum-told-4
     enum-told-5
     enum-known-x-4
-    cast-t26
     enum-told-6
     enum-told-7
     enum-known-x-5
-    cast-t27
     enum-told-8
     enum-known-x-6
     cause-word-requires
     enum-told-9
     enum-known-x-7
-    cast-t28
     enum-known-x-8
-    cast-t29
     enum-known-x-9
-    cast-t30
     enum-known-x-10
-    cast-t31
     enum-known-x-11
     enum-told-10
     returns

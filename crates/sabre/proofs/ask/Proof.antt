@@ -1,8 +1,8 @@
 use borrow.Author.Needs.{needs}
-use mathlib.Core.Path.{_≡_, _∙_}
+use mathlib.Core.Path.{_≡_, refl, _∙_}
 use mathlib.Core.Bool.{true, false}
-use Rattle.sabre.specs.Lent.{soundArea}
-use Rattle.sabre.proofs.SoundAreas.{short-unsound, long-sound}
+use Rattle.sabre.specs.Lent.{fitArea}
+use Rattle.sabre.proofs.SoundAreas.{short-unfit, long-fit}
 use Rattle.sabre.proofs.CallLaws.{reading-no-start, unfit-by, sound-state, fits-clock, answered-slot, answered, refused-1}
 use Rattle.sabre.proofs.ask.Statement.{statement}
 use Rattle.sabre.proofs.ask.Tie as tie
@@ -19,7 +19,7 @@ refuse-requires c κs = search needs
 
 returns : tie.Need-returns
 returns c =
-    let u = unfit-by (c .before .before .before .before .args .area .now) (c .before .before .before .before .args .c) false (reading-no-start (c .before .before .before .before .args .c) (c .before .before .before .before .pre)) (short-unsound (c .before .before .before .before .args .area .now) (c .before .before .if1 .taken)) in
+    let u = unfit-by (c .before .before .before .before .args .area .now) (c .before .before .before .before .args .c) false (reading-no-start (c .before .before .before .before .args .c) (c .before .before .before .before .pre)) (short-unfit (c .before .before .before .before .args .area .now) (c .before .before .if1 .taken)) in
     let p = refused-1 (c .before .before .before .before .args .area .now) (c .before .before .before .before .args .c) _ _ u (c .refuse .ensures .0) (c .refuse .ensures .1) in
     (p .returned, p .told)
 
@@ -27,10 +27,10 @@ decode-requires : tie.Need-decode-requires
 decode-requires c κs = search needs
 
 is-area-sound-requires : tie.Need-is-area-sound-requires
-is-area-sound-requires c κs = search needs
+is-area-sound-requires c κs = (c .before .before .if1 .left, c .decode .ensures .0)
 
-opened : (w : tie.After-is-area-sound) → soundArea (w .before .before .before .before .before .args .area .now) ≡ w .is-area-sound .result
-opened w = long-sound (w .before .before .before .before .before .args .area .now) _ _ (w .before .before .before .if1 .left) (w .before .decode .ensures .0) (w .before .decode .ensures .1) _ (w .is-area-sound .ensures)
+opened : (w : tie.After-is-area-sound) → fitArea (w .before .before .before .before .before .args .area .now) ≡ w .is-area-sound .result
+opened w = long-fit (w .before .before .before .before .before .args .area .now) _ _ _ (w .before .before .before .if1 .left) (w .before .decode .ensures .0) (w .before .decode .ensures .1) refl _ (w .is-area-sound .ensures)
 
 ask-requires : tie.Need-ask-requires
 ask-requires c κs = let w = c .before in

@@ -3,6 +3,7 @@ use mathlib.Core.Path.{_∙_, sym, ap}
 use borrow.Author.Needs.{needs}
 use Rattle.rules.specs.Sound.{sound}
 use Rattle.rules.specs.Tries.{waiters}
+use Rattle.area.specs.Layout.{versionIn}
 use Rattle.area.proofs.RoundTrip.{exact-long}
 use Rattle.sabre.proofs.TickLaws.{changed-waiters, filled-none, filled-all}
 use Rattle.sabre.proofs.fill.Statement.{statement}
@@ -30,7 +31,7 @@ try-rows-requires c κs =
 encode-requires : tie.Need-encode-requires
 encode-requires c κs =
     let o = c .before .before .before .before .before .before .before .before .before .before .before .before .before in
-    exact-long (o .args .area .now) (o .pre .0)
+    exact-long (versionIn (o .args .area .now)) (o .args .area .now) (o .pre .0)
 
 returns-2 : tie.Need-returns-2
 returns-2 c =

@@ -19,7 +19,7 @@ abbrev μ-loop : tie.MeasureT-loop
 
 loop-holds : tie.Need-loop-holds Inv-loop μ-loop
 unfolding allBelow
-loop-holds c = (omega arith, refl, noted-none (c .before .before .args .s .slots) (c .no-pages .result) (c .no-pages .ensures))
+loop-holds c = (omega arith, refl, noted-none (c .before .args .t1) (c .no-pages .result) (c .no-pages .ensures))
 
 array-read-taken : tie.Need-array-read-taken Inv-loop μ-loop
 array-read-taken c = omega (arith, c .before .before .before .loop .inv .2 .0, c .place-of .ensures .1)
@@ -28,7 +28,7 @@ array-write-seen : tie.Need-array-write-seen Inv-loop μ-loop
 array-write-seen c = omega (arith, c .before .before .before .loop .inv .2 .0, c .place-of .ensures .1)
 
 loop-again : tie.Need-loop-again Inv-loop μ-loop
-loop-again c = let slots = c .before .before .before .before .before .before .before .args .s .slots in
+loop-again c = let slots = c .before .before .before .before .before .before .args .t1 in
     let w = c .before .before .before .before .loop in
     let k = c .before .place-of in (
       omega arith,
@@ -37,7 +37,7 @@ loop-again c = let slots = c .before .before .before .before .before .before .be
     )
 
 returns : tie.Need-returns Inv-loop μ-loop
-returns c = let e : c .before .loop .i ≡ 64 = omega arith in c .before .loop .inv .1 ∙ ap (λ (n : ℕ). allBelow n (λ slot. not (placeTaken (c .before .before .before .before .args .s .slots) slot))) e
+returns c = let e : c .before .loop .i ≡ 64 = omega arith in c .before .loop .inv .1 ∙ ap (λ (n : ℕ). allBelow n (λ slot. not (placeTaken (c .before .before .before .args .t1) slot))) e
 
 pub are-pages-apart-spec : {M : Type 1} → statement M
 are-pages-apart-spec =

@@ -4,11 +4,9 @@ use lib.ListN.{getD}
 use native.Mathlib.Omega.{arith}
 use borrow.Author.Needs.{needs}
 use Rattle.seq.specs.Below.{allBelow}
-use Rattle.seq.proofs.BelowLaws.{all-turn, all-same}
-use Rattle.model.specs.State.{emptySlot, slotAt}
-use Rattle.rules.specs.Sound.{soundSlot}
+use Rattle.seq.proofs.BelowLaws.{all-turn}
+use Rattle.model.specs.State.{emptySlot}
 use Rattle.sound.specs.Inner.Tests.{slotTest}
-use Rattle.sound.proofs.ElementLaws.{slot-test}
 use Rattle.sound.proofs.are_slots_sound.Statement.{statement}
 use Rattle.sound.proofs.are_slots_sound.Tie as tie
 
@@ -23,23 +21,20 @@ unfolding allBelow
 loop-holds c = (omega arith, refl)
 
 loop-again : tie.Need-loop-again Inv-loop μ-loop
-loop-again c = let s = c .before .before .before .before .before .before .before .args .s in
-    let latest = c .before .before .before .before .before .before .latest-arrival .result in (
+loop-again c = let a = c .before .before .before .before .before .args in
+    let w = c .before .before .before .before .loop in (
       omega arith,
-      all-turn (λ slot. slotTest (slotAt s slot) slot (s .size) (s .clock) latest) (c .before .before .before .before .loop .i) (c .before .before .before .before .loop .ok) (c .before .is-slot-sound .result) (c .both .result) (c .before .before .before .before .loop .inv .1)
-          (c .before .is-slot-sound .ensures) (c .both .ensures),
+      all-turn (λ slot. slotTest (getD (a .t1) slot emptySlot) slot (a .size) (a .clock) (a .latest)) (w .i) (w .ok) (c .before .is-slot-sound .result) (c .both .result) (w .inv .1) (c .before .is-slot-sound .ensures) (c .both .ensures),
     )
 
 returns : tie.Need-returns Inv-loop μ-loop
-returns c = let s = c .before .before .before .before .args .s in
+returns c = let a = c .before .before .args in
     let e : c .before .loop .i ≡ 64 = omega arith in
-    let latest = c .before .before .before .latest-arrival in
-    c .before .loop .inv .1 ∙ ap (λ (n : ℕ). allBelow n (λ slot. slotTest (slotAt s slot) slot (s .size) (s .clock) (latest .result))) e
-    ∙ all-same _ (soundSlot s) 64 (λ i h. ap (λ (n : ℕ). slotTest (slotAt s i) i (s .size) (s .clock) n) (latest .ensures) ∙ slot-test s i)
+    c .before .loop .inv .1 ∙ ap (λ (n : ℕ). allBelow n (λ slot. slotTest (getD (a .t1) slot emptySlot) slot (a .size) (a .clock) (a .latest))) e
 
 pub are-slots-sound-spec : {M : Type 1} → statement M
 are-slots-sound-spec =
     tie.close
     (tie.spec
-    Inv-loop μ-loop (λ c κs. search needs) loop-holds (λ c. omega arith) (λ c. omega arith) (λ c κs. search needs) (λ c κs. search needs)
+    Inv-loop μ-loop loop-holds (λ c. omega arith) (λ c. omega arith) (λ c κs. search needs) (λ c κs. search needs)
     (λ c. omega arith) (λ c. omega arith) loop-again returns)

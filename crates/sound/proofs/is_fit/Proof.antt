@@ -25,4 +25,4 @@ unfolding fitTest
 returns-5 c = simp (c .if1 .left, ← c .before .is-pin-allowed .ensures)
 
 pub is-fit-spec : {M : Type 1} → statement M
-is-fit-spec = tie.close (tie.spec (λ c κs. search needs) returns (λ c. search needs) returns-2 returns-3 returns-4 returns-5)
+is-fit-spec = tie.close (tie.spec (λ c κs. search needs) returns returns-2 returns-3 returns-4 returns-5)

@@ -32,4 +32,4 @@ pub is-slot-sound-spec : {M : Type 1} → statement M
 is-slot-sound-spec =
     tie.close
     (tie.spec
-    (λ c. search needs) returns (λ c. search needs) returns-2 returns-3 returns-4 (λ c. search needs) returns-5 returns-6)
+    (λ c. search needs) returns (λ c. search needs) returns-2 returns-3 returns-4 returns-5 returns-6)

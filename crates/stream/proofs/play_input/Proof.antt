@@ -5,15 +5,16 @@ use borrow.Author.Needs.{needs}
 use lib.ListN.{length, take}
 use lib.Seq.{length-take-le}
 use Rattle.record.specs.declared.Progress.{Progress}
-use Rattle.record.specs.Record.{recordWidth}
+use Rattle.record.specs.Record.{longWidth}
 use Rattle.record.specs.Text.{mostText, header}
 use Rattle.stream.specs.Left.{firstFrom}
-use Rattle.stream.proofs.InputLaws.{first-from, turn-small, read-long, Reached, reached-none, reached-more, left-by, left-whole, left-none, not-last, room-left}
+use Rattle.stream.proofs.ReadLaws.{read-long}
+use Rattle.stream.proofs.InputLaws.{first-from, turn-small, Reached, reached-none, reached-more, left-by, left-whole, left-none, not-last, room-left}
 use Rattle.stream.proofs.play_input.Statement.{statement}
 use Rattle.stream.proofs.play_input.Tie as tie
 
 abbrev Inv-loop : tie.InvT-loop
-Inv-loop fd area₀ started out₀ bytes₀ progress₀ head isHeaded at₀ counter₀ area out bytes progress at counter = (counter ≤ 576460752303423488) × (length area ≡ length area₀) × (65536 ≡ length out) × (recordWidth ≡ length bytes) × (at + mostText ≤ 65536) × (progress .number ≤ counter + 1) × Reached (firstFrom started) area₀ progress area
+Inv-loop fd area₀ started out₀ bytes₀ progress₀ head isHeaded at₀ counter₀ area out bytes progress at counter = (counter ≤ 576460752303423488) × (length area ≡ length area₀) × (65536 ≡ length out) × (longWidth ≡ length bytes) × (at + mostText ≤ 65536) × (progress .number ≤ counter + 1) × Reached (firstFrom started) area₀ progress area
 
 abbrev μ-loop : tie.MeasureT-loop
 μ-loop fd area₀ started out₀ bytes₀ progress₀ head isHeaded at₀ counter₀ area out bytes progress at counter = 576460752303423488 - counter
