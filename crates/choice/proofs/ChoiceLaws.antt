@@ -1,4 +1,4 @@
--- The steps by summaries are the steps of document 01.
+-- The steps over the slots and over their summaries are the steps of document 01.
 use mathlib.Core.Path.{_≡_, refl, sym, _∙_, ap}
 use mathlib.Core.List.{List}
 use mathlib.Core.Bool.{Bool, true, false, _&&_, not}
@@ -13,43 +13,63 @@ use Rattle.seq.specs.declared.Found.the-variants.{At, Nowhere}
 use Rattle.seq.proofs.Tests.{and-true, and-when, parts}
 use Rattle.seq.proofs.PickLaws.{pick-same, picked-same}
 use Rattle.seq.proofs.EachLaws.{each-below-reached}
+use Rattle.seq.proofs.BuildLaws.{build-at}
+use Rattle.model.specs.declared.Rank.{Rank}
 use Rattle.model.specs.declared.State.{State}
 use Rattle.model.specs.Parties.{levelOf}
-use Rattle.model.specs.State.{slotAt}
-use Rattle.model.specs.Words.{isFilled, pins, seen, dormant, outranks, bestHolder, latestTouch}
+use Rattle.model.specs.State.{emptySlot, slotAt}
+use Rattle.model.specs.Words.{pins, seen, dormant, outranks, bestHolder, latestTouch}
 use Rattle.model.proofs.SeenLaws.{seen-held}
-use Rattle.rules.specs.Choice.{stepA, beforeDormant, stepB, holderLevel, heldAbove, highestLevel, pinnedAt, inC, inD, heldAtOwnLevel, seenPin, inE, inF, beforeHeld, stepHeld, chosen}
+use Rattle.rules.specs.Choice.{orElse, stepA, beforeDormant, stepB, holderLevel, heldAbove, highestLevel, pinnedAt, inC, inD, heldAtOwnLevel, seenPin, inE, inF, beforeHeld, stepHeld, chosen}
+use Rattle.choice.specs.declared.Holders.{Holders}
 use Rattle.choice.specs.declared.Summary.{Summary}
 use Rattle.choice.specs.declared.Step.{Step}
-use Rattle.choice.specs.declared.Step.the-variants.{A, B, M, C, D, E, F}
-use Rattle.choice.specs.Inner.Summary.{latestBelow, pinnedBelow, holdersAt, holdersBelow, summaryWith, summaryOf, noSummary, summariesOf}
-use Rattle.choice.specs.Inner.Search.{inStep, dormantBefore, heldBefore, stepBefore, stepFrom, topFrom, chosenFrom}
+use Rattle.choice.specs.declared.Step.the-variants.{C, D, E, F}
+use Rattle.choice.specs.Inner.Summary.{rankIn, latestBelow, pinnedBelow, noHolders, holdersAt, holdersBelow, holdersOf, pinsOf, summaryWith, noSummary, summariesIn}
+use Rattle.choice.specs.Inner.Search.{emptyIn, dormantBefore, dormantTest, dormantIn, inStep, heldBefore, stepBefore, stepFrom, topFrom, heldFrom, chosenHeld, chosenFilled}
 use Rattle.choice.proofs.BestLaws.{holders-at, held-best, held-is, above-is, beside-is, seen-pin}
 
-module _ (s : State) (me : ℕ) (most : s .size ≤ 64) where
-  summary-at : (i : ℕ) → i < s .size → getD (summariesOf s me) i noSummary ≡ summaryOf s me i
-  unfolding summariesOf
-  summary-at i h = each-below-reached (λ slot _. summaryOf s me slot) (replicate 64 noSummary) (s .size) i noSummary h (rw (length-replicate 64 noSummary) (omega arith))
+pub empty-chosen : (s : State) → emptyIn (s .slots) (s .size) ≡ stepA s
+unfolding emptyIn stepA
+empty-chosen s = refl
 
+holders-of : (s : State) (holders : List Holders) → holders ≡ holdersOf s → (i : ℕ) → i < 64 → getD holders i noHolders ≡ holdersBelow s i 32
+unfolding holdersOf
+holders-of s holders e i h = ap (λ (l : List Holders). getD l i noHolders) e ∙ build-at (λ slot. holdersBelow s slot 32) 64 noHolders i noHolders h
+
+pins-of : (s : State) (me : ℕ) (own : List Bool) → own ≡ pinsOf s me → (i : ℕ) → i < 64 → getD own i false ≡ pins s i me
+unfolding pinsOf
+pins-of s me own e i h = ap (λ (l : List Bool). getD l i false) e ∙ build-at (λ slot. pins s slot me) 64 false i false h
+
+pub dormant-chosen : (s : State) → s .size ≤ 64 → (holders : List Holders) → holders ≡ holdersOf s → dormantIn (s .slots) (s .size) holders ≡ stepB s
+unfolding dormantIn stepB dormant holdersBelow bestHolder dormantBefore beforeDormant
+dormant-chosen s most holders e = pick-same _ (dormant s) _ (beforeDormant s) (s .size) test order
+  where
+    test : (i : ℕ) → i < s .size → dormantTest (slotAt s i) (getD holders i noHolders .held) ≡ dormant s i
+    test i h =
+        ap (λ (w : Holders). dormantTest (slotAt s i) (w .held)) (holders-of s holders e i (omega arith))
+        ∙ ap (dormantTest (slotAt s i)) (held-is s i (bestHolder s i) refl)
+
+    order : (i j : ℕ) → i < s .size → j < s .size → dormantTest (slotAt s i) (getD holders i noHolders .held) ≡ true
+        → dormantTest (slotAt s j) (getD holders j noHolders .held) ≡ true → dormantBefore (slotAt s i) (slotAt s j) ≡ beforeDormant s i j
+    order i j _ _ _ _ = refl
+
+-- the summary of a slot for a requester
+unfoldable summaryOf : State → ℕ → ℕ → Summary
+summaryOf s me slot = summaryWith (slotAt s slot) (holdersBelow s slot 32) (pins s slot me) (rankIn (s .rows) (s .places) me)
+
+module _ (s : State) (me : ℕ) (m : List Summary) (summary-at : (i : ℕ) → i < s .size → getD m i noSummary ≡ summaryOf s me i) where
   -- a search over the summaries is one over the slots
   same-step : (step : Step) (top : ℕ) (p : ℕ → Bool) (q : ℕ → ℕ → Bool) → ((i : ℕ) → inStep step top (summaryOf s me i) ≡ p i)
       → ((i j : ℕ) → p i ≡ true → p j ≡ true → stepBefore step (summaryOf s me i) (summaryOf s me j) ≡ q i j)
-      → stepFrom (summariesOf s me) (s .size) step top ≡ pickBelow (s .size) p q
+      → stepFrom m (s .size) step top ≡ pickBelow (s .size) p q
   unfolding stepFrom
   same-step step top p q f g =
       pick-same _ p _ q (s .size) test
       (λ i j h k u v. rw (summary-at i h, summary-at j k) (g i j (sym (test i h) ∙ u) (sym (test j k) ∙ v)))
     where
-      test : (i : ℕ) → i < s .size → inStep step top (getD (summariesOf s me) i noSummary) ≡ p i
+      test : (i : ℕ) → i < s .size → inStep step top (getD m i noSummary) ≡ p i
       test i h = ap (inStep step top) (summary-at i h) ∙ f i
-
-  same-a : stepFrom (summariesOf s me) (s .size) A 0 ≡ stepA s
-  unfolding stepA summaryOf summaryWith
-  same-a = same-step A 0 _ (λ i j. false) (λ i. refl) (λ i j _ _. refl)
-
-  same-b : stepFrom (summariesOf s me) (s .size) B 0 ≡ stepB s
-  unfolding stepB summaryOf summaryWith holdersBelow bestHolder dormant dormantBefore beforeDormant
-  same-b = same-step B 0 (dormant s) (beforeDormant s) (λ i. ap (λ (x : Bool). isFilled (slotAt s i .content) && not x) (held-is s i (bestHolder s i) refl)) (λ i j _ _. refl)
 
   same-above : (i : ℕ) → summaryOf s me i .above ≡ heldAbove s me i
   unfolding summaryOf summaryWith holdersBelow bestHolder
@@ -67,7 +87,7 @@ module _ (s : State) (me : ℕ) (most : s .size ≤ 64) where
       go Nowhere = refl
       go (At b) = refl
 
-  same-top : topFrom (summariesOf s me) (s .size) ≡ highestLevel s me
+  same-top : topFrom m (s .size) ≡ highestLevel s me
   unfolding topFrom highestLevel stepFrom
   same-top = picked-same _ (heldAbove s me) _ (λ i j. ltb (holderLevel s j) (holderLevel s i)) _ (holderLevel s) 0 (s .size)
       (λ i h. rw (summary-at i h) (same-above i))
@@ -120,21 +140,31 @@ module _ (s : State) (me : ℕ) (most : s .size ≤ 64) where
   -- a step from c to f
   same-held : (step : Step) (p : ℕ → Bool) → ((i : ℕ) → inStep step (highestLevel s me) (summaryOf s me i) ≡ p i)
       → ((i : ℕ) → p i ≡ true → (b : ℕ) × (bestHolder s i ≡ At b)) → ((x y : Summary) → stepBefore step x y ≡ heldBefore x y)
-      → stepFrom (summariesOf s me) (s .size) step (topFrom (summariesOf s me) (s .size)) ≡ stepHeld s p
+      → stepFrom m (s .size) step (topFrom m (s .size)) ≡ stepHeld s p
   unfolding stepHeld
   same-held step p f g o = rw same-top (same-step step (highestLevel s me) p (beforeHeld s) f (λ i j u v. o (summaryOf s me i) (summaryOf s me j) ∙ same-before i j (g i u) (g j v)))
 
-  -- the choice by summaries is the choice
-  same-choice : chosenFrom (summariesOf s me) (s .size) ≡ chosen s me
-  unfolding chosenFrom chosen inC inD inE inF
+  -- steps c to f by summaries
+  same-choice : heldFrom m (s .size) ≡ chosenHeld s me
+  unfolding heldFrom chosenHeld inC inD inE inF
   same-choice = rw (
-    same-a,
-    same-b,
     same-held C (inC s me) same-c (λ i e. above-best i (search parts depth 20)) (λ x y. refl),
     same-held D (inD s me) same-d (λ i e. above-best i (search parts depth 20)) (λ x y. refl),
     same-held E (inE s me) same-e (λ i e. beside-best i (search parts depth 20)) (λ x y. refl),
     same-held F (inF s me) same-f (λ i e. beside-best i (search parts depth 20)) (λ x y. refl),
   )
 
-  pub choice-made : (m : List Summary) (f : Found) → m ≡ summariesOf s me → f ≡ chosenFrom m (s .size) → f ≡ chosen s me
-  choice-made m f e q = q ∙ ap (λ (l : List Summary). chosenFrom l (s .size)) e ∙ same-choice
+pub held-chosen : (s : State) (me : ℕ) → s .size ≤ 64 → (holders : List Holders) (own : List Bool) (requester : Rank)
+    → holders ≡ holdersOf s → own ≡ pinsOf s me → requester ≡ rankIn (s .rows) (s .places) me
+    → heldFrom (summariesIn (s .slots) (s .size) holders own requester) (s .size) ≡ chosenHeld s me
+unfolding summariesIn summaryOf
+held-chosen s me most holders own requester e o q = same-choice s me (summariesIn (s .slots) (s .size) holders own requester) summary-at
+  where
+    summary-at : (i : ℕ) → i < s .size → getD (summariesIn (s .slots) (s .size) holders own requester) i noSummary ≡ summaryOf s me i
+    summary-at i h =
+        each-below-reached (λ slot _. summaryWith (getD (s .slots) slot emptySlot) (getD holders slot noHolders) (getD own slot false) requester) (replicate 64 noSummary) (s .size) i noSummary h (rw (length-replicate 64 noSummary) (omega arith))
+        ∙ rw (holders-of s holders e i (omega arith), pins-of s me own o i (omega arith), q)
+
+pub chosen-steps : (s : State) (me : ℕ) → chosen s me ≡ orElse (stepA s) (chosenFilled s me)
+unfolding chosen chosenFilled chosenHeld
+chosen-steps s me = refl

@@ -2,7 +2,8 @@
 use mathlib.Core.Path.{_≡_, refl, sym, _∙_, ap}
 use mathlib.Core.Bool.{Bool, true, false, cond, _&&_, _||_}
 use mathlib.Core.List.{List}
-use Prim.Native.Nat.{ℕ, _+_, _<_, max}
+use Prim.Native.Nat.{ℕ, zero, suc, _+_, _<_, _≤_, max}
+use native.Mathlib.Numerals.{add-one}
 use native.Mathlib.Omega.{arith}
 use borrow.Author.Tests.{ltb-true, ltb-false, eqb-true, eq-eqb}
 use lib.Dec.{ltb, eqb}
@@ -14,17 +15,18 @@ use Rattle.seq.proofs.Tests.{true-false, not-true-false, and-false-right, or-no
 use Rattle.seq.proofs.BelowLaws.{any-more, none-any}
 use Rattle.seq.proofs.PickLaws.{pick-more, pick-is, pick-none, none-pick}
 use Rattle.seq.proofs.BuildLaws.{build-at}
+use Rattle.model.specs.declared.Holding.{Holding}
 use Rattle.model.specs.declared.Rank.{Rank}
 use Rattle.model.specs.declared.Row.{Row}
 use Rattle.model.specs.declared.State.{State}
 use Rattle.model.specs.Parties.{levelOf, better}
-use Rattle.model.specs.State.{emptySlot, slotAt, holdingAt}
+use Rattle.model.specs.State.{emptySlot, emptyHolding, holdingAt}
 use Rattle.model.specs.Words.{holds, pins, outranks}
 use Rattle.model.proofs.PinLaws.{not-pinned}
 use Rattle.model.proofs.PriorityLaws.{level-outranks}
 use Rattle.choice.specs.declared.Holders.{Holders}
 use Rattle.choice.specs.declared.Summary.{Summary}
-use Rattle.choice.specs.Inner.Summary.{noRank, rankIn, ranksOf, latestBelow, pinnedBelow, noHolders, holdersAt, holdersBelow, joinedLevel, holdersWith, summaryWith, summaryOf, noSummary}
+use Rattle.choice.specs.Inner.Summary.{noRank, rankIn, ranksOf, latestBelow, pinnedBelow, noHolders, holdersAt, holdersBelow, joinedLevel, holdersWith, holdersIn, summaryWith, noSummary}
 
 pub rank-at : (rows : List Row) (places : List ℕ) (ranks : List Rank) (row : ℕ) → ranks ≡ ranksOf rows places → row < 32 → getD ranks row noRank ≡ rankIn rows places row
 unfolding ranksOf
@@ -143,13 +145,27 @@ pub holders-none : (s : State) (slot : ℕ) → noHolders ≡ holdersBelow s slo
 unfolding holdersBelow pickBelow
 holders-none s slot = refl
 
+-- the holders from the holdings and the ranks, one row more
+module _ (held : List Holding) (ranks : List Rank) where
+  pub in-none : noHolders ≡ holdersIn held ranks 0
+  unfolding holdersIn
+  in-none = refl
+
+  in-more : (r : ℕ) → holdersIn held ranks (r + 1) ≡ holdersWith (holdersIn held ranks r) r (getD ranks r noRank) (getD held r emptyHolding)
+  unfolding holdersIn
+  in-more r = rw add-one
+
+  pub in-turn : (r : ℕ) (w v : Holders) → w ≡ holdersIn held ranks r → v ≡ holdersWith w r (getD ranks r noRank) (getD held r emptyHolding) → v ≡ holdersIn held ranks (r + 1)
+  in-turn r w v e q = rw in-more (q ∙ ap (λ (x : Holders). holdersWith x r (getD ranks r noRank) (getD held r emptyHolding)) e)
+
+pub holders-in : (s : State) (slot : ℕ) (held : List Holding) (ranks : List Rank) → ranks ≡ ranksOf (s .rows) (s .places)
+    → ((r : ℕ) → r < 32 → getD held r emptyHolding ≡ holdingAt s slot r) → (n : ℕ) → n ≤ 32 → holdersIn held ranks n ≡ holdersBelow s slot n
+holders-in s slot held ranks e h zero k = sym (in-none held ranks) ∙ holders-none s slot
+holders-in s slot held ranks e h (suc n) k = rw (← add-one)
+    (holders-turn s slot n ranks (holdersIn held ranks n) (holdersIn held ranks (n + 1)) (omega arith) e (holders-in s slot held ranks e h n (omega arith))
+    (in-more held ranks n ∙ ap (λ (x : Holding). holdersWith (holdersIn held ranks n) n (getD ranks n noRank) x) (h n (omega arith))))
+
 -- the summary of an empty slot
 pub summary-none : (w : Holders) (requester : Rank) (x : Summary) → w ≡ noHolders → x ≡ summaryWith emptySlot w false requester → x ≡ noSummary
 unfolding summaryWith
 summary-none w requester x e q = q ∙ rw e
-
--- a summary from what was gathered of the slot
-pub summary-made : (s : State) (me slot n : ℕ) (ranks : List Rank) (w : Holders) (own : Bool) (x : Summary) → me < 32 → ranks ≡ ranksOf (s .rows) (s .places) → n ≡ 32
-    → w ≡ holdersBelow s slot n → own ≡ pins s slot me → x ≡ summaryWith (slotAt s slot) w own (getD ranks me noRank) → x ≡ summaryOf s me slot
-unfolding summaryOf
-summary-made s me slot n ranks w own x h k e g o q = q ∙ rw (rank-at (s .rows) (s .places) ranks me k h, g, o, e)

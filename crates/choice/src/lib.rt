@@ -1,18 +1,17 @@
-// The search for a page and the choice of a slot, steps a to g of document 01, on a state by value.
+// The search for a page and the choice of a slot, steps a to f of document 01, on the slots and their holders by value.
 use model::Content;
 use model::Holding;
 use model::Rank;
 use model::Row;
 use model::Slot;
-use model::State;
 use seq::Found;
 ghost use mathlib.Core.Path.{_≡_};
 ghost use Prim.Native.Nat.{_<_, _≤_, max};
 ghost use Rattle.seq.specs.Below.{considered, atFound};
-ghost use Rattle.model.specs.Words.{isFilled, pageIn, dirtyIn, lowestIn, hasPage, pageSlot};
-ghost use Rattle.rules.specs.Choice.{dirtyNumber, orElse, chosen};
-ghost use Rattle.choice.specs.Inner.Summary.{ranksOf, noHolders, joinedLevel, holdersWith, summaryWith, summariesOf};
-ghost use Rattle.choice.specs.Inner.Search.{inStep, dormantBefore, higher, heldBefore, orderOf, stepBefore, stepFrom, topFrom};
+ghost use Rattle.model.specs.Words.{pageIn, dirtyIn, lowestIn, hasPage, pageSlot};
+ghost use Rattle.rules.specs.Choice.{dirtyNumber, orElse};
+ghost use Rattle.choice.specs.Inner.Summary.{ranksOf, noHolders, joinedLevel, holdersWith, holdersIn, summaryWith, summariesIn};
+ghost use Rattle.choice.specs.Inner.Search.{emptyIn, dormantBefore, dormantTest, dormantIn, inStep, higher, heldBefore, stepBefore, stepFrom, topFrom, heldFrom};
 
 // One slot more in a search: a slot that passes is taken where none was found before, or where it comes before that one.
 fn consider(passes: bool, f: Found, i: usize, before: bool) -> Found
@@ -68,51 +67,23 @@ pub struct Holders {
     pub pinned: bool,
 }
 
-// All that the choice asks of a slot. above: it is held only above the requester's level; beside: its seen holders are all of that level, none
-// better than the requester; own: the requester pins it.
+// What steps c to f ask of a slot. above: it is held only above the requester's level; beside: its seen holders are all of that level, none better
+// than the requester; own: the requester pins it.
 pub struct Summary {
     pub holders: Holders,
-    pub lowest: usize,
     pub page: u32,
-    pub touch: u64,
-    pub filled: bool,
-    pub dirty: bool,
     pub above: bool,
     pub beside: bool,
     pub own: bool,
 }
 
-// What a search over the slots is for: a step, or M, the level of steps c and d.
+// What a search over the held slots is for: a step, or M, the level of steps c and d.
 pub enum Step {
-    A,
-    B,
     M,
     C,
     D,
     E,
     F,
-}
-
-// How the slots of a step are ordered: by slot number, as dormant slots, by the level of the best holder, as held slots.
-pub enum Order {
-    Number,
-    Dormant,
-    Level,
-    Held,
-}
-
-fn order_of(step: Step) -> Order
-    ensures { λ r. ⌜ r ≡ orderOf step ⌝ }
-{
-    match step {
-        Step::A => Order::Number,
-        Step::B => Order::Dormant,
-        Step::M => Order::Level,
-        Step::C => Order::Held,
-        Step::D => Order::Held,
-        Step::E => Order::Held,
-        Step::F => Order::Held,
-    }
 }
 
 // The ranks of all rows.
@@ -166,7 +137,7 @@ fn join_level(w: Holders, row: usize, rank: Rank, touch: u64, pin: bool) -> Hold
 }
 
 // One row more among the holders of a slot. Rows come in rising order, so a holder that is not of the best one's level is of a higher one.
-fn holders_with(w: Holders, row: usize, rank: Rank, h: Holding) -> Holders
+pub fn holders_with(w: Holders, row: usize, rank: Rank, h: Holding) -> Holders
     ensures { λ r. ⌜ r ≡ holdersWith w row rank h ⌝ }
 {
     let p = h.pin;
@@ -239,19 +210,15 @@ fn summary_with(x: Slot, w: Holders, own: bool, requester: Rank) -> Summary
     let v = w.rank;
     let better = model::is_better(v, requester);
     Summary {
-        filled: model::is_filled(c),
-        page: page_in(c),
-        dirty: dirty_in(c),
-        lowest: lowest_in(c),
-        touch: x.touch,
         holders: w,
+        page: page_in(c),
         above: w.held & (requester.level < v.level),
         beside: w.held & (v.level == requester.level) & !better,
         own,
     }
 }
 
-fn no_holders() -> Holders
+pub fn no_holders() -> Holders
     ensures { λ r. ⌜ r ≡ noHolders ⌝ }
 {
     Holders {
@@ -267,16 +234,30 @@ fn no_holders() -> Holders
     }
 }
 
-// The summaries of the slots for a requester, in one pass over the holdings.
-fn summaries(s: State, me: usize) -> [Summary; 64]
-    requires { ⌜ (s .size ≤ 64) × (me < 32) ⌝ }
-    ensures { λ r. ⌜ r ≡ summariesOf s me ⌝ }
+// The holders of a slot, from its 32 holdings.
+pub fn holders_of(held: [Holding; 32], ranks: [Rank; 32]) -> Holders
+    ensures { λ r. ⌜ r ≡ holdersIn held ranks 32 ⌝ }
 {
-    let n = s.size;
-    let rows = s.rows;
-    let places = s.places;
-    let rank = ranks(rows, places);
-    let requester = rank[me];
+    let mut w = no_holders();
+    for r in 0..32usize {
+        let h = held[r];
+        let x = ranks[r];
+        w = holders_with(w, r, x, h);
+    }
+    w
+}
+
+// The summaries of the slots for a requester.
+fn summaries(
+    slots: [Slot; 64],
+    n: usize,
+    holders: [Holders; 64],
+    own: [bool; 64],
+    requester: Rank,
+) -> [Summary; 64]
+    requires { ⌜ n ≤ 64 ⌝ }
+    ensures { λ r. ⌜ r ≡ summariesIn slots n holders own requester ⌝ }
+{
     let empty = Slot {
         content: Content::Empty,
         touch: 0,
@@ -284,17 +265,9 @@ fn summaries(s: State, me: usize) -> [Summary; 64]
     let none = summary_with(empty, no_holders(), false, requester);
     let mut out = [none; 64];
     for i in 0..n {
-        let mut w = no_holders();
-        for r in 0..32usize {
-            let h = s.holdings[i * 32 + r];
-            let x = rank[r];
-            w = holders_with(w, r, x, h);
-        }
-        let g = s.holdings[i * 32 + me];
-        let p = g.pin;
-        let own = model::is_pin(p);
-        let slot = s.slots[i];
-        out[i] = summary_with(slot, w, own, requester);
+        let x = slots[i];
+        let w = holders[i];
+        out[i] = summary_with(x, w, own[i], requester);
     }
     out
 }
@@ -309,6 +282,79 @@ fn dirty_number(dirty: bool) -> u32
     0
 }
 
+// The place that was found, or 0.
+fn place_of(f: Found) -> usize
+    ensures { λ r. ⌜ r ≡ atFound f (λ i. i) 0 ⌝ }
+{
+    match f {
+        Found::Nowhere => 0,
+        Found::At(i) => i,
+    }
+}
+
+// Step a: the empty slot of the smallest number, or nowhere.
+pub fn find_empty(slots: [Slot; 64], n: usize) -> Found
+    requires { ⌜ n ≤ 64 ⌝ }
+    ensures { λ r. ⌜ r ≡ emptyIn slots n ⌝ }
+{
+    let mut f = Found::Nowhere;
+    for i in 0..n {
+        let x = slots[i];
+        let c = x.content;
+        f = consider(!model::is_filled(c), f, i, false);
+    }
+    f
+}
+
+// Of two dormant slots the first comes before the second.
+fn is_dormant_before(x: Slot, y: Slot) -> bool
+    ensures { λ r. ⌜ r ≡ dormantBefore x y ⌝ }
+{
+    let c = x.content;
+    let d = y.content;
+    let lowest = lowest_in(c);
+    let least = lowest_in(d);
+    if lowest != least {
+        return lowest < least;
+    }
+    let clean = dirty_number(dirty_in(c));
+    let other = dirty_number(dirty_in(d));
+    if clean != other {
+        return clean < other;
+    }
+    x.touch < y.touch
+}
+
+// One slot more in the search for a dormant one: the slot x, held or not, and the slot y found before.
+fn with_dormant(f: Found, i: usize, x: Slot, held: bool, y: Slot) -> Found
+    ensures { λ r. ⌜ r ≡ considered (dormantTest x held) f i (λ slot other. dormantBefore x y) ⌝ }
+{
+    let c = x.content;
+    if model::is_filled(c) {
+        if held {
+            return f;
+        }
+        return consider(true, f, i, is_dormant_before(x, y));
+    }
+    f
+}
+
+// Step b: the dormant slot that comes first, or nowhere.
+pub fn find_dormant(slots: [Slot; 64], n: usize, holders: [Holders; 64]) -> Found
+    requires { ⌜ n ≤ 64 ⌝ }
+    ensures { λ r. ⌜ r ≡ dormantIn slots n holders ⌝ }
+{
+    let mut f = Found::Nowhere;
+    for i in 0..n {
+        let x = slots[i];
+        let w = holders[i];
+        let j = place_of(f);
+        let y = slots[j];
+        f = with_dormant(f, i, x, w.held, y);
+    }
+    f
+}
+
 // The slot is in the step.
 fn is_in(step: Step, top: usize, x: Summary) -> bool
     ensures { λ r. ⌜ r ≡ inStep step top x ⌝ }
@@ -317,29 +363,12 @@ fn is_in(step: Step, top: usize, x: Summary) -> bool
     let v = w.rank;
     let above = x.above & (v.level == top);
     match step {
-        Step::A => !x.filled,
-        Step::B => x.filled & !w.held,
         Step::M => x.above,
         Step::C => above & !w.pinned,
         Step::D => above & w.pinned,
         Step::E => x.beside & !w.pinned,
         Step::F => x.beside & w.pinned & !x.own,
     }
-}
-
-// Of two dormant slots the first comes before the second.
-fn is_dormant_before(x: Summary, y: Summary) -> bool
-    ensures { λ r. ⌜ r ≡ dormantBefore x y ⌝ }
-{
-    if x.lowest != y.lowest {
-        return x.lowest < y.lowest;
-    }
-    let clean = dirty_number(x.dirty);
-    let other = dirty_number(y.dirty);
-    if clean != other {
-        return clean < other;
-    }
-    x.touch < y.touch
 }
 
 // The best holder of the first slot is of a higher level.
@@ -374,12 +403,12 @@ fn is_held_before(x: Summary, y: Summary) -> bool
 fn is_before(step: Step, x: Summary, y: Summary) -> bool
     ensures { λ r. ⌜ r ≡ stepBefore step x y ⌝ }
 {
-    let order = order_of(step);
-    match order {
-        Order::Number => false,
-        Order::Dormant => is_dormant_before(x, y),
-        Order::Level => is_higher(x, y),
-        Order::Held => is_held_before(x, y),
+    match step {
+        Step::M => is_higher(x, y),
+        Step::C => is_held_before(x, y),
+        Step::D => is_held_before(x, y),
+        Step::E => is_held_before(x, y),
+        Step::F => is_held_before(x, y),
     }
 }
 
@@ -391,16 +420,6 @@ fn with_slot(step: Step, top: usize, f: Found, i: usize, x: Summary, y: Summary)
         return consider(true, f, i, is_before(step, x, y));
     }
     f
-}
-
-// The place that was found, or 0.
-fn place_of(f: Found) -> usize
-    ensures { λ r. ⌜ r ≡ atFound f (λ i. i) 0 ⌝ }
-{
-    match f {
-        Found::Nowhere => 0,
-        Found::At(i) => i,
-    }
 }
 
 // What was found before, or else the slot of a step.
@@ -435,20 +454,20 @@ fn top_level(m: [Summary; 64], n: usize) -> usize
     v.level
 }
 
-// The slot that a requester takes for a page that is in no slot, or nowhere.
-pub fn choose(s: State, row: usize) -> Found
-    requires { ⌜ (s .size ≤ 64) × (row < 32) ⌝ }
-    ensures { λ r. ⌜ r ≡ chosen s row ⌝ }
+// Steps c to f: the held slot that a requester takes, or nowhere.
+pub fn choose_held(
+    slots: [Slot; 64],
+    n: usize,
+    holders: [Holders; 64],
+    own: [bool; 64],
+    requester: Rank,
+) -> Found
+    requires { ⌜ n ≤ 64 ⌝ }
+    ensures { λ r. ⌜ r ≡ heldFrom (summariesIn slots n holders own requester) n ⌝ }
 {
-    let n = s.size;
-    let m = summaries(s, row);
-    let a = search(Found::Nowhere, m, n, Step::A, 0);
-    let b = search(a, m, n, Step::B, 0);
-    if let Found::At(i) = b {
-        return Found::At(i);
-    }
+    let m = summaries(slots, n, holders, own, requester);
     let top = top_level(m, n);
-    let c = search(b, m, n, Step::C, top);
+    let c = search(Found::Nowhere, m, n, Step::C, top);
     let d = search(c, m, n, Step::D, top);
     let e = search(d, m, n, Step::E, top);
     search(e, m, n, Step::F, top)

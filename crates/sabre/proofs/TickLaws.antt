@@ -1,13 +1,11 @@
--- A tick on a lent area: what its steps change, and then the tries, of which there are none where no row waits.
-use mathlib.Core.Path.{_≡_, refl, _∙_, ap}
+-- A tick on a lent area: what its steps change, and then the tries.
+use mathlib.Core.Path.{_≡_, refl, sym, _∙_, ap}
 use mathlib.Core.Bool.{true, false, cond}
-use mathlib.Core.List.{List, [], _++_}
-use Prim.Native.Nat.{ℕ, zero, suc, _+_, _≤_}
+use mathlib.Core.List.{List, _++_}
+use Prim.Native.Nat.{ℕ, zero, suc, _+_, _<_, _≤_, _^_}
 use native.Mathlib.Omega.{arith}
-use lib.ListN.{take, drop}
+use lib.ListN.{getD, drop}
 use Rattle.seq.proofs.Tests.{true-false}
-use Rattle.words.specs.Bytes.{zeroWords, spliced}
-use Rattle.words.proofs.WroteLaws.{wrote-none}
 use Rattle.model.specs.Changes.{killed, released}
 use Rattle.model.specs.declared.Answer.the-variants.{Clock}
 use Rattle.model.specs.declared.Call.{Call}
@@ -16,20 +14,21 @@ use Rattle.model.specs.declared.Change.{Change}
 use Rattle.model.specs.declared.Outcome.{Outcome}
 use Rattle.model.specs.declared.Reply.{Reply}
 use Rattle.model.specs.declared.State.{State}
-use Rattle.model.specs.Inner.Changed.{placesAfter, changed, LeavesSetting, outcomeOf}
+use Rattle.model.specs.State.{freeRow}
+use Rattle.model.specs.Inner.Changed.{placesAfter, frontOf, changed, LeavesSetting, outcomeOf}
 use Rattle.rules.specs.Answers.{word, slotTold}
 use Rattle.rules.specs.Calls.{unless, threeSteps, lateKilled, deliveredRows, advanced}
 use Rattle.rules.specs.Refusals.{tickRefusal}
 use Rattle.rules.specs.Run.{outcome, fillsOf}
 use Rattle.rules.specs.Sound.{sound}
-use Rattle.rules.specs.Tries.{entries, listBytes, tries, waiters, allTried, ticked}
+use Rattle.rules.specs.Tries.{listBytes, waiters, allTried, ticked}
 use Rattle.rules.proofs.Leaves.RefusalFacts.{tick-taken}
+use Rattle.rules.proofs.Promises.Widths.{Narrow}
 use Rattle.rules.proofs.Stays.StaysSound.{steps-sound}
 use Rattle.tries.specs.Inner.Queued.{waitersIn}
 use Rattle.tries.proofs.QueueLaws.{waiters-in}
-use Rattle.tries.proofs.EntryLaws.{list-done}
-use Rattle.tries.proofs.TurnLaws.{empty-queue}
-use Rattle.area.specs.Layout.{encoded, decoded}
+use Rattle.tries.proofs.AreaLaws.{written-state, written-exact, written-rest}
+use Rattle.area.specs.Layout.{encoded, decoded, exact}
 use Rattle.sabre.specs.Lent.{isRefused, answerOn, listAfter, status, answerNumbers, unfit}
 use Rattle.sabre.proofs.CallLaws.{Promise, finished}
 
@@ -45,18 +44,31 @@ pub changed-waiters : (s : State) (c : Change) (places : List ℕ) → places �
 unfolding changed
 changed-waiters s c places e = ap (waitersIn (c .rows)) e ∙ waiters-in (changed s c)
 
-module _ (s : State) (c : Change) (a b l m : List ℕ) (e : s ≡ decoded a) where
-  abbrev pub Filled : Type 0
-  Filled = (b ≡ encoded (allTried (changed s c) .state) ++ drop 65536 a) × (m ≡ listBytes (allTried (changed s c) .fills) ++ drop 256 l)
+-- the steps of a tick written over an area
+module _ (s : State) (c : Change) (a b : List ℕ) (e : s ≡ decoded a) (z : sound (changed s c) ≡ true) (n : (row : ℕ) → getD (c .rows) row freeRow .deadline < 2 ^ 64)
+    (w : b ≡ encoded (changed (decoded a) c) ++ drop 65536 a) where
+  narrow : Narrow (changed s c)
+  unfolding changed
+  narrow = n
 
-  -- no row waits: the change alone
-  pub filled-none : (n : ℕ) (rows places : List ℕ) → places ≡ placesAfter (c .setting) (s .places) → take n rows ≡ waitersIn (c .rows) places → n ≡ 0 → b ≡ encoded (changed (decoded a) c) ++ drop 65536 a → m ≡ spliced l 0 (zeroWords 32) → Filled
-  unfolding entries
-  filled-none n rows places f w z p q =
-      rw (empty-queue (changed s c) rows n (w ∙ changed-waiters s c places f) z) (rw e p, list-done l m m [] 0 q (wrote-none m 0) (omega arith))
+  put : b ≡ encoded (changed s c) ++ drop 65536 a
+  put = rw e w
 
-  pub filled-all : (u t : State) → u ≡ changed s c → t ≡ allTried u .state → b ≡ encoded t ++ drop 65536 a → m ≡ listBytes (allTried u .fills) ++ drop 256 l → Filled
-  filled-all u t f g p q = (rw (← f, ← g) p, rw (← f) q)
+  pub put-state : decoded b ≡ changed s c
+  put-state = written-state a b (changed s c) z narrow put
+
+  pub put-exact : exact b ≡ true
+  put-exact = written-exact a b (changed s c) z narrow put
+
+  pub put-front : placesAfter (c .setting) (s .places) ≡ s .places
+      → record { size = s .size; delay = s .delay; clock = c .clock; rows = c .rows; slots = c .slots; places = s .places } ≡ frontOf (decoded b)
+  unfolding changed
+  put-front p = (λ i. record { size = s .size; delay = s .delay; clock = c .clock; rows = c .rows; slots = c .slots; places = sym p i }) ∙ ap frontOf (sym put-state)
+
+  -- and its tries
+  pub put-filled : (d l m : List ℕ) → d ≡ encoded (allTried (decoded b) .state) ++ drop 65536 b → m ≡ listBytes (allTried (decoded b) .fills) ++ drop 256 l
+      → (d ≡ encoded (allTried (changed s c) .state) ++ drop 65536 a) × (m ≡ listBytes (allTried (changed s c) .fills) ++ drop 256 l)
+  put-filled d l m p q = (rw (put-state, written-rest a b (changed s c) z narrow put) at p, rw put-state at q)
 
 -- ---- a tick
 

@@ -6,11 +6,12 @@ use model::Back;
 use model::Call;
 use model::Cause;
 use model::Change;
+use model::Front;
 use model::Reply;
 use model::State;
 ghost use mathlib.Core.Path.{_≡_};
 ghost use mathlib.Core.Bool.{true, false, cond, _&&_};
-ghost use mathlib.Core.List.{[], _∷_, _++_};
+ghost use mathlib.Core.List.{_++_};
 ghost use Prim.Native.Nat.{_≤_};
 ghost use lib.ListN.{length, drop};
 ghost use Rattle.rules.specs.Sound.{sound};
@@ -148,24 +149,27 @@ fn start(area: &mut [u8], slots: u32, delay: u64, answer: &mut [u64; 4]) -> u32
     tell(answer, Answer::Started)
 }
 
-// What the steps of a tick change is done, and each waiting row is tried: the next state written over the area, and what was filled over the list.
-// Where no row waits only the change is written.
+// What the steps of a tick change is written over the area, and each waiting row is tried on it: the next state over the area, and what was filled over
+// the list.
 fn fill(area: &mut [u8], list: &mut [u8], s: State, c: Change)
     requires { ⌜ (exactAs (versionIn (now area)) (now area) ≡ true) × (s ≡ decoded (now area)) × (sound (changed s c) ≡ true) × (256 ≤ length (now list)) × LeavesSetting s c ⌝ }
     ensures { λ _. ⌜ (now (area .exit) ≡ encoded (allTried (changed s c) .state) ++ drop 65536 (now (area .entry)))
         × (now (list .exit) ≡ listBytes (allTried (changed s c) .fills) ++ drop 256 (now (list .entry))) ⌝ }
 {
     let rows = c.rows;
+    let slots = c.slots;
     let places = s.places;
     let queue = tries::waiting_rows(rows, places);
-    if queue.count == 0 {
-        words::put_zeros(list, 0, 32);
-        area::amend(area, c);
-        return;
-    }
-    let u = model::changed_state(s, c);
-    let t = tries::try_rows(u, queue, list);
-    area::encode(area, t);
+    area::amend(area, c);
+    let f = Front {
+        size: s.size,
+        delay: s.delay,
+        clock: c.clock,
+        rows,
+        slots,
+        places,
+    };
+    tries::try_rows(area, f, queue, list);
 }
 
 // The answer of a tick told and, where it is accepted, its steps and its tries done.
@@ -226,7 +230,7 @@ pub fn make(area: &mut [u8], c: Call, answer: &mut [u64; 4]) -> u32
     let mut exact = false;
     let s = area::decode(area, &mut exact);
     if is_area_sound(area, exact, s) {
-        let r = calls::make(s, c);
+        let r = calls::make(area, s, c);
         return finish(area, answer, r);
     }
     refuse(answer)

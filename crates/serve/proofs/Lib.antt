@@ -3,3 +3,5 @@ pub mod KillLaws
 pub mod ReplyLaws
 pub mod StepLaws
 pub mod ServeLaws
+pub mod RankLaws
+pub mod LentLaws

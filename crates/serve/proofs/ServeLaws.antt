@@ -29,7 +29,8 @@ use Rattle.rules.specs.Calls.{waiting, granted, filled, writeBack, intoSlot, se
 use Rattle.rules.proofs.Leaves.PageLaws.{found-slot}
 use Rattle.serve.specs.declared.Kills.the-variants.{Pinning}
 use Rattle.serve.specs.declared.Plan.{Plan}
-use Rattle.serve.specs.Inner.SlotHoldings.{holdingsOn, marksOf}
+use Rattle.holdings.specs.Inner.OnSlot.{holdingsOn}
+use Rattle.serve.specs.Inner.SlotHoldings.{marksOf}
 use Rattle.serve.specs.Inner.Replies.{waitReply, planned, plannedFor, rowsTaken, slotFilled, granting, settled}
 use Rattle.serve.proofs.SlotLaws.{pinners-killed}
 use Rattle.serve.proofs.ReplyLaws.{leaving, taking, after-wait, after-taken, after-filled}

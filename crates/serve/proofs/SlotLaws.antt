@@ -31,7 +31,8 @@ use Rattle.choice.specs.Inner.Summary.{noRank, ranksOf}
 use Rattle.choice.proofs.SummaryLaws.{rank-at}
 use Rattle.serve.specs.declared.Kills.{Kills}
 use Rattle.serve.specs.declared.Kills.the-variants.{Pinning, Conflicting}
-use Rattle.serve.specs.Inner.SlotHoldings.{holdingsOn, heldBy, seenTest, seenIn, leastIn, seesDormantIn, killTest, marksOf, mustWaitIn}
+use Rattle.holdings.specs.Inner.OnSlot.{holdingsOn, heldBy}
+use Rattle.serve.specs.Inner.SlotHoldings.{seenTest, seenIn, leastIn, seesDormantIn, killTest, marksOf, mustWaitIn}
 
 module _ (s : State) (slot : ℕ) where
   pub held-by : (row : ℕ) → row < 32 → heldBy (holdingsOn s slot) row ≡ holdingAt s slot row

@@ -1,3 +1,4 @@
+pub mod Lent
 pub mod SlotHoldings
 pub mod Granted
 pub mod Replies

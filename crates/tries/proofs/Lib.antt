@@ -1,3 +1,4 @@
 pub mod QueueLaws
 pub mod EntryLaws
 pub mod TurnLaws
+pub mod AreaLaws

@@ -1,4 +1,4 @@
--- For the code; chosenFrom is proved equal to chosen, proofs/ChoiceLaws.antt: the steps of the choice as searches over the slots' summaries.
+-- For the code; proved equal to the steps of chosen, proofs/ChoiceLaws.antt: steps a and b as searches over the slots, steps c to f as searches over the slots' summaries.
 use mathlib.Core.Bool.{Bool, false, cond, _&&_, not}
 use mathlib.Core.List.{List}
 use Prim.Native.Nat.{ℕ}
@@ -7,19 +7,38 @@ use lib.ListN.{getD}
 use Rattle.seq.specs.Below.{pickBelow, atFound}
 use Rattle.seq.specs.Order.{lexLess}
 use Rattle.seq.specs.declared.Found.{Found}
+use Rattle.model.specs.declared.Slot.{Slot}
+use Rattle.model.specs.declared.State.{State}
 use Rattle.model.specs.Parties.{better}
-use Rattle.rules.specs.Choice.{orElse, dirtyNumber}
+use Rattle.model.specs.State.{emptySlot}
+use Rattle.model.specs.Words.{isFilled, dirtyIn, lowestIn}
+use Rattle.rules.specs.Choice.{orElse, dirtyNumber, stepB, stepHeld, inC, inD, inE, inF}
+use Rattle.choice.specs.declared.Holders.{Holders}
 use Rattle.choice.specs.declared.Summary.{Summary}
 use Rattle.choice.specs.declared.Step.{Step}
-use Rattle.choice.specs.declared.Step.the-variants.{A, B, M, C, D, E, F}
-use Rattle.choice.specs.declared.Order.{Order}
-use Rattle.choice.specs.declared.Order.the-variants.{Number, Dormant, Level, Held}
-use Rattle.choice.specs.Inner.Summary.{noSummary}
+use Rattle.choice.specs.declared.Step.the-variants.{M, C, D, E, F}
+use Rattle.choice.specs.Inner.Summary.{noHolders, noSummary}
+
+-- step a: the first empty slot among the first n
+unfoldable pub emptyIn : List Slot → ℕ → Found
+emptyIn slots n = pickBelow n (λ i. not (isFilled (getD slots i emptySlot .content))) (λ i j. false)
+
+-- step b: of the dormant slots among the first n the one that comes first, by the holders of each slot
+unfoldable pub dormantBefore : Slot → Slot → Bool
+dormantBefore x y =
+    lexLess (lowestIn (x .content)) (lowestIn (y .content))
+    (lexLess (dirtyNumber (dirtyIn (x .content))) (dirtyNumber (dirtyIn (y .content)))
+    (ltb (x .touch) (y .touch)))
+
+abbrev pub dormantTest : Slot → Bool → Bool
+dormantTest x held = isFilled (x .content) && not held
+
+unfoldable pub dormantIn : List Slot → ℕ → List Holders → Found
+dormantIn slots n holders =
+    pickBelow n (λ i. dormantTest (getD slots i emptySlot) (getD holders i noHolders .held)) (λ i j. dormantBefore (getD slots i emptySlot) (getD slots j emptySlot))
 
 -- the slots in a step, and for M those held only above the requester's level; top: the level M
 abbrev pub inStep : Step → ℕ → Summary → Bool
-inStep A top x = not (x .filled)
-inStep B top x = x .filled && not (x .holders .held)
 inStep M top x = x .above
 inStep C top x = x .above && eqb (x .holders .rank .level) top && not (x .holders .pinned)
 inStep D top x = x .above && eqb (x .holders .rank .level) top && x .holders .pinned
@@ -27,12 +46,6 @@ inStep E top x = x .beside && not (x .holders .pinned)
 inStep F top x = x .beside && x .holders .pinned && not (x .own)
 
 -- which of two of them comes before the other
-unfoldable pub dormantBefore : Summary → Summary → Bool
-dormantBefore x y =
-    lexLess (x .lowest) (y .lowest)
-    (lexLess (dirtyNumber (x .dirty)) (dirtyNumber (y .dirty))
-    (ltb (x .touch) (y .touch)))
-
 abbrev pub higher : Summary → Summary → Bool
 higher x y = ltb (y .holders .rank .level) (x .holders .rank .level)
 
@@ -42,23 +55,12 @@ heldBefore x y =
     (lexLess (x .holders .latest) (y .holders .latest) (ltb (x .page) (y .page)))
     (better (y .holders .rank) (x .holders .rank))
 
-abbrev pub orderOf : Step → Order
-orderOf A = Number
-orderOf B = Dormant
-orderOf M = Level
-orderOf C = Held
-orderOf D = Held
-orderOf E = Held
-orderOf F = Held
-
-abbrev pub orderBefore : Order → Summary → Summary → Bool
-orderBefore Number x y = false
-orderBefore Dormant x y = dormantBefore x y
-orderBefore Level x y = higher x y
-orderBefore Held x y = heldBefore x y
-
 abbrev pub stepBefore : Step → Summary → Summary → Bool
-stepBefore step x y = orderBefore (orderOf step) x y
+stepBefore M x y = higher x y
+stepBefore C x y = heldBefore x y
+stepBefore D x y = heldBefore x y
+stepBefore E x y = heldBefore x y
+stepBefore F x y = heldBefore x y
 
 -- the slot of a step among the first n
 unfoldable pub stepFrom : List Summary → ℕ → Step → ℕ → Found
@@ -69,12 +71,17 @@ stepFrom m n step top =
 unfoldable pub topFrom : List Summary → ℕ → ℕ
 topFrom m n = atFound (stepFrom m n M 0) (λ i. getD m i noSummary .holders .rank .level) 0
 
--- the steps, first that applies
-unfoldable pub chosenFrom : List Summary → ℕ → Found
-chosenFrom m n =
-    orElse (stepFrom m n A 0)
-    (orElse (stepFrom m n B 0)
-    (orElse (stepFrom m n C (topFrom m n))
+-- steps c to f, first that applies
+unfoldable pub heldFrom : List Summary → ℕ → Found
+heldFrom m n =
+    orElse (stepFrom m n C (topFrom m n))
     (orElse (stepFrom m n D (topFrom m n))
     (orElse (stepFrom m n E (topFrom m n))
-    (stepFrom m n F (topFrom m n))))))
+    (stepFrom m n F (topFrom m n))))
+
+-- steps c to f of document 01, and steps b to f
+unfoldable pub chosenHeld : State → ℕ → Found
+chosenHeld s row = orElse (stepHeld s (inC s row)) (orElse (stepHeld s (inD s row)) (orElse (stepHeld s (inE s row)) (stepHeld s (inF s row))))
+
+unfoldable pub chosenFilled : State → ℕ → Found
+chosenFilled s row = orElse (stepB s) (chosenHeld s row)

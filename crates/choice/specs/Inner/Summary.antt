@@ -1,7 +1,7 @@
 -- For the code; aboveBy and besideBy are proved equal to heldAbove and heldAtOwnLevel, proofs/BestLaws.antt: the ranks of all rows, the holders of a slot, and its summary for a requester.
 use mathlib.Core.Bool.{Bool, true, false, cond, _&&_, _||_, not}
 use mathlib.Core.List.{List}
-use Prim.Native.Nat.{ℕ, max}
+use Prim.Native.Nat.{ℕ, zero, suc, max}
 use lib.Dec.{ltb, eqb}
 use lib.ListN.{getD, replicate}
 use Rattle.seq.specs.Below.{anyBelow, pickBelow, atFound}
@@ -14,8 +14,8 @@ use Rattle.model.specs.declared.Row.{Row}
 use Rattle.model.specs.declared.Slot.{Slot}
 use Rattle.model.specs.declared.State.{State}
 use Rattle.model.specs.Parties.{levelOf, rankOf, better}
-use Rattle.model.specs.State.{freeRow, slotAt, holdingAt}
-use Rattle.model.specs.Words.{isFilled, pageIn, dirtyIn, lowestIn, isHeld, isPin, holds, pins, outranks}
+use Rattle.model.specs.State.{freeRow, emptySlot, emptyHolding, holdingAt}
+use Rattle.model.specs.Words.{pageIn, isHeld, isPin, holds, pins, outranks}
 use Rattle.choice.specs.declared.Holders.{Holders}
 use Rattle.choice.specs.declared.Summary.{Summary}
 
@@ -78,6 +78,19 @@ holdersWith w row rank h =
     (record { best = row; rank = rank; latest = h .touch; held = true; pinned = isPin (h .pin) }))
     w
 
+-- from the holdings and the ranks of the rows
+unfoldable pub holdersIn : List Holding → List Rank → ℕ → Holders
+holdersIn held ranks zero = noHolders
+holdersIn held ranks (suc row) = holdersWith (holdersIn held ranks row) row (getD ranks row noRank) (getD held row emptyHolding)
+
+-- those of all slots
+unfoldable pub holdersOf : State → List Holders
+holdersOf s = each (λ slot _. holdersBelow s slot 32) (replicate 64 noHolders)
+
+-- the slots that a row pins
+unfoldable pub pinsOf : State → ℕ → List Bool
+pinsOf s row = each (λ slot _. pins s slot row) (replicate 64 false)
+
 -- ---- a slot's summary for a requester of a rank
 -- held only above the requester's level
 abbrev pub aboveBy : Holders → Rank → Bool
@@ -88,24 +101,13 @@ abbrev pub besideBy : Holders → Rank → Bool
 besideBy w requester = w .held && eqb (w .rank .level) (requester .level) && not (better (w .rank) requester)
 
 unfoldable pub summaryWith : Slot → Holders → Bool → Rank → Summary
-summaryWith x w own requester = record {
-  holders = w;
-  lowest = lowestIn (x .content);
-  page = pageIn (x .content);
-  touch = x .touch;
-  filled = isFilled (x .content);
-  dirty = dirtyIn (x .content);
-  above = aboveBy w requester;
-  beside = besideBy w requester;
-  own = own;
-}
-
-unfoldable pub summaryOf : State → ℕ → ℕ → Summary
-summaryOf s me slot = summaryWith (slotAt s slot) (holdersBelow s slot 32) (pins s slot me) (rankIn (s .rows) (s .places) me)
+summaryWith x w own requester =
+    record { holders = w; page = pageIn (x .content); above = aboveBy w requester; beside = besideBy w requester; own = own }
 
 abbrev pub noSummary : Summary
-noSummary = record { holders = noHolders; lowest = 0; page = 0; touch = 0; filled = false; dirty = false; above = false; beside = false; own = false }
+noSummary = record { holders = noHolders; page = 0; above = false; beside = false; own = false }
 
 -- those of the slots started with
-unfoldable pub summariesOf : State → ℕ → List Summary
-summariesOf s me = eachBelow (s .size) (λ slot _. summaryOf s me slot) (replicate 64 noSummary)
+unfoldable pub summariesIn : List Slot → ℕ → List Holders → List Bool → Rank → List Summary
+summariesIn slots n holders own requester =
+    eachBelow n (λ slot _. summaryWith (getD slots slot emptySlot) (getD holders slot noHolders) (getD own slot false) requester) (replicate 64 noSummary)

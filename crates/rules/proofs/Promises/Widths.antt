@@ -94,12 +94,15 @@ module _ (s : State) (z : Sound s) (narrow : Narrow s) (q : ℕ) (b : q < 32) wh
 all-narrow : (s : State) → Sized s → ((q : ℕ) → q < 32 → rowAt s q .deadline < 2 ^ 64) → Narrow s
 all-narrow s z = everywhere (λ x. x .deadline < 2 ^ 64) (s .rows) freeRow 32 (z .rows) (omega arith)
 
+-- a request that is served
+pub narrow-served : (s : State) → Sound s → Narrow s → (row page : ℕ) (mode : Mode) → row < 32 → Sized (served s row page mode .state) → Narrow (served s row page mode .state)
+narrow-served s z narrow row page mode b k =
+    all-narrow (served s row page mode .state) k (λ q r. served-narrow s z narrow q r row page mode b (served s row page mode) (serving s row page mode))
+
 -- the three steps of a tick, and each of its tries
 tried-narrow : (s : State) → Sound s → BordersSound s → Narrow s → Narrow (allTried s .state)
 tried-narrow = by-all-tried (λ s y. Narrow s → Narrow (y .state)) (λ s n. n)
-    (λ s row page mode y z b w next more n.
-    more (all-narrow (served s row page mode .state) (next .sized)
-    (λ q r. served-narrow s z n q r row page mode b (served s row page mode) (serving s row page mode))))
+    (λ s row page mode y z b w next more n. more (narrow-served s z n row page mode b (next .sized)))
 
 steps-narrow : (s : State) → Sound s → Narrow s → Narrow (threeSteps s)
 unfolding deliveredRow lateKilled

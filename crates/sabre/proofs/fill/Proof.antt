@@ -1,48 +1,49 @@
-use native.Mathlib.Omega.{arith}
 use mathlib.Core.Path.{_∙_, sym, ap}
+use Prim.Native.Nat.{ℕ, _<_, _^_}
 use borrow.Author.Needs.{needs}
+use lib.ListN.{getD}
+use Rattle.model.specs.State.{freeRow}
+use Rattle.model.proofs.Ranges.{change-rows}
 use Rattle.rules.specs.Sound.{sound}
 use Rattle.rules.specs.Tries.{waiters}
-use Rattle.area.specs.Layout.{versionIn}
-use Rattle.area.proofs.RoundTrip.{exact-long}
-use Rattle.sabre.proofs.TickLaws.{changed-waiters, filled-none, filled-all}
+use Rattle.sabre.proofs.TickLaws.{changed-waiters, put-state, put-exact, put-front, put-filled}
 use Rattle.sabre.proofs.fill.Statement.{statement}
 use Rattle.sabre.proofs.fill.Tie as tie
 
-put-zeros-requires : tie.Need-put-zeros-requires
-put-zeros-requires c κs = omega (arith, c .before .before .before .before .before .before .before .before .pre .3)
-
-returns : tie.Need-returns
-returns c =
-    let w = c .before .before .before .before .before .before .before .before .before .before in
-    let o = w .before .before .before .before .before in
-    filled-none (o .args .s) (o .args .c) (o .args .area .now) _ (o .args .list .now) _ (o .pre .1) _ _ (o .args .s .places) (sym (o .pre .4 .2)) (w .waiting-rows .ensures .1) (c .before .before .before .before .before .before .before .before .if1 .taken) (c .before .before .amend .ensures) (c .before .before .before .before .before .before .put-zeros .ensures)
-
-changed-state-requires : tie.Need-changed-state-requires
-changed-state-requires c κs = c .before .before .before .before .before .before .before .pre .4
+amend-requires : tie.Need-amend-requires
+amend-requires c κs = c .before .before .before .before .before .before .before .pre .0
 
 try-rows-requires : tie.Need-try-rows-requires
 try-rows-requires c κs =
-    let w = c .before .before .before .before in
-    let o = w .before .before .before .before .before in
-    let u = c .before .changed-state .ensures in
-    (ap sound u ∙ o .pre .2, w .waiting-rows .ensures .0, w .waiting-rows .ensures .1 ∙ changed-waiters (o .args .s) (o .args .c) (o .args .s .places) (sym (o .pre .4 .2)) ∙ ap waiters (sym u), o .pre .3)
+    let m = c .before .before .before .before .amend in
+    let q = c .before .before .before .before .before .before .waiting-rows in
+    let o = c .before .before .before .before .before .before .before .before .before .before .before .before in
+    let n : (row : ℕ) → getD (o .args .c .rows) row freeRow .deadline < 2 ^ 64 = λ row. change-rows (o .args .c) _ (o .good .1 .1 .1 .0) row .deadline in
+    let u = put-state (o .args .s) (o .args .c) (o .args .area .now) (m .last .0) (o .pre .1) (o .pre .2) n (m .ensures) in (
+      put-exact (o .args .s) (o .args .c) (o .args .area .now) (m .last .0) (o .pre .1) (o .pre .2) n (m .ensures),
+      ap sound u ∙ o .pre .2,
+      put-front (o .args .s) (o .args .c) (o .args .area .now) (m .last .0) (o .pre .1) (o .pre .2) n (m .ensures) (o .pre .4 .2),
+      q .ensures .0,
+      q .ensures .1 ∙ changed-waiters (o .args .s) (o .args .c) (o .args .s .places) (sym (o .pre .4 .2)) ∙ ap waiters (sym u),
+      o .pre .3,
+    )
 
-encode-requires : tie.Need-encode-requires
-encode-requires c κs =
-    let o = c .before .before .before .before .before .before .before .before .before .before .before .before .before in
-    exact-long (versionIn (o .args .area .now)) (o .args .area .now) (o .pre .0)
+same-length : tie.Need-same-length
+same-length c = search needs
 
-returns-2 : tie.Need-returns-2
-returns-2 c =
-    let t = c .before .before .before .before .before .before in
-    let u = t .before .before in
-    let o = u .before .before .before .before .before .before .before .before in
-    filled-all (o .args .s) (o .args .c) (o .args .area .now) _ (o .args .list .now) _ (o .pre .1) (u .changed-state .result) (t .try-rows .result) (u .changed-state .ensures) (t .try-rows .ensures .0) (c .before .before .encode .ensures) (t .try-rows .ensures .1)
+same-length-2 : tie.Need-same-length-2
+same-length-2 c = search needs
+
+returns : tie.Need-returns
+returns c =
+    let t = c .before .before .before .before .try-rows in
+    let m = c .before .before .before .before .before .before .before .before .before .amend in
+    let o = c .before .before .before .before .before .before .before .before .before .before .before .before .before .before .before .before .before in
+    let n : (row : ℕ) → getD (o .args .c .rows) row freeRow .deadline < 2 ^ 64 = λ row. change-rows (o .args .c) _ (o .good .1 .1 .1 .0) row .deadline in
+    put-filled (o .args .s) (o .args .c) (o .args .area .now) (m .last .0) (o .pre .1) (o .pre .2) n (m .ensures) _ (o .args .list .now) _ (t .ensures .0) (t .ensures .1)
 
 pub fill-spec : {M : Type 1} → statement M
 fill-spec =
     tie.close
     (tie.spec
-    (λ c κs. search needs) put-zeros-requires (λ c κs. search needs) (λ c. search needs) (λ c. search needs) returns
-    changed-state-requires try-rows-requires encode-requires (λ c. search needs) (λ c. search needs) returns-2)
+    (λ c κs. search needs) amend-requires try-rows-requires same-length same-length-2 returns)

@@ -2,14 +2,8 @@ use borrow.Author.Needs.{needs}
 use Rattle.serve.proofs.aim.Statement.{statement}
 use Rattle.serve.proofs.aim.Tie as tie
 
-enum-known-found : tie.Need-enum-known-found
-enum-known-found c = search needs
-
-enum-told : tie.Need-enum-told
-enum-told c = search needs
-
 choose-requires : tie.Need-choose-requires
-choose-requires c κs = search needs
+choose-requires c κs = c .before .before .before .pre
 
 returns : tie.Need-returns
 returns c = rw (c .before .enum-told .given .1) (c .choose .ensures)
@@ -18,4 +12,7 @@ returns-2 : tie.Need-returns-2
 returns-2 c = rw (c .before .found .given .1)
 
 pub aim-spec : {M : Type 1} → statement M
-aim-spec = tie.close (tie.spec enum-known-found enum-told choose-requires returns returns-2)
+aim-spec =
+    tie.close
+    (tie.spec
+    (λ c. search needs) (λ c. search needs) choose-requires returns returns-2)

@@ -1,0 +1,2 @@
+-- for the code
+pub mod Inner
