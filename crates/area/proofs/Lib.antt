@@ -3,5 +3,4 @@ pub mod Elements
 pub mod Pieces
 pub mod RoundTrip
 pub mod AreaSteps
-pub mod FreshLaws
 pub mod Amends

@@ -18,10 +18,10 @@ ghost use Prim.Native.Nat.{_+_, _*_, _<_, _≤_};
 ghost use lib.ListN.{length, getD, drop, replicate};
 ghost use Rattle.words.specs.Bytes.{hasWords, spliced, joined, wordBytes};
 ghost use Rattle.model.specs.Parties.{modeOf};
-ghost use Rattle.model.specs.State.{freeRow, emptySlot, emptyHolding, fresh};
+ghost use Rattle.model.specs.State.{freeRow, emptySlot, emptyHolding};
 ghost use Rattle.model.specs.Inner.Changed.{marked, changed};
-ghost use Rattle.area.specs.Layout.{mark, bit, low, causeNumber, conditionOf, pinNumbered, contentOf, rowFrom, slotFrom, holdingFrom, bordersFrom, placesFrom, placesBytes, rowWords, slotWords, holdingWords, freeRows, emptySlots, decoded, encoded, versionIn, exactAs};
-ghost use Rattle.area.specs.Inner.Exact.{exactRows, exactSlots};
+ghost use Rattle.area.specs.Layout.{mark, bit, low, causeNumber, conditionOf, pinNumbered, contentOf, rowFrom, slotFrom, holdingFrom, bordersFrom, placesFrom, headerWords, placesBytes, rowWords, slotWords, holdingWords, freeRows, emptySlots, decoded, encoded, versionIn, exactAs};
+ghost use Rattle.area.specs.Inner.Exact.{exactRows, exactSlots, exactHoldings};
 ghost use Rattle.area.specs.Inner.Writes.{placesPut, orderPut, headerPut, settingPut, rowDropped, rowsDropped};
 
 // The rows, the slots and a holding that an area names, and whether its bytes there are exactly theirs.
@@ -427,14 +427,26 @@ fn put_slots(a: &mut [u8], slots: [Slot; 64])
     }
 }
 
-// A fresh state written over the first 65,536 bytes, of which all words but those of the header are zero; the others are left.
-pub fn encode_fresh(a: &mut [u8], s: State)
-    requires { ⌜ (65536 ≤ length (now a)) × (s ≡ fresh (s .size) (s .delay)) ⌝ }
+// The state written over the first 65,536 bytes; the others are left. The holdings are written from their place.
+pub fn encode(a: &mut [u8], s: State)
+    requires { ⌜ 65536 ≤ length (now a) ⌝ }
     ensures { λ _. ⌜ now (a .exit) ≡ encoded s ++ drop 65536 (now (a .entry)) ⌝ }
 {
     let ws = header_words(VERSION, s.size, s.delay, s.clock, s.borders, s.begun);
     words::put_words(a, 0, &ws);
-    words::put_zeros(a, 72, 8183);
+    let places = s.places;
+    put_places(a, places);
+    words::put_zeros(a, 328, 23);
+    let rows = s.rows;
+    put_rows(a, rows);
+    let slots = s.slots;
+    put_slots(a, slots);
+    for k in 0..2048usize {
+        let x = s.holdings[k];
+        let hs = holding_words(x);
+        words::put_words(a, 6656 + k * 24, &hs);
+    }
+    words::put_zeros(a, 55808, 1216);
 }
 
 // The holdings of a row go from all 64 slots.

@@ -1,6 +1,6 @@
 -- An unpin's reply, and what it says that the search finds the page or does not.
 use mathlib.Core.Path.{_≡_, refl, sym, _∙_, ap}
-use mathlib.Core.Bool.{Bool, false, cond, not}
+use mathlib.Core.Bool.{Bool, true, false, cond, not}
 use mathlib.Core.List.{List, [], _∷_}
 use Prim.Native.Nat.{ℕ, _+_, _*_, _/_, _%_, _<_, _≤_}
 use native.Mathlib.Omega.{arith}
@@ -28,7 +28,7 @@ use Rattle.model.proofs.StateLaws.{Sized}
 use Rattle.model.proofs.ChangedLaws.{held-set}
 use Rattle.rules.specs.Refusals.{firstToApply, pinsPage}
 use Rattle.rules.specs.Calls.{unless, unpinnedAt, unpinned}
-use Rattle.holdings.specs.Inner.OnSlot.{holdingsOn}
+use Rattle.serve.specs.Inner.SlotHoldings.{holdingsOn}
 use Rattle.serve.proofs.SlotLaws.{held-by}
 use Rattle.calls.proofs.RefusalLaws.{unpinFirst, unpin-last}
 

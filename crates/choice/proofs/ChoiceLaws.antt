@@ -13,7 +13,6 @@ use Rattle.seq.specs.declared.Found.the-variants.{At, Nowhere}
 use Rattle.seq.proofs.Tests.{and-true, and-when, parts}
 use Rattle.seq.proofs.PickLaws.{pick-same, picked-same}
 use Rattle.seq.proofs.EachLaws.{each-below-reached}
-use Rattle.seq.proofs.BuildLaws.{build-at}
 use Rattle.model.specs.declared.Rank.{Rank}
 use Rattle.model.specs.declared.State.{State}
 use Rattle.model.specs.Parties.{levelOf}
@@ -25,33 +24,31 @@ use Rattle.choice.specs.declared.Holders.{Holders}
 use Rattle.choice.specs.declared.Summary.{Summary}
 use Rattle.choice.specs.declared.Step.{Step}
 use Rattle.choice.specs.declared.Step.the-variants.{C, D, E, F}
-use Rattle.choice.specs.Inner.Summary.{rankIn, latestBelow, pinnedBelow, noHolders, holdersAt, holdersBelow, holdersOf, pinsOf, summaryWith, noSummary, summariesIn}
-use Rattle.choice.specs.Inner.Search.{emptyIn, dormantBefore, dormantTest, dormantIn, inStep, heldBefore, stepBefore, stepFrom, topFrom, heldFrom, chosenHeld, chosenFilled}
+use Rattle.choice.specs.Inner.Summary.{rankIn, latestBelow, pinnedBelow, noHolders, holdersAt, holdersBelow, surveyOf, summaryWith, noSummary, summariesIn}
+use Rattle.choice.specs.Inner.Search.{emptyIn, dormantBefore, dormantTest, dormantIn, inStep, heldBefore, stepBefore, stepFrom, topFrom, heldFrom, filledIn}
 use Rattle.choice.proofs.BestLaws.{holders-at, held-best, held-is, above-is, beside-is, seen-pin}
 
-pub empty-chosen : (s : State) → emptyIn (s .slots) (s .size) ≡ stepA s
-unfolding emptyIn stepA
-empty-chosen s = refl
+-- what the survey says of a slot started with
+module _ (s : State) (me : ℕ) (most : s .size ≤ 64) (i : ℕ) (h : i < s .size) where
+  survey-holders : getD (surveyOf s me .holders) i noHolders ≡ holdersBelow s i 32
+  unfolding surveyOf
+  survey-holders = each-below-reached (λ slot _. holdersBelow s slot 32) (replicate 64 noHolders) (s .size) i noHolders h (rw (length-replicate 64 noHolders) (omega arith))
 
-holders-of : (s : State) (holders : List Holders) → holders ≡ holdersOf s → (i : ℕ) → i < 64 → getD holders i noHolders ≡ holdersBelow s i 32
-unfolding holdersOf
-holders-of s holders e i h = ap (λ (l : List Holders). getD l i noHolders) e ∙ build-at (λ slot. holdersBelow s slot 32) 64 noHolders i noHolders h
+  survey-own : getD (surveyOf s me .own) i false ≡ pins s i me
+  unfolding surveyOf
+  survey-own = each-below-reached (λ slot _. pins s slot me) (replicate 64 false) (s .size) i false h (rw (length-replicate 64 false) (omega arith))
 
-pins-of : (s : State) (me : ℕ) (own : List Bool) → own ≡ pinsOf s me → (i : ℕ) → i < 64 → getD own i false ≡ pins s i me
-unfolding pinsOf
-pins-of s me own e i h = ap (λ (l : List Bool). getD l i false) e ∙ build-at (λ slot. pins s slot me) 64 false i false h
-
-pub dormant-chosen : (s : State) → s .size ≤ 64 → (holders : List Holders) → holders ≡ holdersOf s → dormantIn (s .slots) (s .size) holders ≡ stepB s
+dormant-chosen : (s : State) (me : ℕ) → s .size ≤ 64 → dormantIn (s .slots) (s .size) (surveyOf s me .holders) ≡ stepB s
 unfolding dormantIn stepB dormant holdersBelow bestHolder dormantBefore beforeDormant
-dormant-chosen s most holders e = pick-same _ (dormant s) _ (beforeDormant s) (s .size) test order
+dormant-chosen s me most = pick-same _ (dormant s) _ (beforeDormant s) (s .size) test order
   where
-    test : (i : ℕ) → i < s .size → dormantTest (slotAt s i) (getD holders i noHolders .held) ≡ dormant s i
+    test : (i : ℕ) → i < s .size → dormantTest (slotAt s i) (getD (surveyOf s me .holders) i noHolders .held) ≡ dormant s i
     test i h =
-        ap (λ (w : Holders). dormantTest (slotAt s i) (w .held)) (holders-of s holders e i (omega arith))
+        ap (λ (w : Holders). dormantTest (slotAt s i) (w .held)) (survey-holders s me most i h)
         ∙ ap (dormantTest (slotAt s i)) (held-is s i (bestHolder s i) refl)
 
-    order : (i j : ℕ) → i < s .size → j < s .size → dormantTest (slotAt s i) (getD holders i noHolders .held) ≡ true
-        → dormantTest (slotAt s j) (getD holders j noHolders .held) ≡ true → dormantBefore (slotAt s i) (slotAt s j) ≡ beforeDormant s i j
+    order : (i j : ℕ) → i < s .size → j < s .size → dormantTest (slotAt s i) (getD (surveyOf s me .holders) i noHolders .held) ≡ true
+        → dormantTest (slotAt s j) (getD (surveyOf s me .holders) j noHolders .held) ≡ true → dormantBefore (slotAt s i) (slotAt s j) ≡ beforeDormant s i j
     order i j _ _ _ _ = refl
 
 -- the summary of a slot for a requester
@@ -145,8 +142,8 @@ module _ (s : State) (me : ℕ) (m : List Summary) (summary-at : (i : ℕ) → i
   same-held step p f g o = rw same-top (same-step step (highestLevel s me) p (beforeHeld s) f (λ i j u v. o (summaryOf s me i) (summaryOf s me j) ∙ same-before i j (g i u) (g j v)))
 
   -- steps c to f by summaries
-  same-choice : heldFrom m (s .size) ≡ chosenHeld s me
-  unfolding heldFrom chosenHeld inC inD inE inF
+  same-choice : heldFrom m (s .size) ≡ orElse (stepHeld s (inC s me)) (orElse (stepHeld s (inD s me)) (orElse (stepHeld s (inE s me)) (stepHeld s (inF s me))))
+  unfolding heldFrom inC inD inE inF
   same-choice = rw (
     same-held C (inC s me) same-c (λ i e. above-best i (search parts depth 20)) (λ x y. refl),
     same-held D (inD s me) same-d (λ i e. above-best i (search parts depth 20)) (λ x y. refl),
@@ -154,17 +151,14 @@ module _ (s : State) (me : ℕ) (m : List Summary) (summary-at : (i : ℕ) → i
     same-held F (inF s me) same-f (λ i e. beside-best i (search parts depth 20)) (λ x y. refl),
   )
 
-pub held-chosen : (s : State) (me : ℕ) → s .size ≤ 64 → (holders : List Holders) (own : List Bool) (requester : Rank)
-    → holders ≡ holdersOf s → own ≡ pinsOf s me → requester ≡ rankIn (s .rows) (s .places) me
-    → heldFrom (summariesIn (s .slots) (s .size) holders own requester) (s .size) ≡ chosenHeld s me
-unfolding summariesIn summaryOf
-held-chosen s me most holders own requester e o q = same-choice s me (summariesIn (s .slots) (s .size) holders own requester) summary-at
+-- steps a to f over the slots, and over what the survey says of them
+pub choice-made : (s : State) (me : ℕ) → s .size ≤ 64 → chosen s me ≡ orElse (emptyIn (s .slots) (s .size)) (filledIn (s .slots) (s .size) (surveyOf s me))
+unfolding chosen emptyIn stepA filledIn surveyOf summariesIn summaryOf
+choice-made s me most =
+    let x = surveyOf s me in
+    rw (dormant-chosen s me most, same-choice s me (summariesIn (s .slots) (s .size) (x .holders) (x .own) (x .requester)) summary-at)
   where
-    summary-at : (i : ℕ) → i < s .size → getD (summariesIn (s .slots) (s .size) holders own requester) i noSummary ≡ summaryOf s me i
+    summary-at : (i : ℕ) → i < s .size → getD (summariesIn (s .slots) (s .size) (surveyOf s me .holders) (surveyOf s me .own) (surveyOf s me .requester)) i noSummary ≡ summaryOf s me i
     summary-at i h =
-        each-below-reached (λ slot _. summaryWith (getD (s .slots) slot emptySlot) (getD holders slot noHolders) (getD own slot false) requester) (replicate 64 noSummary) (s .size) i noSummary h (rw (length-replicate 64 noSummary) (omega arith))
-        ∙ rw (holders-of s holders e i (omega arith), pins-of s me own o i (omega arith), q)
-
-pub chosen-steps : (s : State) (me : ℕ) → chosen s me ≡ orElse (stepA s) (chosenFilled s me)
-unfolding chosen chosenFilled chosenHeld
-chosen-steps s me = refl
+        each-below-reached (λ slot _. summaryWith (getD (s .slots) slot emptySlot) (getD (surveyOf s me .holders) slot noHolders) (getD (surveyOf s me .own) slot false) (surveyOf s me .requester)) (replicate 64 noSummary) (s .size) i noSummary h (rw (length-replicate 64 noSummary) (omega arith))
+        ∙ rw (survey-holders s me most i h, survey-own s me most i h)

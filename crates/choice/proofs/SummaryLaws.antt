@@ -2,8 +2,7 @@
 use mathlib.Core.Path.{_≡_, refl, sym, _∙_, ap}
 use mathlib.Core.Bool.{Bool, true, false, cond, _&&_, _||_}
 use mathlib.Core.List.{List}
-use Prim.Native.Nat.{ℕ, zero, suc, _+_, _<_, _≤_, max}
-use native.Mathlib.Numerals.{add-one}
+use Prim.Native.Nat.{ℕ, _+_, _<_, max}
 use native.Mathlib.Omega.{arith}
 use borrow.Author.Tests.{ltb-true, ltb-false, eqb-true, eq-eqb}
 use lib.Dec.{ltb, eqb}
@@ -15,18 +14,17 @@ use Rattle.seq.proofs.Tests.{true-false, not-true-false, and-false-right, or-no
 use Rattle.seq.proofs.BelowLaws.{any-more, none-any}
 use Rattle.seq.proofs.PickLaws.{pick-more, pick-is, pick-none, none-pick}
 use Rattle.seq.proofs.BuildLaws.{build-at}
-use Rattle.model.specs.declared.Holding.{Holding}
 use Rattle.model.specs.declared.Rank.{Rank}
 use Rattle.model.specs.declared.Row.{Row}
 use Rattle.model.specs.declared.State.{State}
 use Rattle.model.specs.Parties.{levelOf, better}
-use Rattle.model.specs.State.{emptySlot, emptyHolding, holdingAt}
+use Rattle.model.specs.State.{emptySlot, holdingAt}
 use Rattle.model.specs.Words.{holds, pins, outranks}
 use Rattle.model.proofs.PinLaws.{not-pinned}
 use Rattle.model.proofs.PriorityLaws.{level-outranks}
 use Rattle.choice.specs.declared.Holders.{Holders}
 use Rattle.choice.specs.declared.Summary.{Summary}
-use Rattle.choice.specs.Inner.Summary.{noRank, rankIn, ranksOf, latestBelow, pinnedBelow, noHolders, holdersAt, holdersBelow, joinedLevel, holdersWith, holdersIn, summaryWith, noSummary}
+use Rattle.choice.specs.Inner.Summary.{noRank, rankIn, ranksOf, latestBelow, pinnedBelow, noHolders, holdersAt, holdersBelow, joinedLevel, holdersWith, summaryWith, noSummary}
 
 pub rank-at : (rows : List Row) (places : List ℕ) (ranks : List Rank) (row : ℕ) → ranks ≡ ranksOf rows places → row < 32 → getD ranks row noRank ≡ rankIn rows places row
 unfolding ranksOf
@@ -144,26 +142,6 @@ module _ (s : State) (slot r : ℕ) where
 pub holders-none : (s : State) (slot : ℕ) → noHolders ≡ holdersBelow s slot 0
 unfolding holdersBelow pickBelow
 holders-none s slot = refl
-
--- the holders from the holdings and the ranks, one row more
-module _ (held : List Holding) (ranks : List Rank) where
-  pub in-none : noHolders ≡ holdersIn held ranks 0
-  unfolding holdersIn
-  in-none = refl
-
-  in-more : (r : ℕ) → holdersIn held ranks (r + 1) ≡ holdersWith (holdersIn held ranks r) r (getD ranks r noRank) (getD held r emptyHolding)
-  unfolding holdersIn
-  in-more r = rw add-one
-
-  pub in-turn : (r : ℕ) (w v : Holders) → w ≡ holdersIn held ranks r → v ≡ holdersWith w r (getD ranks r noRank) (getD held r emptyHolding) → v ≡ holdersIn held ranks (r + 1)
-  in-turn r w v e q = rw in-more (q ∙ ap (λ (x : Holders). holdersWith x r (getD ranks r noRank) (getD held r emptyHolding)) e)
-
-pub holders-in : (s : State) (slot : ℕ) (held : List Holding) (ranks : List Rank) → ranks ≡ ranksOf (s .rows) (s .places)
-    → ((r : ℕ) → r < 32 → getD held r emptyHolding ≡ holdingAt s slot r) → (n : ℕ) → n ≤ 32 → holdersIn held ranks n ≡ holdersBelow s slot n
-holders-in s slot held ranks e h zero k = sym (in-none held ranks) ∙ holders-none s slot
-holders-in s slot held ranks e h (suc n) k = rw (← add-one)
-    (holders-turn s slot n ranks (holdersIn held ranks n) (holdersIn held ranks (n + 1)) (omega arith) e (holders-in s slot held ranks e h n (omega arith))
-    (in-more held ranks n ∙ ap (λ (x : Holding). holdersWith (holdersIn held ranks n) n (getD ranks n noRank) x) (h n (omega arith))))
 
 -- the summary of an empty slot
 pub summary-none : (w : Holders) (requester : Rank) (x : Summary) → w ≡ noHolders → x ≡ summaryWith emptySlot w false requester → x ≡ noSummary

@@ -1,17 +1,18 @@
-// The search for a page and the choice of a slot, steps a to f of document 01, on the slots and their holders by value.
+// The search for a page and the choice of a slot, steps a to g of document 01, on a state by value.
 use model::Content;
 use model::Holding;
 use model::Rank;
 use model::Row;
 use model::Slot;
+use model::State;
 use seq::Found;
 ghost use mathlib.Core.Path.{_≡_};
 ghost use Prim.Native.Nat.{_<_, _≤_, max};
 ghost use Rattle.seq.specs.Below.{considered, atFound};
 ghost use Rattle.model.specs.Words.{pageIn, dirtyIn, lowestIn, hasPage, pageSlot};
-ghost use Rattle.rules.specs.Choice.{dirtyNumber, orElse};
-ghost use Rattle.choice.specs.Inner.Summary.{ranksOf, noHolders, joinedLevel, holdersWith, holdersIn, summaryWith, summariesIn};
-ghost use Rattle.choice.specs.Inner.Search.{emptyIn, dormantBefore, dormantTest, dormantIn, inStep, higher, heldBefore, stepBefore, stepFrom, topFrom, heldFrom};
+ghost use Rattle.rules.specs.Choice.{dirtyNumber, orElse, chosen};
+ghost use Rattle.choice.specs.Inner.Summary.{ranksOf, noHolders, joinedLevel, holdersWith, surveyOf, summaryWith, summariesIn};
+ghost use Rattle.choice.specs.Inner.Search.{emptyIn, dormantBefore, dormantTest, dormantIn, inStep, higher, heldBefore, stepBefore, stepFrom, topFrom, heldFrom, filledIn};
 
 // One slot more in a search: a slot that passes is taken where none was found before, or where it comes before that one.
 fn consider(passes: bool, f: Found, i: usize, before: bool) -> Found
@@ -65,6 +66,13 @@ pub struct Holders {
     pub latest: u64,
     pub held: bool,
     pub pinned: bool,
+}
+
+// What the choice asks of the holdings for a requester: its rank, the holders of each slot, and whether the requester pins it.
+pub struct Survey {
+    pub requester: Rank,
+    pub holders: [Holders; 64],
+    pub own: [bool; 64],
 }
 
 // What steps c to f ask of a slot. above: it is held only above the requester's level; beside: its seen holders are all of that level, none better
@@ -137,7 +145,7 @@ fn join_level(w: Holders, row: usize, rank: Rank, touch: u64, pin: bool) -> Hold
 }
 
 // One row more among the holders of a slot. Rows come in rising order, so a holder that is not of the best one's level is of a higher one.
-pub fn holders_with(w: Holders, row: usize, rank: Rank, h: Holding) -> Holders
+fn holders_with(w: Holders, row: usize, rank: Rank, h: Holding) -> Holders
     ensures { λ r. ⌜ r ≡ holdersWith w row rank h ⌝ }
 {
     let p = h.pin;
@@ -218,7 +226,7 @@ fn summary_with(x: Slot, w: Holders, own: bool, requester: Rank) -> Summary
     }
 }
 
-pub fn no_holders() -> Holders
+fn no_holders() -> Holders
     ensures { λ r. ⌜ r ≡ noHolders ⌝ }
 {
     Holders {
@@ -234,17 +242,36 @@ pub fn no_holders() -> Holders
     }
 }
 
-// The holders of a slot, from its 32 holdings.
-pub fn holders_of(held: [Holding; 32], ranks: [Rank; 32]) -> Holders
-    ensures { λ r. ⌜ r ≡ holdersIn held ranks 32 ⌝ }
+// The holders of the slots and the requester's pins, in one pass over the holdings. Its loops stand together since a function that takes the state
+// copies it.
+fn survey_holdings(s: State, me: usize) -> Survey
+    requires { ⌜ (s .size ≤ 64) × (me < 32) ⌝ }
+    ensures { λ r. ⌜ r ≡ surveyOf s me ⌝ }
 {
-    let mut w = no_holders();
-    for r in 0..32usize {
-        let h = held[r];
-        let x = ranks[r];
-        w = holders_with(w, r, x, h);
+    let n = s.size;
+    let rows = s.rows;
+    let places = s.places;
+    let rank = ranks(rows, places);
+    let requester = rank[me];
+    let mut holders = [no_holders(); 64];
+    let mut own = [false; 64];
+    for i in 0..n {
+        let mut w = no_holders();
+        for r in 0..32usize {
+            let h = s.holdings[i * 32 + r];
+            let x = rank[r];
+            w = holders_with(w, r, x, h);
+        }
+        let h = s.holdings[i * 32 + me];
+        let p = h.pin;
+        holders[i] = w;
+        own[i] = model::is_pin(p);
     }
-    w
+    Survey {
+        requester,
+        holders,
+        own,
+    }
 }
 
 // The summaries of the slots for a requester.
@@ -293,7 +320,7 @@ fn place_of(f: Found) -> usize
 }
 
 // Step a: the empty slot of the smallest number, or nowhere.
-pub fn find_empty(slots: [Slot; 64], n: usize) -> Found
+fn find_empty(slots: [Slot; 64], n: usize) -> Found
     requires { ⌜ n ≤ 64 ⌝ }
     ensures { λ r. ⌜ r ≡ emptyIn slots n ⌝ }
 {
@@ -340,7 +367,7 @@ fn with_dormant(f: Found, i: usize, x: Slot, held: bool, y: Slot) -> Found
 }
 
 // Step b: the dormant slot that comes first, or nowhere.
-pub fn find_dormant(slots: [Slot; 64], n: usize, holders: [Holders; 64]) -> Found
+fn find_dormant(slots: [Slot; 64], n: usize, holders: [Holders; 64]) -> Found
     requires { ⌜ n ≤ 64 ⌝ }
     ensures { λ r. ⌜ r ≡ dormantIn slots n holders ⌝ }
 {
@@ -455,7 +482,7 @@ fn top_level(m: [Summary; 64], n: usize) -> usize
 }
 
 // Steps c to f: the held slot that a requester takes, or nowhere.
-pub fn choose_held(
+fn choose_held(
     slots: [Slot; 64],
     n: usize,
     holders: [Holders; 64],
@@ -471,4 +498,32 @@ pub fn choose_held(
     let d = search(c, m, n, Step::D, top);
     let e = search(d, m, n, Step::E, top);
     search(e, m, n, Step::F, top)
+}
+
+// Steps b to f: a dormant slot, or else a held one.
+fn choose_filled(slots: [Slot; 64], n: usize, x: Survey) -> Found
+    requires { ⌜ n ≤ 64 ⌝ }
+    ensures { λ r. ⌜ r ≡ filledIn slots n x ⌝ }
+{
+    let holders = x.holders;
+    let Found::At(i) = find_dormant(slots, n, holders) else {
+        let own = x.own;
+        let requester = x.requester;
+        return choose_held(slots, n, holders, own, requester);
+    };
+    Found::At(i)
+}
+
+// The slot that a requester takes for a page that is in no slot, or nowhere. The holdings are asked only where no slot is empty.
+pub fn choose(s: State, row: usize) -> Found
+    requires { ⌜ (s .size ≤ 64) × (row < 32) ⌝ }
+    ensures { λ r. ⌜ r ≡ chosen s row ⌝ }
+{
+    let n = s.size;
+    let slots = s.slots;
+    let Found::At(i) = find_empty(slots, n) else {
+        let x = survey_holdings(s, row);
+        return choose_filled(slots, n, x);
+    };
+    Found::At(i)
 }

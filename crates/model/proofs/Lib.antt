@@ -12,5 +12,6 @@ pub mod Ranges
 pub mod SameRows
 pub mod Releasing
 pub mod ChangedLaws
+pub mod InPlace
 pub mod PlaceLaws
 pub mod BordersLaws

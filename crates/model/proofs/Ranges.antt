@@ -18,7 +18,6 @@ use Rattle.model.specs.declared.Holding as Holding'
 use Rattle.model.specs.declared.Row as Row'
 use Rattle.model.specs.declared.Slot as Slot'
 use Rattle.model.specs.declared.Borders as Borders'
-use Rattle.model.specs.declared.Change as Change'
 use Rattle.model.specs.declared.State as State'
 use Rattle.model.proofs.StateLaws.{Sized}
 use Rattle.model.proofs.Condition
@@ -27,7 +26,6 @@ use Rattle.model.proofs.Holding
 use Rattle.model.proofs.Row
 use Rattle.model.proofs.Slot
 use Rattle.model.proofs.Borders
-use Rattle.model.proofs.Change
 use Rattle.model.proofs.State
 
 abbrev pub ConditionOk : Condition'.Condition → Type 0
@@ -117,7 +115,3 @@ state-ok s vs p = record {
   borders = borders-ok (s .borders) _ (p .1 .1 .1 .1 .1 .1 .1 .1 .1 .0);
   place = λ i. element-ok usize-field (λ n. n < 2 ^ 64) (λ x u h. h .1) 0 (lit< tt) (s .places) _ i (p .1 .1 .1 .1 .1 .1 .0 .1 .1);
 }
-
--- the rows of a change
-pub change-rows : (c : Change'.Change) (vs : List Val) → Is Change.the-row c vs → (i : ℕ) → RowOk (getD (c .rows) i freeRow)
-change-rows c vs p i = element-ok Row.the-field RowOk (λ x u. row-ok x (u ∷ [])) freeRow (record { condition = tt; deadline = lit< tt }) (c .rows) _ i (p .1 .1 .1 .0 .1 .1)

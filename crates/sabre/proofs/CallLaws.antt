@@ -49,18 +49,19 @@ use Rattle.model.specs.State.{fresh}
 use Rattle.model.specs.Inner.Changed.{changed, outcomeOf}
 use Rattle.rules.specs.Sound.{sound}
 use Rattle.rules.specs.Content.{fields, isStart, isReading}
-use Rattle.rules.specs.Answers.{word, value, slotTold, backTold}
+use Rattle.rules.specs.Answers.{word, value, slotTold, backTold, isClock}
 use Rattle.rules.specs.Refusals.{startRefusal}
 use Rattle.rules.specs.Calls.{unless, started}
 use Rattle.model.specs.declared.Call.{Call}
 use Rattle.model.specs.declared.Call.the-variants.{Start, Begin, Request, Unpin, End, Tick, Look, View, Count, Borders}
-use Rattle.rules.specs.Run.{outcome}
+use Rattle.rules.specs.Run.{outcome, fillsOf}
+use Rattle.rules.specs.Tries.{listBytes}
 use Rattle.rules.proofs.Facts.SoundFacts.{Sound, facts}
 use Rattle.rules.proofs.Promises.Granting.{grant-fetch, grant-ready}
 use Rattle.rules.proofs.Promises.CallCases.{isServed}
 use Rattle.rules.proofs.Promises.WaitFetch.{granted-alone}
 use Rattle.area.specs.Layout.{encoded, decoded, versionIn, exactAs}
-use Rattle.sabre.specs.Lent.{unfit, isRefused, answerOn, areaAfter, status, answerNumbers, fitArea}
+use Rattle.sabre.specs.Lent.{unfit, isRefused, answerOn, areaAfter, listAfter, status, answerNumbers, fitArea}
 use Rattle.sabre.proofs.SoundAreas.{fit-area}
 
 -- what is promised of a call that returns r, tells ns and leaves b
@@ -242,10 +243,19 @@ module _ (a : List ℕ) (c : Call) (s : State) (e : s ≡ decoded a) where
   amended n x r ns b u f p q t =
       finished a c n (outcomeOf (decoded a) x) r ns b u (ap (λ (t : State). outcomeOf t x) (sym e) ∙ f ∙ ap (λ (t : State). outcome t c) e) p q t
 
--- a fresh state is the one of its own numbers
-pub fresh-again : (s : State) (slots delay : ℕ) → s ≡ fresh slots delay → s ≡ fresh (s .size) (s .delay)
-unfolding fresh
-fresh-again s slots delay e = rw e
+  -- a call that answers the next state
+  pub settled : isReading c ≡ false → (o : Outcome) (r : ℕ) (ns b : List ℕ) → unfit a c ≡ false → o ≡ outcome s c → r ≡ status (o .answer) → ns ≡ answerNumbers (o .answer)
+      → b ≡ cond (isRefused (o .answer)) a (encoded (o .state) ++ drop 65536 a) → Promise a c r ns b
+  settled n o r ns b u f p q t = finished a c n o r ns b u (f ∙ ap (λ (t : State). outcome t c) e) p q t
+
+  pub listed : (o : Outcome) (l m : List ℕ) → unfit a c ≡ false → o ≡ outcome s c → m ≡ cond (isClock (o .answer)) (listBytes (fillsOf s c) ++ drop 256 l) l → m ≡ listAfter a c l
+  unfolding listAfter answerOn
+  listed o l m u f t = rw (u, ← e, ← f) t
+
+-- an area that is unfit: the list stays
+pub unfit-list : (a : List ℕ) (c : Call) (l : List ℕ) → unfit a c ≡ true → l ≡ listAfter a c l
+unfolding listAfter answerOn word
+unfit-list a c l u = rw u
 
 -- a start that is refused by its numbers, and one that is accepted
 module _ (a : List ℕ) (slots delay r : ℕ) (ns b : List ℕ) (l : 65536 ≤ length a) where

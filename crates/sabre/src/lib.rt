@@ -1,26 +1,24 @@
 // The exported calls. Each makes its call by `make`: the lent area is read, the call made on the state by value, and what it changes written over the
-// area. Look, view and count, which change nothing, go by `ask`, a start, which takes any bytes, by `start`, and a tick, which is lent a list too, by
-// `tick`.
+// area. Look, view and count, which change nothing, go by `ask`. A tick, which is lent a list too, goes by `tick`, and a start, which takes any bytes, by
+// `start`: these write the whole of the next state.
 use model::Answer;
 use model::Back;
 use model::Call;
 use model::Cause;
-use model::Change;
-use model::Front;
+use model::Outcome;
 use model::Reply;
 use model::State;
 ghost use mathlib.Core.Path.{_≡_};
 ghost use mathlib.Core.Bool.{true, false, cond, _&&_};
-ghost use mathlib.Core.List.{_++_};
+ghost use mathlib.Core.List.{[], _∷_, _++_};
 ghost use Prim.Native.Nat.{_≤_};
 ghost use lib.ListN.{length, drop};
 ghost use Rattle.rules.specs.Sound.{sound};
 ghost use Rattle.rules.specs.Content.{isTick, isReading};
-ghost use Rattle.rules.specs.Tries.{allTried, listBytes};
 ghost use Rattle.rules.specs.Answers.{causeWord, pageBack, slotTold};
 ghost use Rattle.model.specs.declared.Answer.the-variants.{Refused};
 ghost use Rattle.model.specs.declared.Call.the-variants.{Start, Begin, Request, Unpin, End, Tick, Look, View, Count, Borders};
-ghost use Rattle.model.specs.Inner.Changed.{changed, LeavesSetting};
+ghost use Rattle.model.specs.Inner.Changed.{changed};
 ghost use Rattle.area.specs.Layout.{encoded, decoded, versionIn, exactAs};
 ghost use Rattle.layout32.specs.Inner.Known.{known};
 ghost use Rattle.sabre.specs.Lent.{isRefused, answerOn, areaAfter, listAfter, status, answerNumbers};
@@ -145,49 +143,22 @@ fn start(area: &mut [u8], slots: u32, delay: u64, answer: &mut [u64; 4]) -> u32
         return tell(answer, Answer::Refused(number));
     }
     let s = model::fresh_state(slots as usize, delay);
-    area::encode_fresh(area, s);
+    area::encode(area, s);
     tell(answer, Answer::Started)
 }
 
-// What the steps of a tick change is written over the area, and each waiting row is tried on it: the next state over the area, and what was filled over
-// the list.
-fn fill(area: &mut [u8], list: &mut [u8], s: State, c: Change)
-    requires { ⌜ (exactAs (versionIn (now area)) (now area) ≡ true) × (s ≡ decoded (now area)) × (sound (changed s c) ≡ true) × (256 ≤ length (now list)) × LeavesSetting s c ⌝ }
-    ensures { λ _. ⌜ (now (area .exit) ≡ encoded (allTried (changed s c) .state) ++ drop 65536 (now (area .entry)))
-        × (now (list .exit) ≡ listBytes (allTried (changed s c) .fills) ++ drop 256 (now (list .entry))) ⌝ }
+// The answer told and, where the call is accepted, the next state written over the area.
+fn settle(area: &mut [u8], answer: &mut [u64; 4], o: Outcome) -> u32
+    requires { ⌜ (65536 ≤ length (now area)) × (slotTold (o .answer) ≤ 64) ⌝ }
+    ensures { λ n. ⌜ (n ≡ status (o .answer)) × (now (answer .exit) ≡ answerNumbers (o .answer)) × (now (area .exit) ≡ cond (isRefused (o .answer)) (now (area .entry)) (encoded (o .state) ++ drop 65536 (now (area .entry)))) ⌝ }
 {
-    let rows = c.rows;
-    let slots = c.slots;
-    let places = s.places;
-    let queue = tries::waiting_rows(rows, places);
-    area::amend(area, c);
-    let f = Front {
-        size: s.size,
-        delay: s.delay,
-        clock: c.clock,
-        rows,
-        slots,
-        places,
-    };
-    tries::try_rows(area, f, queue, list);
-}
-
-// The answer of a tick told and, where it is accepted, its steps and its tries done.
-fn finish_tick(area: &mut [u8], list: &mut [u8], answer: &mut [u64; 4], s: State, r: Reply) -> u32
-    requires { ⌜ (exactAs (versionIn (now area)) (now area) ≡ true) × (s ≡ decoded (now area)) × (slotTold (r .answer) ≤ 64)
-        × (isRefused (r .answer) ≡ false → (sound (changed s (r .change)) ≡ true) × (256 ≤ length (now list)) × LeavesSetting s (r .change)) ⌝ }
-    ensures { λ n. ⌜ (n ≡ status (r .answer)) × (now (answer .exit) ≡ answerNumbers (r .answer))
-        × (now (area .exit) ≡ cond (isRefused (r .answer)) (now (area .entry)) (encoded (allTried (changed s (r .change)) .state) ++ drop 65536 (now (area .entry))))
-        × (now (list .exit) ≡ cond (isRefused (r .answer)) (now (list .entry)) (listBytes (allTried (changed s (r .change)) .fills) ++ drop 256 (now (list .entry)))) ⌝ }
-{
-    let x = r.answer;
+    let x = o.answer;
     let n = tell(answer, x);
-    let word = answer[0];
-    if word == 0 {
+    if answer[0] == 0 {
         return n;
     }
-    let c = r.change;
-    fill(area, list, s, c);
+    let s = o.state;
+    area::encode(area, s);
     n
 }
 
@@ -205,8 +176,8 @@ pub fn tick(area: &mut [u8], list: &mut [u8], room: usize, answer: &mut [u64; 4]
     let mut exact = false;
     let s = area::decode(area, &mut exact);
     if is_area_sound(area, exact, s) {
-        let r = calls::tick(s, room);
-        return finish_tick(area, list, answer, s, r);
+        let o = calls::tick(s, room, list);
+        return settle(area, answer, o);
     }
     refuse(answer)
 }
@@ -230,7 +201,7 @@ pub fn make(area: &mut [u8], c: Call, answer: &mut [u64; 4]) -> u32
     let mut exact = false;
     let s = area::decode(area, &mut exact);
     if is_area_sound(area, exact, s) {
-        let r = calls::make(area, s, c);
+        let r = calls::make(s, c);
         return finish(area, answer, r);
     }
     refuse(answer)

@@ -3,5 +3,3 @@ pub mod KillLaws
 pub mod ReplyLaws
 pub mod StepLaws
 pub mod ServeLaws
-pub mod RankLaws
-pub mod LentLaws

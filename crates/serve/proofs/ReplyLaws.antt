@@ -26,7 +26,7 @@ use Rattle.model.proofs.StateLaws.{Sized}
 use Rattle.model.proofs.ChangedLaws.{holdings-are, held-at, held-set, changed-none}
 use Rattle.rules.specs.Calls.{waiting, granted, filled}
 use Rattle.serve.specs.Inner.Granted.{heldNow, touchedSlot, grantedRow, grantedAnswer}
-use Rattle.holdings.specs.Inner.OnSlot.{holdingsOn}
+use Rattle.serve.specs.Inner.SlotHoldings.{holdingsOn}
 use Rattle.serve.specs.Inner.Replies.{waitReply, rowsTaken, slotFilled, granting}
 use Rattle.serve.proofs.SlotLaws.{held-by, held-long}
 

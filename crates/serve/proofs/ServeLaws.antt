@@ -1,5 +1,5 @@
 -- How a request is served, from what the two searches and the functions called on the slot give.
-use mathlib.Core.Path.{_≡_, refl, sym, _∙_, ap}
+use mathlib.Core.Path.{_≡_, sym, _∙_, ap}
 use mathlib.Core.Bool.{Bool, true, false, cond}
 use mathlib.Core.List.{List}
 use Prim.Native.Nat.{ℕ, _+_, _<_, _≤_}
@@ -7,8 +7,6 @@ use native.Mathlib.Omega.{arith}
 use lib.ListN.{getD}
 use Rattle.seq.specs.declared.Found.{Found}
 use Rattle.seq.specs.declared.Found.the-variants.{At, Nowhere}
-use Rattle.seq.specs.Below.{atFound}
-use Rattle.seq.proofs.Tests.{true-false}
 use Rattle.seq.proofs.PickLaws.{pick-is}
 use Rattle.model.specs.declared.Back.the-variants.{Nothing}
 use Rattle.model.specs.declared.Cause.the-variants.{Taken}
@@ -29,9 +27,8 @@ use Rattle.rules.specs.Calls.{waiting, granted, filled, writeBack, intoSlot, se
 use Rattle.rules.proofs.Leaves.PageLaws.{found-slot}
 use Rattle.serve.specs.declared.Kills.the-variants.{Pinning}
 use Rattle.serve.specs.declared.Plan.{Plan}
-use Rattle.holdings.specs.Inner.OnSlot.{holdingsOn}
-use Rattle.serve.specs.Inner.SlotHoldings.{marksOf}
-use Rattle.serve.specs.Inner.Replies.{waitReply, planned, plannedFor, rowsTaken, slotFilled, granting, settled}
+use Rattle.serve.specs.Inner.SlotHoldings.{holdingsOn, marksOf}
+use Rattle.serve.specs.Inner.Replies.{waitReply, planned, rowsTaken, slotFilled, granting}
 use Rattle.serve.proofs.SlotLaws.{pinners-killed}
 use Rattle.serve.proofs.ReplyLaws.{leaving, taking, after-wait, after-taken, after-filled}
 use Rattle.serve.proofs.StepLaws.{plan-served}
@@ -107,30 +104,3 @@ module _ (s : State) (row page : ℕ) (mode : Mode) where
           → o ≡ granting c row mode (p .arrival) Nothing → outcomeOf s o ≡ served s row page mode
       serve-plan-grant w b left c o l t q =
           rw (serve-plan, w, q, t, l, on) (after-taken s z (p .marks) slot row mode (p .arrival) Nothing b h)
-
-    -- the slot that has the page, or else the chosen one
-    module _ (g : Found) where
-      pub aimed-at : (f : Found) (slot : ℕ) → s .size ≤ 64 → f ≡ pageSlot (s .slots) (s .size) page → g ≡ orElse f (chosen s row) → g ≡ At slot → slot < 64
-      aimed-at f slot m e k w = or-else f (chosen s row) 64 slot (found-at f slot m e) (chosen-at (chosen s row) slot m refl) (sym k ∙ w)
-
-      pub serve-nowhere : (f : Found) → f ≡ pageSlot (s .slots) (s .size) page → g ≡ orElse f (chosen s row) → g ≡ Nowhere
-          → (o : Reply) → o ≡ waitReply (s .clock) (s .rows) (s .slots) row page mode → outcomeOf s o ≡ served s row page mode
-      serve-nowhere Nowhere e k w o q = serve-wait Nowhere e refl g k w o q
-      serve-nowhere (At i) e k w o q = absurd (let z : _≡_ {A = ℕ} 1 0 = ap (λ (x : Found). atFound x (λ _. 1) 0) (sym k ∙ w) in omega arith)
-
-      module _ (slot : ℕ) (w : g ≡ At slot) (held : List Holding) (on : held ≡ holdingsOn s slot) (p : Plan) where
-        pub serve-conflict : (f : Found) → f ≡ pageSlot (s .slots) (s .size) page → g ≡ orElse f (chosen s row)
-            → p ≡ plannedFor f held (s .rows) (s .places) (slotAt s slot) row mode (s .clock + s .delay) → p .wait ≡ true
-            → (o : Reply) → o ≡ waitReply (s .clock) (s .rows) (s .slots) row page mode → outcomeOf s o ≡ served s row page mode
-        serve-conflict Nowhere e k m t o q = absurd (true-false (sym t ∙ ap (λ (x : Plan). x .wait) m))
-        serve-conflict (At i) e k m t o q = serve-plan-wait (At i) e slot (sym k ∙ w) held on p m t o q
-
-        pub serve-settled : slot < 64 → (left : List Slot) → left ≡ released (marked (p .marks)) s .slots
-            → (f : Found) → f ≡ pageSlot (s .slots) (s .size) page → g ≡ orElse f (chosen s row)
-            → p ≡ plannedFor f held (s .rows) (s .places) (slotAt s slot) row mode (s .clock + s .delay) → p .wait ≡ false
-            → (o : Reply) → o ≡ settled f (leaving s left (p .marks) slot held) row page mode (p .arrival) → outcomeOf s o ≡ served s row page mode
-        serve-settled b left l Nowhere e k m t o q =
-            serve-into Nowhere e refl g k slot w b held (p .marks) left o on (ap (λ (x : Plan). x .marks) m) l
-            (q ∙ ap (entering (leaving s left (p .marks) slot held) row page mode) (ap (λ (x : Plan). x .arrival) m))
-        serve-settled b left l (At i) e k m t o q =
-            serve-plan-grant (At i) e slot (sym k ∙ w) held on p m t b left (rowsTaken (leaving s left (p .marks) slot held)) o l refl q

@@ -2,17 +2,18 @@
 use mathlib.Core.Path.{_≡_, refl, sym, _∙_, ap}
 use mathlib.Core.Bool.{Bool, true, false, _&&_}
 use mathlib.Core.List.{List}
-use Prim.Native.Nat.{ℕ, _<_}
+use Prim.Native.Nat.{ℕ, _+_, _<_}
 use native.Mathlib.Omega.{arith}
 use borrow.Author.Tests.{le-leb, eq-eqb}
 use lib.Dec.{leb, ltb, eqb}
-use lib.ListN.{length, getD, replicate, length-replicate}
+use lib.ListN.{length, getD, set, replicate, length-replicate}
 use Rattle.seq.specs.Below.{anyBelow}
+use Rattle.seq.specs.Each.{eachBelow}
 use Rattle.seq.proofs.Tests.{and-false-right}
 use Rattle.seq.proofs.BelowLaws.{any-same}
 use Rattle.seq.proofs.PickLaws.{picked-same}
-use Rattle.seq.proofs.EachLaws.{each-length}
-use Rattle.seq.proofs.BuildLaws.{build-at}
+use Rattle.seq.proofs.EachLaws.{each-length, each-below-none}
+use Rattle.seq.proofs.BuildLaws.{build-turn, build-all, build-at}
 use Rattle.model.specs.declared.Cause.the-variants.{Taken}
 use Rattle.model.specs.declared.Holding.{Holding}
 use Rattle.model.specs.declared.Mode.{Mode}
@@ -31,10 +32,23 @@ use Rattle.choice.specs.Inner.Summary.{noRank, ranksOf}
 use Rattle.choice.proofs.SummaryLaws.{rank-at}
 use Rattle.serve.specs.declared.Kills.{Kills}
 use Rattle.serve.specs.declared.Kills.the-variants.{Pinning, Conflicting}
-use Rattle.holdings.specs.Inner.OnSlot.{holdingsOn, heldBy}
-use Rattle.serve.specs.Inner.SlotHoldings.{seenTest, seenIn, leastIn, seesDormantIn, killTest, marksOf, mustWaitIn}
+use Rattle.serve.specs.Inner.SlotHoldings.{holdingsOn, heldBy, seenTest, seenIn, leastIn, seesDormantIn, killTest, marksOf, mustWaitIn}
 
 module _ (s : State) (slot : ℕ) where
+  -- the holdings of the slot read one row after another
+  abbrev pub Read : ℕ → List Holding → Type 0
+  Read r held = held ≡ eachBelow r (λ row _. holdingAt s slot row) (replicate 32 emptyHolding)
+
+  pub read-none : (held : List Holding) → held ≡ replicate 32 emptyHolding → Read 0 held
+  read-none held e = e ∙ each-below-none (λ row _. holdingAt s slot row) (replicate 32 emptyHolding)
+
+  pub read-turn : (r : ℕ) (held : List Holding) → r < 32 → Read r held → Read (r + 1) (set held r (holdingAt s slot r))
+  read-turn r held h e = build-turn (holdingAt s slot) 32 emptyHolding r held (holdingAt s slot r) h e refl
+
+  pub read-all : (r : ℕ) (held : List Holding) → r ≡ 32 → Read r held → held ≡ holdingsOn s slot
+  unfolding holdingsOn
+  read-all r held = build-all (holdingAt s slot) 32 emptyHolding r held
+
   pub held-by : (row : ℕ) → row < 32 → heldBy (holdingsOn s slot) row ≡ holdingAt s slot row
   unfolding holdingsOn
   held-by row h = build-at (holdingAt s slot) 32 emptyHolding row emptyHolding h

@@ -24,8 +24,7 @@ use Rattle.rules.specs.Calls.{waiting, granted, step1, step2, step3, servedAt}
 use Rattle.choice.specs.Inner.Summary.{ranksOf}
 use Rattle.serve.specs.declared.Kills.the-variants.{Conflicting}
 use Rattle.serve.specs.declared.Plan.{Plan}
-use Rattle.holdings.specs.Inner.OnSlot.{holdingsOn}
-use Rattle.serve.specs.Inner.SlotHoldings.{seenIn, leastIn, seesDormantIn, marksOf, mustWaitIn}
+use Rattle.serve.specs.Inner.SlotHoldings.{holdingsOn, seenIn, leastIn, seesDormantIn, marksOf, mustWaitIn}
 use Rattle.serve.specs.Inner.Replies.{planned}
 use Rattle.serve.proofs.SlotLaws.{seen-in, least-in, dormant-in, must-wait-in, conflicts-killed}
 use Rattle.serve.proofs.KillLaws.{kill-none}

@@ -1,4 +1,3 @@
-pub mod Lent
 pub mod SlotHoldings
 pub mod Granted
 pub mod Replies

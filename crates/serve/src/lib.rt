@@ -1,13 +1,10 @@
-// How a request, the call's own or one that a tick tries, is served, steps 1 to 4 of document 01, on the parts of a state by value; its holdings are
-// read in the area that names it.
-use choice::Holders;
+// How a request, the call's own or one that a tick tries, is served, steps 1 to 4 of document 01, on a state by value.
 use model::Answer;
 use model::Back;
 use model::Cause;
 use model::Change;
 use model::Condition;
 use model::Content;
-use model::Front;
 use model::Holding;
 use model::Mode;
 use model::Pin;
@@ -16,24 +13,19 @@ use model::Reply;
 use model::Row;
 use model::Setting;
 use model::Slot;
+use model::State;
 use seq::Found;
 ghost use mathlib.Core.Path.{_≡_};
 ghost use Prim.Native.Nat.{_+_, _<_, _≤_, _^_, min};
-ghost use lib.ListN.{getD};
-ghost use Rattle.model.specs.declared.Answer.the-variants.{Wait};
-ghost use Rattle.model.specs.State.{emptySlot};
-ghost use Rattle.model.specs.Words.{arrivalIn, pageSlot};
+ghost use lib.ListN.{getD, replicate};
+ghost use Rattle.model.specs.State.{emptySlot, emptyHolding};
+ghost use Rattle.model.specs.Words.{arrivalIn};
 ghost use Rattle.model.specs.Parties.{levelOf};
 ghost use Rattle.model.specs.Inner.Changed.{outcomeOf};
-ghost use Rattle.rules.specs.Choice.{orElse, chosen};
 ghost use Rattle.rules.specs.Calls.{writeBack, served};
-ghost use Rattle.area.specs.Layout.{decoded};
-ghost use Rattle.choice.specs.Inner.Summary.{holdersOf};
-ghost use Rattle.choice.specs.Inner.Search.{chosenHeld, chosenFilled};
-ghost use Rattle.serve.specs.Inner.Lent.{Lends, Gathered, KeepsRanks};
 ghost use Rattle.serve.specs.Inner.SlotHoldings.{seenTest, seenIn, lesser, leastIn, seesDormantIn, killTest, marksOf, mustWaitIn};
 ghost use Rattle.serve.specs.Inner.Granted.{heldNow, filledSlot, touchedSlot, grantedRow, grantedAnswer};
-ghost use Rattle.serve.specs.Inner.Replies.{waitReply, planned, plannedFor, rowsTaken, slotFilled, granting, settled};
+ghost use Rattle.serve.specs.Inner.Replies.{waitReply, planned, rowsTaken, slotFilled, granting};
 
 pub fn arrival_in(c: Content) -> u64
     ensures { λ r. ⌜ r ≡ arrivalIn c ⌝ }
@@ -309,6 +301,17 @@ fn wait(clock: u64, rows: [Row; 32], slots: [Slot; 64], row: usize, page: u32, m
     }
 }
 
+// No holding of any row.
+fn no_held() -> [Holding; 32]
+    ensures { λ r. ⌜ r ≡ replicate 32 emptyHolding ⌝ }
+{
+    [Holding {
+        pin: Pin::Absent,
+        arrival: 0,
+        touch: 0,
+    }; 32]
+}
+
 // A slot newly given to a page.
 fn fill(page: u32, arrival: u64, level: usize, clock: u64) -> Slot
     ensures { λ r. ⌜ r ≡ filledSlot page arrival level clock ⌝ }
@@ -428,6 +431,7 @@ fn fill_slot(c: Change, page: u32, due: u64, level: usize) -> Change
     slots[slot] = x;
     let rows = c.rows;
     let gone = c.gone;
+    let held = no_held();
     let setting = c.setting;
     Change {
         clock: c.clock,
@@ -435,11 +439,7 @@ fn fill_slot(c: Change, page: u32, due: u64, level: usize) -> Change
         slots,
         gone,
         slot,
-        held: [Holding {
-            pin: Pin::Absent,
-            arrival: 0,
-            touch: 0,
-        }; 32],
+        held,
         setting,
     }
 }
@@ -458,143 +458,50 @@ fn into_slot(c: Change, row: usize, page: u32, mode: Mode, due: u64) -> Reply
     grant(filled, row, mode, due, back)
 }
 
-// The holders of all slots: those that are known, or else gathered from the area.
-fn holders_in(a: &[u8], f: Front, known: bool, holders: [Holders; 64]) -> [Holders; 64]
-    requires { ⌜ Lends (now a) f × Gathered known holders (decoded (now a)) ⌝ }
-    ensures { λ r. ⌜ r ≡ holdersOf (decoded (now (a .entry))) ⌝ }
+// The request of a row for a page: the search for the page, and steps 1 to 4. The holdings of the slot are read here, in two loops, since a function
+// that takes the state copies it.
+pub fn serve(s: State, row: usize, page: u32, mode: Mode) -> Reply
+    requires { ⌜ (s .size ≤ 64) × (row < 32) × (s .clock + s .delay < 2 ^ 64) ⌝ }
+    ensures { λ r. ⌜ outcomeOf s r ≡ served s row page mode ⌝ }
 {
-    if known {
-        return holders;
-    }
-    let rows = f.rows;
-    let places = f.places;
-    let ranks = choice::ranks(rows, places);
-    holdings::all_holders(a, ranks)
-}
-
-// Steps c to f.
-fn choose_held(a: &[u8], f: Front, holders: [Holders; 64], row: usize) -> Found
-    requires { ⌜ Lends (now a) f × (row < 32) × (holders ≡ holdersOf (decoded (now a))) ⌝ }
-    ensures { λ r. ⌜ r ≡ chosenHeld (decoded (now (a .entry))) row ⌝ }
-{
-    let rows = f.rows;
-    let places = f.places;
-    let slots = f.slots;
-    let x = rows[row];
-    let requester = model::rank_of(row, x.deadline, places[row]);
-    let own = holdings::pins_of(a, row);
-    choice::choose_held(slots, f.size, holders, own, requester)
-}
-
-// Steps b to f.
-fn choose_filled(a: &[u8], f: Front, holders: [Holders; 64], row: usize) -> Found
-    requires { ⌜ Lends (now a) f × (row < 32) × (holders ≡ holdersOf (decoded (now a))) ⌝ }
-    ensures { λ r. ⌜ r ≡ chosenFilled (decoded (now (a .entry))) row ⌝ }
-{
-    let slots = f.slots;
-    let Found::At(i) = choice::find_dormant(slots, f.size, holders) else {
-        return choose_held(a, f, holders, row);
-    };
-    Found::At(i)
-}
-
-// The slot that a requester takes for a page that is in no slot, or nowhere. The holders are asked for only where no slot is empty.
-fn choose(a: &[u8], f: Front, known: bool, gathered: [Holders; 64], row: usize) -> Found
-    requires { ⌜ Lends (now a) f × (row < 32) × Gathered known gathered (decoded (now a)) ⌝ }
-    ensures { λ r. ⌜ r ≡ chosen (decoded (now (a .entry))) row ⌝ }
-{
-    let slots = f.slots;
-    let Found::At(i) = choice::find_empty(slots, f.size) else {
-        let holders = holders_in(a, f, known, gathered);
-        return choose_filled(a, f, holders, row);
-    };
-    Found::At(i)
-}
-
-// The slot that has the page or, where none has it, the slot that is chosen.
-fn aim(a: &[u8], f: Front, known: bool, holders: [Holders; 64], row: usize, found: Found) -> Found
-    requires { ⌜ Lends (now a) f × (row < 32) × Gathered known holders (decoded (now a)) ⌝ }
-    ensures { λ r. ⌜ r ≡ orElse found (chosen (decoded (now (a .entry))) row) ⌝ }
-{
-    let Found::At(slot) = found else {
-        return choose(a, f, known, holders, row);
-    };
-    Found::At(slot)
-}
-
-// Steps 1 to 3, by where the page was found: in a chosen slot the rows that pin it are killed.
-fn plan_for(
-    found: Found,
-    held: [Holding; 32],
-    rows: [Row; 32],
-    places: [usize; 32],
-    x: Slot,
-    row: usize,
-    mode: Mode,
-    due: u64,
-) -> Plan
-    requires { ⌜ row < 32 ⌝ }
-    ensures { λ r. ⌜ r ≡ plannedFor found held rows places x row mode due ⌝ }
-{
-    match found {
-        Found::Nowhere => {
-            let marks = mark_rows(held, Kills::Pinning);
-            Plan {
-                wait: false,
-                marks,
-                arrival: due,
-            }
+    let clock = s.clock;
+    let due = s.clock + s.delay;
+    let rows = s.rows;
+    let slots = s.slots;
+    let mut held = no_held();
+    let Found::At(slot) = choice::find_page(slots, s.size, page) else {
+        let Found::At(chosen) = choice::choose(s, row) else {
+            return wait(clock, rows, slots, row, page, mode);
+        };
+        for r in 0..32usize {
+            let h = s.holdings[chosen * 32 + r];
+            held[r] = h;
         }
-        Found::At(_) => plan_steps(held, rows, places, x, row, mode, due),
-    }
-}
-
-// The reply of a request that does not wait, by where the page was found.
-fn settle(found: Found, c: Change, row: usize, page: u32, mode: Mode, arrival: u64) -> Reply
-    requires { ⌜ (c .slot < 64) × (row < 32) ⌝ }
-    ensures { λ r. ⌜ r ≡ settled found c row page mode arrival ⌝ }
-{
-    match found {
-        Found::Nowhere => into_slot(c, row, page, mode, arrival),
-        Found::At(_) => {
-            let taken = take_rows(c);
-            grant(taken, row, mode, arrival, Back::Nothing)
-        }
-    }
-}
-
-// The request of a row for a page, by where the page was found: steps 1 to 4 on the state that the area names, whose front is given by value. The
-// holders of the slots are given where they are known. Where no row loses its holdings the ranks stay, and a reply that puts no holdings on a slot is a
-// wait.
-pub fn serve(
-    a: &[u8],
-    f: Front,
-    known: bool,
-    holders: [Holders; 64],
-    row: usize,
-    page: u32,
-    mode: Mode,
-    found: Found,
-) -> Reply
-    requires { ⌜ Lends (now a) f × (row < 32) × (f .clock + f .delay < 2 ^ 64) × Gathered known holders (decoded (now a)) × (found ≡ pageSlot (f .slots) (f .size) page) ⌝ }
-    ensures { λ r. ⌜ (outcomeOf (decoded (now (a .entry))) r ≡ served (decoded (now (a .entry))) row page mode)
-        × KeepsRanks (f .rows) (f .places) (r .change) × (64 ≤ r .change .slot → r .answer ≡ Wait) ⌝ }
-{
-    let slots = f.slots;
-    let clock = f.clock;
-    let rows = f.rows;
-    let Found::At(slot) = aim(a, f, known, holders, row, found) else {
-        return wait(clock, rows, slots, row, page, mode);
+        let gone = mark_rows(held, Kills::Pinning);
+        let left = model::released_slots(s, clock, gone);
+        let c = Change {
+            clock,
+            rows,
+            slots: left,
+            gone,
+            slot: chosen,
+            held,
+            setting: Setting::Left,
+        };
+        return into_slot(c, row, page, mode, due);
     };
-    let held = holdings::held_on(a, slot);
+    for r in 0..32usize {
+        let h = s.holdings[slot * 32 + r];
+        held[r] = h;
+    }
     let x = slots[slot];
-    let places = f.places;
-    let p = plan_for(found, held, rows, places, x, row, mode, f.clock + f.delay);
+    let places = s.places;
+    let p = plan_steps(held, rows, places, x, row, mode, due);
     if p.wait {
         return wait(clock, rows, slots, row, page, mode);
     }
     let gone = p.marks;
-    let left = holdings::released_slots(a, slots, clock, gone);
+    let left = model::released_slots(s, clock, gone);
     let c = Change {
         clock,
         rows,
@@ -604,5 +511,6 @@ pub fn serve(
         held,
         setting: Setting::Left,
     };
-    settle(found, c, row, page, mode, p.arrival)
+    let taken = take_rows(c);
+    grant(taken, row, mode, p.arrival, Back::Nothing)
 }

@@ -1,4 +1,3 @@
 pub mod QueueLaws
 pub mod EntryLaws
 pub mod TurnLaws
-pub mod AreaLaws

@@ -28,7 +28,7 @@ returns-5 c = rw (c .before .before .c5 .given .1) (c .set-borders .ensures)
 
 returns-6 : tie.Need-returns-6
 returns-6 c =
-    let b = c .before .before .before .before .before in
+    let b = c .before .before .before .before in
     true-false (sym (it-reads (b .args .c) (c .before .before .before .match .keys6) (b .pre .0) (b .pre .1)) ∙ b .pre .2)
 
 pub make-spec : {M : Type 1} → statement M

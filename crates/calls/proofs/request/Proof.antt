@@ -9,7 +9,7 @@ use borrow.Author.Needs.{needs}
 use Rattle.calls.proofs.request.Statement.{statement}
 use Rattle.calls.proofs.request.Tie as tie
 
-number : (c : tie.After-row-refusal) → let a = c .before .before .before .before .before .before .before .before .before .before .before .before .before .args in c .row-refusal .result ≡ requestRefusal (a .s) (a .level) (a .number) (a .page) (a .mode)
+number : (c : tie.After-row-refusal) → let a = c .before .before .before .before .before .before .before .before .before .before .before .before .args in c .row-refusal .result ≡ requestRefusal (a .s) (a .level) (a .number) (a .page) (a .mode)
 unfolding requestRefusal
 number c =
     let d = c .before .before .before in
@@ -20,22 +20,22 @@ returns : tie.Need-returns
 unfolding requested
 returns c =
     let b = c .before .before in
-    let a = b .before .before .before .before .before .before .before .before .before .before .before .before .before in
-    refused-after (a .args .s) (state-ok (a .args .s) _ (a .good .1 .0) .sized) (c .leave-holdings .result) _ _ _ (c .leave-holdings .ensures) (number b) (c .before .if1 .taken)
+    let a = b .before .before .before .before .before .before .before .before .before .before .before .before in
+    refused-after (a .args .s) (state-ok (a .args .s) _ (a .good .0) .sized) (c .leave-holdings .result) _ _ _ (c .leave-holdings .ensures) (number b) (c .before .if1 .taken)
 
-serve-row-requires : tie.Need-serve-row-requires
-serve-row-requires c κs =
+serve-requires : tie.Need-serve-requires
+serve-requires c κs =
     let b = c .before in
-    let a = b .before .before .before .before .before .before .before .before .before .before .before .before .before in
+    let a = b .before .before .before .before .before .before .before .before .before .before .before .before in
     let h = b .row-refusal .ensures .1 (c .if1 .left) in
-    (a .pre .0, a .pre .1, a .pre .2, a .pre .3, omega (arith, b .before .before .before .before .before .before .before .before .before .row-of .ensures))
+    (a .pre .0, omega (arith, b .before .before .before .before .before .before .before .before .before .row-of .ensures), a .pre .1)
 
 returns-2 : tie.Need-returns-2
 unfolding requested
 returns-2 c =
     let b = c .before .before in
     let m = b .before .before .before .before .before .before .before in
-    c .serve-row .ensures
+    c .serve .ensures
     ∙ rw (m .before .before .row-of .ensures, m .mode-of .ensures) (taken _ _ _ _ (number b) (c .before .if1 .left))
 
 pub request-spec : {M : Type 1} → statement M
@@ -43,4 +43,4 @@ request-spec =
     tie.close
     (tie.spec
     (λ c κs. search needs) (λ c κs. search needs) (λ c κs. search needs) (λ c κs. search needs) (λ c κs. search needs) (λ c κs. search needs)
-    (λ c κs. search needs) (λ c κs. search needs) (λ c κs. search needs) (λ c κs. search needs) (λ c κs. search needs) returns serve-row-requires returns-2)
+    (λ c κs. search needs) (λ c κs. search needs) (λ c κs. search needs) (λ c κs. search needs) (λ c κs. search needs) returns serve-requires returns-2)

@@ -10,7 +10,7 @@ use Rattle.seq.proofs.ValueLaws.{value-turn}
 use Rattle.model.specs.declared.Pin.the-variants.{Absent}
 use Rattle.model.specs.Words.{strength, stronger}
 use Rattle.serve.specs.Inner.SlotHoldings.{seenTest}
-use Rattle.holdings.specs.Inner.OnSlot.{heldBy}
+use Rattle.serve.specs.Inner.SlotHoldings.{heldBy}
 use Rattle.calls.specs.Inner.Parts.{strongestIn}
 use Rattle.calls.proofs.strongest_pin.Statement.{statement}
 use Rattle.calls.proofs.strongest_pin.Tie as tie

@@ -8,16 +8,16 @@ use Rattle.seq.specs.Below.{pickBelow, atFound}
 use Rattle.seq.specs.Order.{lexLess}
 use Rattle.seq.specs.declared.Found.{Found}
 use Rattle.model.specs.declared.Slot.{Slot}
-use Rattle.model.specs.declared.State.{State}
 use Rattle.model.specs.Parties.{better}
 use Rattle.model.specs.State.{emptySlot}
 use Rattle.model.specs.Words.{isFilled, dirtyIn, lowestIn}
-use Rattle.rules.specs.Choice.{orElse, dirtyNumber, stepB, stepHeld, inC, inD, inE, inF}
+use Rattle.rules.specs.Choice.{orElse, dirtyNumber}
 use Rattle.choice.specs.declared.Holders.{Holders}
 use Rattle.choice.specs.declared.Summary.{Summary}
 use Rattle.choice.specs.declared.Step.{Step}
 use Rattle.choice.specs.declared.Step.the-variants.{M, C, D, E, F}
-use Rattle.choice.specs.Inner.Summary.{noHolders, noSummary}
+use Rattle.choice.specs.declared.Survey.{Survey}
+use Rattle.choice.specs.Inner.Summary.{noHolders, noSummary, summariesIn}
 
 -- step a: the first empty slot among the first n
 unfoldable pub emptyIn : List Slot → ℕ → Found
@@ -79,9 +79,8 @@ heldFrom m n =
     (orElse (stepFrom m n E (topFrom m n))
     (stepFrom m n F (topFrom m n))))
 
--- steps c to f of document 01, and steps b to f
-unfoldable pub chosenHeld : State → ℕ → Found
-chosenHeld s row = orElse (stepHeld s (inC s row)) (orElse (stepHeld s (inD s row)) (orElse (stepHeld s (inE s row)) (stepHeld s (inF s row))))
-
-unfoldable pub chosenFilled : State → ℕ → Found
-chosenFilled s row = orElse (stepB s) (chosenHeld s row)
+-- steps b to f
+unfoldable pub filledIn : List Slot → ℕ → Survey → Found
+filledIn slots n x =
+    orElse (dormantIn slots n (x .holders))
+    (heldFrom (summariesIn slots n (x .holders) (x .own) (x .requester)) n)

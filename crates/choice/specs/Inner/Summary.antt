@@ -1,7 +1,7 @@
 -- For the code; aboveBy and besideBy are proved equal to heldAbove and heldAtOwnLevel, proofs/BestLaws.antt: the ranks of all rows, the holders of a slot, and its summary for a requester.
 use mathlib.Core.Bool.{Bool, true, false, cond, _&&_, _||_, not}
 use mathlib.Core.List.{List}
-use Prim.Native.Nat.{ℕ, zero, suc, max}
+use Prim.Native.Nat.{ℕ, max}
 use lib.Dec.{ltb, eqb}
 use lib.ListN.{getD, replicate}
 use Rattle.seq.specs.Below.{anyBelow, pickBelow, atFound}
@@ -14,10 +14,11 @@ use Rattle.model.specs.declared.Row.{Row}
 use Rattle.model.specs.declared.Slot.{Slot}
 use Rattle.model.specs.declared.State.{State}
 use Rattle.model.specs.Parties.{levelOf, rankOf, better}
-use Rattle.model.specs.State.{freeRow, emptySlot, emptyHolding, holdingAt}
+use Rattle.model.specs.State.{freeRow, emptySlot, holdingAt}
 use Rattle.model.specs.Words.{pageIn, isHeld, isPin, holds, pins, outranks}
 use Rattle.choice.specs.declared.Holders.{Holders}
 use Rattle.choice.specs.declared.Summary.{Summary}
+use Rattle.choice.specs.declared.Survey.{Survey}
 
 -- ---- the ranks of all rows
 abbrev pub noRank : Rank
@@ -78,18 +79,13 @@ holdersWith w row rank h =
     (record { best = row; rank = rank; latest = h .touch; held = true; pinned = isPin (h .pin) }))
     w
 
--- from the holdings and the ranks of the rows
-unfoldable pub holdersIn : List Holding → List Rank → ℕ → Holders
-holdersIn held ranks zero = noHolders
-holdersIn held ranks (suc row) = holdersWith (holdersIn held ranks row) row (getD ranks row noRank) (getD held row emptyHolding)
-
--- those of all slots
-unfoldable pub holdersOf : State → List Holders
-holdersOf s = each (λ slot _. holdersBelow s slot 32) (replicate 64 noHolders)
-
--- the slots that a row pins
-unfoldable pub pinsOf : State → ℕ → List Bool
-pinsOf s row = each (λ slot _. pins s slot row) (replicate 64 false)
+-- ---- what the choice asks of the holdings for a requester: its rank, the holders of each slot started with, and whether it pins it
+unfoldable pub surveyOf : State → ℕ → Survey
+surveyOf s me = record {
+  requester = rankIn (s .rows) (s .places) me;
+  holders = eachBelow (s .size) (λ slot _. holdersBelow s slot 32) (replicate 64 noHolders);
+  own = eachBelow (s .size) (λ slot _. pins s slot me) (replicate 64 false);
+}
 
 -- ---- a slot's summary for a requester of a rank
 -- held only above the requester's level

@@ -3,7 +3,7 @@ use mathlib.Core.Path.{_≡_}
 use mathlib.Core.Bool.{Bool, true, false, cond}
 use mathlib.Core.List.{List}
 use Prim.Native.Nat.{ℕ, _/_, _%_}
-use lib.Dec.{eqb}
+use lib.Dec.{eqb, ltb}
 use lib.ListN.{getD, set, replicate}
 use Rattle.seq.specs.Each.{each}
 use Rattle.model.specs.declared.Row.{Row}
@@ -12,7 +12,6 @@ use Rattle.model.specs.declared.Holding.{Holding}
 use Rattle.model.specs.declared.State.{State}
 use Rattle.model.specs.declared.Outcome.{Outcome}
 use Rattle.model.specs.declared.Borders.{Borders}
-use Rattle.model.specs.declared.Front.{Front}
 use Rattle.model.specs.declared.Setting.{Setting}
 use Rattle.model.specs.declared.Setting.the-variants.{Left, Begun, Ended, Set}
 use Rattle.model.specs.declared.Change.{Change}
@@ -60,10 +59,6 @@ withSetting s x = record {
   places = placesAfter x (s .places);
 }
 
--- a state but for its holdings, its borders and whether a row has begun
-abbrev pub frontOf : State → Front
-frontOf s = record { size = s .size; delay = s .delay; clock = s .clock; rows = s .rows; slots = s .slots; places = s .places }
-
 -- the state after a change
 unfoldable pub changed : State → Change → State
 changed s c =
@@ -84,3 +79,10 @@ outcomeOf s r = record { state = changed s (r .change); answer = r .answer }
 unfoldable pub holdingsDropped : ℕ → List Row → List Slot → List Bool → Setting → Change
 holdingsDropped clock rows slots gone setting =
     record { clock = clock; rows = rows; slots = slots; gone = gone; slot = 64; held = replicate 32 emptyHolding; setting = setting }
+
+-- how many of the slots a row loses, by its mark, and how many holdings are put on a slot
+unfoldable pub lostBy : Bool → ℕ
+lostBy gone = cond gone 64 0
+
+unfoldable pub putOn : ℕ → ℕ
+putOn slot = cond (ltb slot 64) 32 0

@@ -69,25 +69,25 @@ changing : (w : tie.After-is-area-sound) → isReading (w .before .before .befor
 changing w = sym (w .before .before .before .before .before .before .before .is-reading .ensures) ∙ w .before .before .before .before .before .before .if1 .left
 
 make-requires : tie.Need-make-requires
-make-requires c κs = let w = c .before .before in
+make-requires c κs = let w = c .before in
     let o = w .before .before .before .before .before .before .before .before .before .before in
-    let h = opened w ∙ c .before .if3 .taken in
+    let h = opened w ∙ c .if3 .taken in
     let f = fits-clock _ (sound-state (o .args .area .now) _ (w .before .before .decode .ensures .0) h) in
-    (not-start (o .args .c) (w .before .before .before .before .before .before .before .before .match .keys2), o .pre, changing w, w .before .before .before .before .before .if2 .left, w .before .before .decode .ensures .0, f .0, f .1)
+    (not-start (o .args .c) (w .before .before .before .before .before .before .before .before .match .keys2), o .pre, changing w, f .0, f .1)
 
 finish-requires : tie.Need-finish-requires
-finish-requires c κs = let w = c .before .before .before .before .before in
+finish-requires c κs = let w = c .before .before .before .before in
     let o = w .before .before .before .before .before .before .before .before .before .before .args in
-    let h = opened w ∙ c .before .before .before .before .if3 .taken in
+    let h = opened w ∙ c .before .before .before .if3 .taken in
     replied (o .area .now) (o .c) _ (w .before .before .decode .ensures .0) _ h (c .before .before .make .ensures)
 
 same-length-3 : tie.Need-same-length-3
 same-length-3 c = search needs
 
 returns-4 : tie.Need-returns-4
-returns-4 c = let w = c .before .before .before .before .before .before .before .before in
+returns-4 c = let w = c .before .before .before .before .before .before .before in
     let o = w .before .before .before .before .before .before .before .before .before .before .args in
-    let h = opened w ∙ c .before .before .before .before .before .before .before .if3 .taken in
+    let h = opened w ∙ c .before .before .before .before .before .before .if3 .taken in
     let u = unfit-by (o .area .now) (o .c) true (not-start (o .c) (w .before .before .before .before .before .before .before .before .match .keys2)) h in
     let p = amended (o .area .now) (o .c) _ (w .before .before .decode .ensures .0) (changing w) _ _ _ _ u (c .before .before .before .before .before .make .ensures) (c .before .before .finish .ensures .0) (c .before .before .finish .ensures .1) (c .before .before .finish .ensures .2) in
     (p .returned, (p .told, p .left))

@@ -7,7 +7,7 @@ use native.Mathlib.Omega.{arith}
 use mathlib.Core.Path.{_≡_, refl, _∙_, sym, ap}
 use mathlib.Core.Bool.{not}
 use lib.ListN.{length, length-append}
-use Rattle.sabre.proofs.CallLaws.{Promise, refused-1, fresh-again, start-refused, start-accepted}
+use Rattle.sabre.proofs.CallLaws.{Promise, refused-1, start-refused, start-accepted}
 use borrow.Author.Tests.{lt-ltb}
 use Rattle.model.specs.declared.Call.the-variants.{Start}
 use Rattle.sabre.specs.Lent.{unfit}
@@ -16,7 +16,7 @@ use Rattle.sabre.proofs.start.Statement.{statement}
 use Rattle.sabre.proofs.start.Tie as tie
 use Rattle.sabre.proofs.start.Reads as reads
 use Rattle.sabre.proofs.start.Lts as lts
-use Rattle.area.proofs.encode_fresh.Reads as encode-fresh-reads
+use Rattle.area.proofs.encode.Reads as encode-reads
 use Rattle.calls.proofs.start_refusal.Reads as start-refusal-reads
 use Rattle.model.proofs.fresh_state.Reads as fresh-state-reads
 use Rattle.sabre.proofs.refuse.Reads as refuse-reads
@@ -46,8 +46,8 @@ returns-2 c =
 fresh-state-requires : tie.Need-fresh-state-requires
 fresh-state-requires c κs = search needs
 
-encode-fresh-requires : tie.Need-encode-fresh-requires
-encode-fresh-requires c κs = (omega arith, fresh-again _ _ _ (c .before .fresh-state .ensures))
+encode-requires : tie.Need-encode-requires
+encode-requires c κs = search needs
 
 tell-requires-2 : tie.Need-tell-requires-2
 unfolding slotTold
@@ -58,7 +58,7 @@ same-length c = search needs
 
 returns-3 : tie.Need-returns-3
 returns-3 c =
-    let p = start-accepted (c .before .before .before .before .before .before .before .before .before .before .before .args .area .now) (c .before .before .before .before .before .before .before .before .before .before .before .args .slots) (c .before .before .before .before .before .before .before .before .before .before .before .args .delay) _ _ _ (omega arith) (c .before .before .before .before .before .before .before .before .start-refusal .result) (c .before .before .before .before .before .before .before .before .start-refusal .ensures) (c .before .before .before .before .before .before .before .if2 .left) (c .tell2 .ensures .0) (c .tell2 .ensures .1) (c .before .before .before .before .encode-fresh .ensures ∙ ap (λ (s : State). encoded s ++ drop 65536 (c .before .before .before .before .before .before .before .before .before .before .before .args .area .now)) (c .before .before .before .before .before .before .fresh-state .ensures)) in
+    let p = start-accepted (c .before .before .before .before .before .before .before .before .before .before .before .args .area .now) (c .before .before .before .before .before .before .before .before .before .before .before .args .slots) (c .before .before .before .before .before .before .before .before .before .before .before .args .delay) _ _ _ (omega arith) (c .before .before .before .before .before .before .before .before .start-refusal .result) (c .before .before .before .before .before .before .before .before .start-refusal .ensures) (c .before .before .before .before .before .before .before .if2 .left) (c .tell2 .ensures .0) (c .tell2 .ensures .1) (c .before .before .before .before .encode .ensures ∙ ap (λ (s : State). encoded s ++ drop 65536 (c .before .before .before .before .before .before .before .before .before .before .before .args .area .now)) (c .before .before .before .before .before .before .fresh-state .ensures)) in
     (p .returned, (p .told, p .left))
 
 pub start-spec : {M : Type 1} → statement M
@@ -71,7 +71,7 @@ start-spec =
     tell-requires
     returns-2
     fresh-state-requires
-    encode-fresh-requires
+    encode-requires
     tell-requires-2
     same-length
     returns-3)

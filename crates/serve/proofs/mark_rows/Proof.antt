@@ -7,8 +7,7 @@ use lib.ListN.{replicate}
 use Rattle.seq.specs.Each.{eachBelow}
 use Rattle.seq.proofs.EachLaws.{each-below-none}
 use Rattle.seq.proofs.BuildLaws.{build-turn, build-all}
-use Rattle.holdings.specs.Inner.OnSlot.{heldBy}
-use Rattle.serve.specs.Inner.SlotHoldings.{killTest, marksOf}
+use Rattle.serve.specs.Inner.SlotHoldings.{heldBy, killTest, marksOf}
 use Rattle.serve.proofs.mark_rows.Statement.{statement}
 use Rattle.serve.proofs.mark_rows.Tie as tie
 use Rattle.serve.proofs.mark_rows.Reads as reads

@@ -1,84 +1,118 @@
-use mathlib.Core.Path.{ap}
+use mathlib.Core.Path.{_≡_}
+use Prim.Native.Nat.{_≤_, _<_, _-_}
 use native.Mathlib.Omega.{arith}
 use borrow.Author.Needs.{needs}
-use Prim.Native.Nat.{_<_}
-use Rattle.model.specs.declared.Front.{Front}
-use Rattle.area.specs.Layout.{decoded}
-use Rattle.area.proofs.Elements.{decoded-sized}
-use Rattle.serve.proofs.LentLaws.{slot-below, nowhere-serves, conflict-serves, settled-serves}
+use Rattle.model.proofs.Ranges.{state-ok}
+use Rattle.serve.proofs.SlotLaws.{Read, read-none, read-turn, read-all}
+use Rattle.serve.proofs.ReplyLaws.{leaving, taken-slot}
+use Rattle.serve.proofs.ServeLaws.{found-at, chosen-at, serve-wait, serve-into, serve-plan-wait, serve-plan-grant}
 use Rattle.serve.proofs.serve.Statement.{statement}
 use Rattle.serve.proofs.serve.Tie as tie
 
--- the slot that has the page or was chosen
-below : (c : tie.After-known-told) → c .before .slot .given .0 .0 < 64
-below c =
-    let g = c .before .before .before in
-    let o = g .before .before .before .before in
-    slot-below (decoded (o .args .a .now)) (decoded-sized (o .args .a .now)) (o .args .f) (o .pre .0 .1) (o .pre .0 .2) (o .args .row) (o .args .page) (o .args .mode) (o .pre .1) (o .args .found) (o .pre .4) (g .aim .result) (g .aim .ensures) _ (c .before .slot .given .1)
+abbrev Inv-loop : tie.InvT-loop
+Inv-loop row page mode s clock due rows held₀ chosen r₀ held r = (r ≤ 32) × (chosen < 64) × Read s chosen r held
 
-aim-requires : tie.Need-aim-requires
-aim-requires c κs = let o = c .before .before .before in (o .pre .0, o .pre .1, o .pre .3)
+abbrev μ-loop : tie.MeasureT-loop
+μ-loop row page mode s clock due rows held₀ chosen r₀ held r = 32 - r
 
-wait-requires : tie.Need-wait-requires
-wait-requires c κs = c .before .before .before .before .before .before .pre .1
+abbrev Inv-loop2 : tie.InvT-loop2
+Inv-loop2 row page mode s clock due rows slots held₀ slot r₀ held r = (r ≤ 32) × (slot < 64) × Read s slot r held
 
-returns : tie.Need-returns
+abbrev μ-loop2 : tie.MeasureT-loop2
+μ-loop2 row page mode s clock due rows slots held₀ slot r₀ held r = 32 - r
+
+returns : tie.Need-returns Inv-loop μ-loop Inv-loop2 μ-loop2
 returns c =
-    let g = c .before .before .before in
-    let o = g .before .before .before .before in
-    nowhere-serves (decoded (o .args .a .now)) (decoded-sized (o .args .a .now)) (o .args .f) (o .pre .0 .1) (o .pre .0 .2) (o .args .row) (o .args .page) (o .args .mode) (o .pre .1) (o .args .found) (o .pre .4) (g .aim .result) (g .aim .ensures) (c .before .enum-told .given .1) (c .wait .result) (c .wait .ensures)
+    let f = c .before .before .before .before .before .before .find-page in
+    let k = c .before .before .before in
+    let o = c .before .before .before .before .before .before .before .before .before .before in
+    serve-wait (o .args .t1) (o .args .row) (o .args .page) (o .args .mode) (state-ok (o .args .t1) _ (o .good .0) .sized) (o .pre .1)
+    (f .result) (f .ensures) (k .before .enum-told .given .1) (k .choose .result) (k .choose .ensures) (c .before .enum-told2 .given .1) (c .wait .result) (c .wait .ensures)
 
-held-on-requires : tie.Need-held-on-requires
-held-on-requires c κs = let o = c .before .before .before .before .before .before .before in (o .pre .0 .0, below c)
+loop-holds : tie.Need-loop-holds Inv-loop μ-loop Inv-loop2 μ-loop2
+loop-holds c =
+    let g = c .before .chosen .given in
+    let k = c .before .before .before .choose in
+    let o = c .before .before .before .before .before .before .before .before .before .before in (
+      omega arith,
+      chosen-at (o .args .t1) (o .args .row) (o .args .page) (o .args .mode) (k .result) (g .0 .0) (o .pre .0) (k .ensures) (g .1),
+      read-none (o .args .t1) (g .0 .0) _ (c .before .before .before .before .before .before .before .no-held .ensures),
+    )
 
-mul-x : tie.Need-mul-x
-mul-x c = omega (arith, below (c .before))
+loop-again : tie.Need-loop-again Inv-loop μ-loop Inv-loop2 μ-loop2
+loop-again c =
+    let w = c .before .before .loop in
+    let o = c .before .before .before .before .before .before .before .before .before .before .before .before .before in
+    (omega arith, w .inv .1, read-turn (o .args .t1) (c .before .before .before .before .chosen .given .0 .0) (w .r) (w .held) (omega arith) (w .inv .2))
 
-array-copy-out-x : tie.Need-array-copy-out-x
-array-copy-out-x c = omega (arith, below (c .before))
+into-slot-requires : tie.Need-into-slot-requires Inv-loop μ-loop Inv-loop2 μ-loop2
+into-slot-requires c κs = (c .before .before .before .loop .inv .1, c .before .before .before .before .before .before .before .before .before .before .before .before .before .before .pre .1)
 
-add-plan-for : tie.Need-add-plan-for
-add-plan-for c =
-    omega (arith, c .before .before .before .before .before .before .before .before .before .before .before .pre .2)
-
-plan-for-requires : tie.Need-plan-for-requires
-plan-for-requires c κs = c .before .before .before .before .before .before .before .before .before .before .before .pre .1
-
-wait-requires-2 : tie.Need-wait-requires-2
-wait-requires-2 c κs =
-    c .before .before .before .before .before .before .before .before .before .before .before .before .before .pre .1
-
-returns-2 : tie.Need-returns-2
+returns-2 : tie.Need-returns-2 Inv-loop μ-loop Inv-loop2 μ-loop2
 returns-2 c =
-    let p = c .before .before in
-    let t = p .before .before .before .before .before in
-    let g = t .before .before .before in
-    let o = g .before .before .before .before in
-    conflict-serves (decoded (o .args .a .now)) (decoded-sized (o .args .a .now)) (o .args .f) (o .pre .0 .1) (o .pre .0 .2) (o .args .row) (o .args .page) (o .args .mode) (o .pre .1) (o .args .found) (o .pre .4) (g .aim .result) (g .aim .ensures)
-    _ (t .before .slot .given .1) (p .before .before .before .before .held-on .result) (p .before .before .before .before .held-on .ensures) (p .plan-for .result) (p .plan-for .ensures) (c .before .if1 .taken) (c .wait2 .result) (c .wait2 .ensures)
+    let w = c .before .before .before .before .loop in
+    let k = c .before .before .before .before .before .before .before .before in
+    let g = c .before .before .before .before .before .before .chosen .given in
+    let f = k .before .before .before .find-page in
+    let o = k .before .before .before .before .before .before .before in
+    serve-into (o .args .t1) (o .args .row) (o .args .page) (o .args .mode) (state-ok (o .args .t1) _ (o .good .0) .sized) (o .pre .1)
+    (f .result) (f .ensures) (k .before .enum-told .given .1) (k .choose .result) (k .choose .ensures) (g .0 .0) (g .1) (w .inv .1)
+    (w .held) (c .before .before .mark-rows .result) (c .before .released-slots .result) (c .into-slot .result)
+    (read-all (o .args .t1) (g .0 .0) (w .r) (w .held) (omega arith) (w .inv .2)) (c .before .before .mark-rows .ensures) (c .before .released-slots .ensures) (c .into-slot .ensures)
 
-released-slots-requires : tie.Need-released-slots-requires
-released-slots-requires c κs =
-    let o = c .before .before .before .before .before .before .before .before .before .before .before .before .before .before in (o .pre .0 .0, ap (λ (f : Front). f .slots) (o .pre .0 .1))
+loop2-holds : tie.Need-loop2-holds Inv-loop μ-loop Inv-loop2 μ-loop2
+loop2-holds c =
+    let g = c .before .slot .given in
+    let f = c .before .before .before .find-page in
+    let o = c .before .before .before .before .before .before .before in (
+      omega arith,
+      found-at (o .args .t1) (o .args .row) (o .args .page) (o .args .mode) (f .result) (g .0 .0) (o .pre .0) (f .ensures) (g .1),
+      read-none (o .args .t1) (g .0 .0) _ (c .before .before .before .before .no-held .ensures),
+    )
 
-settle-requires : tie.Need-settle-requires
-settle-requires c κs =
-    let t = c .before .before .before .before .before .before .before .before in
-    let o = t .before .before .before .before .before .before .before in
-    (below t, o .pre .1)
+loop2-again : tie.Need-loop2-again Inv-loop μ-loop Inv-loop2 μ-loop2
+loop2-again c =
+    let w = c .before .before .loop2 in
+    let o = c .before .before .before .before .before .before .before .before .before .before in
+    (omega arith, w .inv .1, read-turn (o .args .t1) (c .before .before .before .before .slot .given .0 .0) (w .r) (w .held) (omega arith) (w .inv .2))
 
-returns-3 : tie.Need-returns-3
+returns-3 : tie.Need-returns-3 Inv-loop μ-loop Inv-loop2 μ-loop2
 returns-3 c =
-    let p = c .before .before .before .before in
-    let t = p .before .before .before .before .before in
-    let g = t .before .before .before in
-    let o = g .before .before .before .before in
-    settled-serves (decoded (o .args .a .now)) (decoded-sized (o .args .a .now)) (o .args .f) (o .pre .0 .1) (o .pre .0 .2) (o .args .row) (o .args .page) (o .args .mode) (o .pre .1) (o .args .found) (o .pre .4) (g .aim .result) (g .aim .ensures)
-    _ (t .before .slot .given .1) (p .before .before .before .before .held-on .result) (p .before .before .before .before .held-on .ensures) (p .plan-for .result) (p .plan-for .ensures) (c .before .before .before .if1 .left) (c .before .released-slots .result) (c .before .released-slots .ensures) (c .settle .result) (c .settle .ensures)
+    let p = c .before .before .plan-steps in
+    let w = c .before .before .before .before .before .before .loop2 in
+    let g = c .before .before .before .before .before .before .before .before .slot .given in
+    let f = c .before .before .before .before .before .before .before .before .before .before in
+    let o = f .before .before .before .before in
+    serve-plan-wait (o .args .t1) (o .args .row) (o .args .page) (o .args .mode) (state-ok (o .args .t1) _ (o .good .0) .sized) (o .pre .1)
+    (f .find-page .result) (f .find-page .ensures) (g .0 .0) (g .1) (w .held) (read-all (o .args .t1) (g .0 .0) (w .r) (w .held) (omega arith) (w .inv .2))
+    (p .result) (p .ensures) (c .before .if1 .taken) (c .wait2 .result) (c .wait2 .ensures)
+
+grant-requires : tie.Need-grant-requires Inv-loop μ-loop Inv-loop2 μ-loop2
+grant-requires c κs =
+    let w = c .before .before .before .before .before .before .before .before .loop2 in
+    let o = c .before .before .before .before .before .before .before .before .before .before .before .before .before .before .before .before in
+    (taken-slot (leaving (o .args .t1) (c .before .released-slots2 .result) (c .before .before .before .before .plan-steps .result .marks) (c .before .before .before .before .before .before .before .before .before .before .slot .given .0 .0) (w .held)) (c .take-rows .result) (c .take-rows .ensures) (w .inv .1), o .pre .1)
+
+returns-4 : tie.Need-returns-4 Inv-loop μ-loop Inv-loop2 μ-loop2
+returns-4 c =
+    let p = c .before .before .before .before .before .plan-steps in
+    let w = c .before .before .before .before .before .before .before .before .before .loop2 in
+    let g = c .before .before .before .before .before .before .before .before .before .before .before .slot .given in
+    let f = c .before .before .before .before .before .before .before .before .before .before .before .before .before in
+    let o = f .before .before .before .before in
+    serve-plan-grant (o .args .t1) (o .args .row) (o .args .page) (o .args .mode) (state-ok (o .args .t1) _ (o .good .0) .sized) (o .pre .1)
+    (f .find-page .result) (f .find-page .ensures) (g .0 .0) (g .1) (w .held) (read-all (o .args .t1) (g .0 .0) (w .r) (w .held) (omega (arith, w .inv .0, c .before .before .before .before .before .before .before .before .loop2-test .left)) (w .inv .2))
+    (p .result) (p .ensures) (c .before .before .before .before .if1 .left) (w .inv .1)
+    (c .before .before .released-slots2 .result) (c .before .take-rows .result) (c .grant .result) (c .before .before .released-slots2 .ensures) (c .before .take-rows .ensures) (c .grant .ensures)
 
 pub serve-spec : {M : Type 1} → statement M
 serve-spec =
     tie.close
     (tie.spec
-    aim-requires (λ c. search needs) (λ c. search needs) wait-requires returns held-on-requires mul-x array-copy-out-x
-    add-plan-for plan-for-requires wait-requires-2 returns-2 released-slots-requires settle-requires returns-3)
+    Inv-loop μ-loop Inv-loop2 μ-loop2 (λ c. search needs) (λ c κs. search needs) (λ c κs. search needs) (λ c. search needs) (λ c. search needs)
+    (λ c κs. search needs) (λ c. search needs) (λ c. search needs) (λ c κs. search needs) returns loop-holds (λ c. omega arith) (λ c. omega arith)
+    (λ c. omega arith) (λ c. omega arith) (λ c. omega arith) (λ c. omega arith) (λ c. omega arith) (λ c. omega arith) loop-again
+    (λ c κs. search needs) (λ c κs. search needs) into-slot-requires returns-2 loop2-holds (λ c. omega arith) (λ c. omega arith)
+    (λ c. omega arith) (λ c. omega arith) (λ c. omega arith) (λ c. omega arith) (λ c. omega arith) (λ c. omega arith) loop2-again
+    (λ c. omega arith) (λ c. omega arith) (λ c κs. search needs) (λ c κs. search needs) returns-3 (λ c κs. search needs) (λ c κs. search needs)
+    grant-requires returns-4)

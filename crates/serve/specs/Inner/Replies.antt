@@ -4,8 +4,6 @@ use mathlib.Core.List.{List}
 use Prim.Native.Nat.{ℕ}
 use lib.ListN.{getD, set, replicate}
 use Rattle.seq.specs.Each.{each}
-use Rattle.seq.specs.declared.Found.{Found}
-use Rattle.seq.specs.declared.Found.the-variants.{At, Nowhere}
 use Rattle.model.specs.declared.Mode.{Mode}
 use Rattle.model.specs.declared.Cause.the-variants.{Taken}
 use Rattle.model.specs.declared.Condition.the-variants.{Waiting}
@@ -13,7 +11,6 @@ use Rattle.model.specs.declared.Row.{Row}
 use Rattle.model.specs.declared.Slot.{Slot}
 use Rattle.model.specs.declared.Holding.{Holding}
 use Rattle.model.specs.declared.Back.{Back}
-use Rattle.model.specs.declared.Back.the-variants.{Nothing}
 use Rattle.model.specs.declared.Answer.the-variants.{Wait}
 use Rattle.model.specs.declared.Setting.the-variants.{Left}
 use Rattle.model.specs.declared.Change.{Change}
@@ -23,9 +20,8 @@ use Rattle.model.specs.State.{freeRow, emptySlot, emptyHolding}
 use Rattle.model.specs.Words.{arrivalIn}
 use Rattle.model.specs.Changes.{killedRow}
 use Rattle.model.specs.Inner.Changed.{marked, holdingsDropped}
-use Rattle.rules.specs.Calls.{writeBack}
 use Rattle.choice.specs.Inner.Summary.{ranksOf}
-use Rattle.serve.specs.declared.Kills.the-variants.{Pinning, Conflicting}
+use Rattle.serve.specs.declared.Kills.the-variants.{Conflicting}
 use Rattle.serve.specs.declared.Plan.{Plan}
 use Rattle.serve.specs.Inner.Granted.{heldNow, filledSlot, touchedSlot, grantedRow, grantedAnswer}
 use Rattle.serve.specs.Inner.SlotHoldings.{seenIn, leastIn, seesDormantIn, marksOf, mustWaitIn}
@@ -86,13 +82,3 @@ granting c row mode arrival back = record {
   };
   answer = grantedAnswer (c .slot) arrival (c .clock) back;
 }
-
--- steps 1 to 3, and the reply of a request that does not wait, by where the page was found
-abbrev pub plannedFor : Found → List Holding → List Row → List ℕ → Slot → ℕ → Mode → ℕ → Plan
-plannedFor Nowhere held rows places x row mode due = record { wait = false; marks = marksOf held Pinning; arrival = due }
-plannedFor (At slot) held rows places x row mode due = planned held rows places x row mode due
-
-abbrev pub settled : Found → Change → ℕ → ℕ → Mode → ℕ → Reply
-settled Nowhere c row page mode arrival =
-    granting (slotFilled (rowsTaken c) page arrival (levelOf row)) row mode arrival (writeBack (getD (c .slots) (c .slot) emptySlot))
-settled (At slot) c row page mode arrival = granting (rowsTaken c) row mode arrival Nothing

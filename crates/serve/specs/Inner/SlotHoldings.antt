@@ -1,4 +1,4 @@
--- For the code; seenIn, leastIn, seesDormantIn and mustWaitIn are proved equal to seen, leastArrival, seesDormant and mustWait, proofs/SlotLaws.antt: what is read of the 32 holdings of one slot, by row.
+-- For the code; seenIn, leastIn, seesDormantIn and mustWaitIn are proved equal to seen, leastArrival, seesDormant and mustWait, proofs/SlotLaws.antt: the 32 holdings of one slot, by row, and what is read of them.
 use mathlib.Core.Bool.{Bool, false, cond, _&&_, not}
 use mathlib.Core.List.{List}
 use Prim.Native.Nat.{ℕ}
@@ -9,13 +9,20 @@ use Rattle.seq.specs.Each.{each}
 use Rattle.model.specs.declared.Rank.{Rank}
 use Rattle.model.specs.declared.Slot.{Slot}
 use Rattle.model.specs.declared.Holding.{Holding}
+use Rattle.model.specs.declared.State.{State}
 use Rattle.model.specs.Parties.{levelOf, better}
+use Rattle.model.specs.State.{emptyHolding, holdingAt}
 use Rattle.model.specs.Words.{isFilled, isHeld, isPin, pinOf, conflict}
 use Rattle.model.specs.Inner.Changed.{marked}
 use Rattle.choice.specs.Inner.Summary.{noRank}
-use Rattle.holdings.specs.Inner.OnSlot.{heldBy}
 use Rattle.serve.specs.declared.Kills.{Kills}
 use Rattle.serve.specs.declared.Kills.the-variants.{Pinning, Conflicting}
+
+unfoldable pub holdingsOn : State → ℕ → List Holding
+holdingsOn s slot = each (λ row _. holdingAt s slot row) (replicate 32 emptyHolding)
+
+abbrev pub heldBy : List Holding → ℕ → Holding
+heldBy held row = getD held row emptyHolding
 
 -- the row is of the level or a lower one, and has a holding
 unfoldable pub seenTest : ℕ → ℕ → Holding → Bool

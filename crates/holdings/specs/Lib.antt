@@ -1,2 +1,0 @@
--- for the code
-pub mod Inner
