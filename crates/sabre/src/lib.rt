@@ -154,7 +154,8 @@ fn settle(area: &mut [u8], answer: &mut [u64; 4], o: Outcome) -> u32
 {
     let x = o.answer;
     let n = tell(answer, x);
-    if answer[0] == 0 {
+    let word = answer[0];
+    if word == 0 {
         return n;
     }
     let s = o.state;

@@ -75,14 +75,14 @@ module _ (s : State) (row page : ℕ) (mode : Mode) where
       unfolding served slotOf
       serve-wait w o q = rw (← e, none, ← k, w) (waited o q)
 
-      pub serve-into : (slot : ℕ) → g ≡ At slot → slot < 64 → (held : List Holding) (gone : List Bool) (left : List Slot) (o : Reply)
-          → held ≡ holdingsOn s slot → gone ≡ marksOf held Pinning → left ≡ released (marked gone) s .slots
-          → o ≡ entering (leaving s left gone slot held) row page mode (s .clock + s .delay) → outcomeOf s o ≡ served s row page mode
+      pub serve-into : (slot : ℕ) → g ≡ At slot → slot < 64 → (held : List Holding) (gone : List Bool) (left : List Slot) (c : Change) (o : Reply)
+          → held ≡ holdingsOn s slot → gone ≡ marksOf held Pinning → left ≡ released (marked gone) s .slots → c ≡ leaving s left gone slot held
+          → o ≡ entering c row page mode (s .clock + s .delay) → outcomeOf s o ≡ served s row page mode
       unfolding served slotOf killed
-      serve-into slot w b held gone left o on m l q = rw (← e, none, ← k, w) (ap (outcomeOf s) (q ∙ told) ∙ entered)
+      serve-into slot w b held gone left c o on m l d q = rw (← e, none, ← k, w) (ap (outcomeOf s) (q ∙ told) ∙ entered)
         where
-          told : entering (leaving s left gone slot held) row page mode (s .clock + s .delay) ≡ entering (taking s (marksOf (holdingsOn s slot) Pinning) slot) row page mode (s .clock + s .delay)
-          told = rw (l, m, on)
+          told : entering c row page mode (s .clock + s .delay) ≡ entering (taking s (marksOf (holdingsOn s slot) Pinning) slot) row page mode (s .clock + s .delay)
+          told = rw (d, l, m, on)
 
           entered : outcomeOf s (entering (taking s (marksOf (holdingsOn s slot) Pinning) slot) row page mode (s .clock + s .delay)) ≡ intoSlot (At slot) s row page mode
           entered =
@@ -99,8 +99,8 @@ module _ (s : State) (row page : ℕ) (mode : Mode) where
       pub serve-plan-wait : p .wait ≡ true → (o : Reply) → o ≡ waitReply (s .clock) (s .rows) (s .slots) row page mode → outcomeOf s o ≡ served s row page mode
       serve-plan-wait w o q = rw (serve-plan, w) (waited o q)
 
-      pub serve-plan-grant : p .wait ≡ false → slot < 64 → (left : List Slot) (c : Change) (o : Reply)
-          → left ≡ released (marked (p .marks)) s .slots → c ≡ rowsTaken (leaving s left (p .marks) slot held)
-          → o ≡ granting c row mode (p .arrival) Nothing → outcomeOf s o ≡ served s row page mode
-      serve-plan-grant w b left c o l t q =
-          rw (serve-plan, w, q, t, l, on) (after-taken s z (p .marks) slot row mode (p .arrival) Nothing b h)
+      pub serve-plan-grant : p .wait ≡ false → slot < 64 → (left : List Slot) (c d : Change) (o : Reply)
+          → left ≡ released (marked (p .marks)) s .slots → c ≡ leaving s left (p .marks) slot held → d ≡ rowsTaken c
+          → o ≡ granting d row mode (p .arrival) Nothing → outcomeOf s o ≡ served s row page mode
+      serve-plan-grant w b left c d o l k t q =
+          rw (serve-plan, w, q, t, k, l, on) (after-taken s z (p .marks) slot row mode (p .arrival) Nothing b h)

@@ -18,6 +18,7 @@ use seq::Found;
 ghost use mathlib.Core.Path.{_≡_};
 ghost use Prim.Native.Nat.{_+_, _<_, _≤_, _^_, min};
 ghost use lib.ListN.{getD, replicate};
+ghost use Rattle.model.specs.declared.Setting.the-variants.{Left};
 ghost use Rattle.model.specs.State.{emptySlot, emptyHolding};
 ghost use Rattle.model.specs.Words.{arrivalIn};
 ghost use Rattle.model.specs.Parties.{levelOf};
@@ -458,8 +459,30 @@ fn into_slot(c: Change, row: usize, page: u32, mode: Mode, due: u64) -> Reply
     grant(filled, row, mode, due, back)
 }
 
-// The request of a row for a page: the search for the page, and steps 1 to 4. The holdings of the slot are read here, in two loops, since a function
-// that takes the state copies it.
+// What the steps before step 4 make of the state: some rows lose all their holdings, and a slot has the holdings given.
+fn leave_rows(
+    clock: u64,
+    rows: [Row; 32],
+    slots: [Slot; 64],
+    gone: [bool; 32],
+    slot: usize,
+    held: [Holding; 32],
+) -> Change
+    ensures { λ r. ⌜ r ≡ record { clock = clock; rows = rows; slots = slots; gone = gone; slot = slot; held = held; setting = Left } ⌝ }
+{
+    Change {
+        clock,
+        rows,
+        slots,
+        gone,
+        slot,
+        held,
+        setting: Setting::Left,
+    }
+}
+
+// The request of a row for a page: the search for the page, and steps 1 to 4. The holdings of the slot, and those of the rows that are killed, are read
+// here, in loops of its own, since a function that takes the state copies it.
 pub fn serve(s: State, row: usize, page: u32, mode: Mode) -> Reply
     requires { ⌜ (s .size ≤ 64) × (row < 32) × (s .clock + s .delay < 2 ^ 64) ⌝ }
     ensures { λ r. ⌜ outcomeOf s r ≡ served s row page mode ⌝ }
@@ -467,7 +490,7 @@ pub fn serve(s: State, row: usize, page: u32, mode: Mode) -> Reply
     let clock = s.clock;
     let due = s.clock + s.delay;
     let rows = s.rows;
-    let slots = s.slots;
+    let mut slots = s.slots;
     let mut held = no_held();
     let Found::At(slot) = choice::find_page(slots, s.size, page) else {
         let Found::At(chosen) = choice::choose(s, row) else {
@@ -478,16 +501,15 @@ pub fn serve(s: State, row: usize, page: u32, mode: Mode) -> Reply
             held[r] = h;
         }
         let gone = mark_rows(held, Kills::Pinning);
-        let left = model::released_slots(s, clock, gone);
-        let c = Change {
-            clock,
-            rows,
-            slots: left,
-            gone,
-            slot: chosen,
-            held,
-            setting: Setting::Left,
-        };
+        for r in 0..32usize {
+            for i in 0..model::slots_lost(gone[r]) {
+                let h = s.holdings[i * 32 + r];
+                let x = slots[i];
+                let y = model::marked_slot(model::is_written(clock, h), x);
+                slots[i] = y;
+            }
+        }
+        let c = leave_rows(clock, rows, slots, gone, chosen, held);
         return into_slot(c, row, page, mode, due);
     };
     for r in 0..32usize {
@@ -501,16 +523,15 @@ pub fn serve(s: State, row: usize, page: u32, mode: Mode) -> Reply
         return wait(clock, rows, slots, row, page, mode);
     }
     let gone = p.marks;
-    let left = model::released_slots(s, clock, gone);
-    let c = Change {
-        clock,
-        rows,
-        slots: left,
-        gone,
-        slot,
-        held,
-        setting: Setting::Left,
-    };
+    for r in 0..32usize {
+        for i in 0..model::slots_lost(gone[r]) {
+            let h = s.holdings[i * 32 + r];
+            let old = slots[i];
+            let y = model::marked_slot(model::is_written(clock, h), old);
+            slots[i] = y;
+        }
+    }
+    let c = leave_rows(clock, rows, slots, gone, slot, held);
     let taken = take_rows(c);
     grant(taken, row, mode, p.arrival, Back::Nothing)
 }

@@ -9,8 +9,6 @@ use Rattle.model.specs.State.{emptyHolding, holdingAt}
 use Rattle.serve.specs.Inner.SlotHoldings.{holdingsOn}
 use Rattle.calls.proofs.holdings_on.Statement.{statement}
 use Rattle.calls.proofs.holdings_on.Tie as tie
-use Rattle.calls.proofs.holdings_on.Reads as reads
-use Rattle.calls.proofs.holdings_on.Lts as lts
 
 abbrev Inv-loop : tie.InvT-loop
 Inv-loop slot holdings held₀ r₀ held r = (r ≤ 32) × (held ≡ eachBelow r (λ row _. getD holdings (slot * 32 + row) emptyHolding) (replicate 32 emptyHolding))

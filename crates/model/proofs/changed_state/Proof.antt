@@ -30,14 +30,6 @@ loop-holds c =
     let a = c .before .before in
     (omega arith, drop-begins (a .args .s) (state-ok (a .args .s) _ (a .good .0) .sized .holdings) (a .args .c))
 
-array-read-slots-lost :
-    tie.Need-array-read-slots-lost Inv-loop2 μ-loop2 Inv-loop μ-loop Inv-loop3 μ-loop3
-array-read-slots-lost c = omega arith
-
-slots-lost-requires :
-    tie.Need-slots-lost-requires Inv-loop2 μ-loop2 Inv-loop μ-loop Inv-loop3 μ-loop3
-slots-lost-requires c κs = search needs
-
 loop2-holds : tie.Need-loop2-holds Inv-loop2 μ-loop2 Inv-loop μ-loop Inv-loop3 μ-loop3
 loop2-holds c =
     let l = dropped-long (c .before .before .before .before .before .args .s) (state-ok (c .before .before .before .before .before .args .s) _ (c .before .before .before .before .before .good .0) .sized .holdings) (c .before .before .before .before .before .args .c) (c .before .before .loop .r) (c .before .before .loop .n) (c .before .before .loop .inv .1) in
@@ -52,27 +44,17 @@ add-t21 c = let b = lost-below _ (c .before .loop2 .i) _ (c .before .before .slo
 mul-t22 : tie.Need-mul-t22 Inv-loop2 μ-loop2 Inv-loop μ-loop Inv-loop3 μ-loop3
 mul-t22 c = let b = lost-below _ (c .before .loop2 .i) _ (c .before .before .slots-lost .ensures) (omega arith) in omega arith
 
-element-set-from-n :
-    tie.Need-element-set-from-n Inv-loop2 μ-loop2 Inv-loop μ-loop Inv-loop3 μ-loop3
+element-set-from-n : tie.Need-element-set-from-n Inv-loop2 μ-loop2 Inv-loop μ-loop Inv-loop3 μ-loop3
 element-set-from-n c = let b = lost-below _ (c .before .loop2 .i) _ (c .before .before .slots-lost .ensures) (omega arith) in omega arith
 
 add-i : tie.Need-add-i Inv-loop2 μ-loop2 Inv-loop μ-loop Inv-loop3 μ-loop3
 add-i c = let b = lost-below _ (c .before .loop2 .i) _ (c .before .before .slots-lost .ensures) (omega arith) in omega arith
-
-loop2-less : tie.Need-loop2-less Inv-loop2 μ-loop2 Inv-loop μ-loop Inv-loop3 μ-loop3
-loop2-less c = omega arith
 
 loop2-again : tie.Need-loop2-again Inv-loop2 μ-loop2 Inv-loop μ-loop Inv-loop3 μ-loop3
 loop2-again c =
     let b = lost-below _ (c .before .loop2 .i) _ (c .before .before .slots-lost .ensures) (omega arith) in
     let l = dropped-long (c .before .before .before .before .before .before .before .args .s) (state-ok (c .before .before .before .before .before .before .before .args .s) _ (c .before .before .before .before .before .before .before .good .0) .sized .holdings) (c .before .before .before .before .before .before .before .args .c) (c .before .before .before .before .loop .r) (c .before .before .before .before .loop .n) (c .before .before .before .before .loop .inv .1) in
     (omega arith, row-turn (c .before .before .before .before .loop .n) l (c .before .before .before .before .loop .r) (c .before .loop2 .i) (c .before .loop2 .n) (omega arith) b (c .before .loop2 .inv .1))
-
-add-r : tie.Need-add-r Inv-loop2 μ-loop2 Inv-loop μ-loop Inv-loop3 μ-loop3
-add-r c = omega arith
-
-loop-less : tie.Need-loop-less Inv-loop2 μ-loop2 Inv-loop μ-loop Inv-loop3 μ-loop3
-loop-less c = omega arith
 
 loop-again : tie.Need-loop-again Inv-loop2 μ-loop2 Inv-loop μ-loop Inv-loop3 μ-loop3
 loop-again c =
@@ -82,9 +64,6 @@ loop-again c =
       row-ends (a .args .s) (state-ok (a .args .s) _ (a .good .0) .sized .holdings) (a .args .c) (c .before .before .before .before .loop .r) (c .before .loop2 .i) (c .before .before .before .before .loop .n) (c .before .loop2 .n) (e ∙ c .before .before .slots-lost .ensures)
           (c .before .before .before .before .loop .inv .1) (c .before .loop2 .inv .1),
     )
-
-rows-put-requires : tie.Need-rows-put-requires Inv-loop2 μ-loop2 Inv-loop μ-loop Inv-loop3 μ-loop3
-rows-put-requires c κs = search needs
 
 loop3-holds : tie.Need-loop3-holds Inv-loop2 μ-loop2 Inv-loop μ-loop Inv-loop3 μ-loop3
 loop3-holds c =
@@ -106,15 +85,8 @@ add-h c = let b = slot-below (c .before .before .before .before .before .before 
 mul-h-3 : tie.Need-mul-h-3 Inv-loop2 μ-loop2 Inv-loop μ-loop Inv-loop3 μ-loop3
 mul-h-3 c = let b = slot-below (c .before .before .before .before .before .before .before .before .args .c .slot) (c .before .before .loop3 .r) _ (c .before .before .before .rows-put .ensures) (omega arith) in omega (arith, b .0, b .1)
 
-element-set-from-h :
-    tie.Need-element-set-from-h Inv-loop2 μ-loop2 Inv-loop μ-loop Inv-loop3 μ-loop3
+element-set-from-h : tie.Need-element-set-from-h Inv-loop2 μ-loop2 Inv-loop μ-loop Inv-loop3 μ-loop3
 element-set-from-h c = let b = slot-below (c .before .before .before .before .before .before .before .before .args .c .slot) (c .before .before .loop3 .r) _ (c .before .before .before .rows-put .ensures) (omega arith) in omega (arith, b .0, b .1)
-
-add-r-2 : tie.Need-add-r-2 Inv-loop2 μ-loop2 Inv-loop μ-loop Inv-loop3 μ-loop3
-add-r-2 c = omega arith
-
-loop3-less : tie.Need-loop3-less Inv-loop2 μ-loop2 Inv-loop μ-loop Inv-loop3 μ-loop3
-loop3-less c = omega arith
 
 loop3-again : tie.Need-loop3-again Inv-loop2 μ-loop2 Inv-loop μ-loop Inv-loop3 μ-loop3
 loop3-again c =
@@ -133,35 +105,6 @@ pub changed-state-spec : {M : Type 1} → statement M
 changed-state-spec =
     tie.close
     (tie.spec
-    Inv-loop2
-    μ-loop2
-    Inv-loop
-    μ-loop
-    Inv-loop3
-    μ-loop3
-    loop-holds
-    array-read-slots-lost
-    slots-lost-requires
-    loop2-holds
-    mul-t20
-    add-t21
-    mul-t22
-    element-set-from-n
-    add-i
-    loop2-less
-    loop2-again
-    add-r
-    loop-less
-    loop-again
-    rows-put-requires
-    loop3-holds
-    mul-h
-    array-copy-out-h
-    mul-h-2
-    add-h
-    mul-h-3
-    element-set-from-h
-    add-r-2
-    loop3-less
-    loop3-again
-    returns)
+    Inv-loop2 μ-loop2 Inv-loop μ-loop Inv-loop3 μ-loop3 loop-holds (λ c. omega arith) (λ c κs. search needs) loop2-holds mul-t20 add-t21 mul-t22
+    element-set-from-n add-i (λ c. omega arith) loop2-again (λ c. omega arith) (λ c. omega arith) loop-again (λ c κs. search needs) loop3-holds mul-h
+    array-copy-out-h mul-h-2 add-h mul-h-3 element-set-from-h (λ c. omega arith) (λ c. omega arith) loop3-again returns)
