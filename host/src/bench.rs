@@ -1,9 +1,11 @@
-//! Time for each call as a ratio to src/plain.rs, which has a limit, and to copying 65,536 bytes, which
-//! depends on the machine and has none, in the same run.
+//! Time for each call as a ratio to src/plain.rs, which has limits, and to src/bytes.rs and to copying
+//! 65,536 bytes, which have none, in the same run.
 
+use crate::bytes::BYTES;
 use crate::calls::*;
+use crate::model::State;
 use crate::plain::PLAIN;
-use crate::states::{calls_on, more_states, states};
+use crate::states::{calls_on, more_states, states, tries};
 use std::hint::black_box;
 use std::time::Instant;
 
@@ -53,68 +55,79 @@ fn time_call(manager: &Manager, from: &[u8], area: &mut [u8], call: &Call) -> f6
     begun.elapsed().as_nanos() as f64
 }
 
-/// The most times plain Rust that a call may take.
-const TIMES_PLAIN: f64 = 2.5;
+/// The most times plain Rust that a call may take. A start that is accepted has no limit, since it comes
+/// once; a tick that tries rows has a higher one.
+fn limit(state: &State, call: &Call) -> Option<f64> {
+    match (call, tries(state, call)) {
+        (Call::Start { slots: 1..=64, delay: 1..=255 }, _) => None,
+        (_, 0) => Some(2.5),
+        (_, 1..=4) => Some(4.5),
+        _ => Some(7.0),
+    }
+}
 
 /// One line of the table.
 struct Entry {
     state: String,
     sort: String,
     call: Call,
-    bytes: Vec<u8>,
-    /// Of each round: copy, call and plain in nanoseconds.
-    rounds: Vec<[f64; 3]>,
+    area: Vec<u8>,
+    limit: Option<f64>,
+    /// Of each round: copy, call, plain and bytes in nanoseconds.
+    rounds: Vec<[f64; 4]>,
 }
 
 impl Entry {
-    fn new(state: String, sort: String, call: Call, bytes: Vec<u8>) -> Entry {
-        Entry { state, sort, call, bytes, rounds: Vec::new() }
-    }
-
-    /// Both managers must do the same, so that their times can be compared.
+    /// The managers must do the same, so that their times can be compared.
     fn check(&self, manager: &Manager) -> Result<(), String> {
-        let [one, other] = [manager, &PLAIN].map(|manager| {
-            let mut area = self.bytes.clone();
+        let [one, plain, bytes] = [manager, &PLAIN, &BYTES].map(|manager| {
+            let mut area = self.area.clone();
             let mut list = vec![0; self.call.list_length()];
             let outcome = manager.call(&mut area, &mut list, &self.call);
             (outcome, area, list)
         });
-        if one == other {
-            return Ok(());
+        for (name, other) in [(PLAIN.name, plain), (BYTES.name, bytes)] {
+            if one != other {
+                let part = if one.0 != other.0 { "answer" } else { "bytes" };
+                let (state, sort, manager) = (&self.state, &self.sort, manager.name);
+                return Err(format!("bench: {state}, {sort}: {manager} and {name} differ in the {part}"));
+            }
         }
-        let part = if one.0 != other.0 { "answer" } else { "bytes" };
-        Err(format!("bench: {}, {}: {} and plain differ in the {part}", self.state, self.sort, manager.name))
+        Ok(())
     }
 
     fn round(&mut self, manager: &Manager, from: &mut [u8], area: &mut [u8]) {
-        from.copy_from_slice(&self.bytes);
-        let mut times = [const { Vec::new() }; 3];
+        from.copy_from_slice(&self.area);
+        let mut times = [const { Vec::new() }; 4];
         for _ in 0..REPEATS {
             times[0].push(time_copy(from, area));
             times[1].push(time_call(manager, from, area, &self.call));
             times[2].push(time_call(&PLAIN, from, area, &self.call));
+            times[3].push(time_call(&BYTES, from, area, &self.call));
         }
         self.rounds.push(times.map(median));
     }
 
-    fn median_of(&self, number: impl Fn(&[f64; 3]) -> f64) -> f64 {
+    fn median_of(&self, number: impl Fn(&[f64; 4]) -> f64) -> f64 {
         median(self.rounds.iter().map(number).collect())
     }
 }
 
 fn entries() -> Vec<Entry> {
     let mut all = states();
-    // Two sorts occur only with dormant slots; a tick is longest where all rows are late or wait; and
-    // borders are set where no row has begun.
-    let names = ["dormant", "late", "fresh", "in vain", "served"];
-    all.extend(names.into_iter().zip(more_states()).map(|(name, (_, state))| (name, state)));
+    // Two sorts occur only with dormant slots; a tick is longest where all rows are late or wait, or each
+    // try takes a row; and borders are set where no row has begun.
+    let names = ["dormant", "late", "fresh", "in vain", "served", "kill hit", "kill miss"];
+    let more = more_states();
+    assert!(names.len() == more.len());
+    all.extend(names.into_iter().zip(more).map(|(name, (_, state))| (name, state)));
     let mut list = Vec::new();
     let mut old = Vec::new();
     for (name, state) in all {
         for (sort, call) in calls_on(&state) {
             match name {
                 "dormant" if !sort.contains("dormant") && !sort.contains("slot by b") => continue,
-                "late" | "in vain" | "served" if call != TICK => continue,
+                "late" | "in vain" | "served" | "kill hit" | "kill miss" if call != TICK => continue,
                 "fresh" if sort != "borders" => continue,
                 _ => {}
             }
@@ -124,11 +137,19 @@ fn entries() -> Vec<Entry> {
                 ("full" | "fresh", _) | ("half", Call::Begin { .. }) => true,
                 _ => false,
             };
+            let limit = limit(&state, &call);
+            let entry = |state: String, sort: String, area: Vec<u8>| Entry {
+                state,
+                sort,
+                call,
+                area,
+                limit,
+                rounds: Vec::new(),
+            };
             if in_old {
-                let bytes = state.old_bytes().unwrap();
-                old.push(Entry::new(format!("old {name}"), sort.clone(), call, bytes));
+                old.push(entry(format!("old {name}"), sort.clone(), state.old_bytes().unwrap()));
             }
-            list.push(Entry::new(name.to_string(), sort, call, state.bytes()));
+            list.push(entry(name.to_string(), sort, state.bytes()));
         }
     }
     list.append(&mut old);
@@ -151,34 +172,42 @@ pub fn bench(manager: &Manager) -> Result<(), String> {
         }
     }
     println!(
-        "  {:<9} {:<25} {:>8} {:>8} {:>9} {:>7} {:>8} {:>8}  limit",
-        "state", "call", "copy ns", "call ns", "plain ns", "copies", "plain in", "times"
+        "  {:<9} {:<25} {:>8} {:>8} {:>9} {:>9} {:>7} {:>8} {:>8} {:>8}  limit",
+        "state", "call", "copy ns", "call ns", "plain ns", "bytes ns", "copies", "plain in", "times", "times"
     );
-    println!("  {:<9} {:<25} {:>8} {:>8} {:>9} {:>7} {:>8} {:>8}", "", "", "", "", "", "", "copies", "plain");
+    println!(
+        "  {:<9} {:<25} {:>8} {:>8} {:>9} {:>9} {:>7} {:>8} {:>8} {:>8}",
+        "", "", "", "", "", "", "", "copies", "plain", "bytes"
+    );
     let mut failed = Vec::new();
     for entry in &list {
         let times_plain = entry.median_of(|times| times[1] / times[2]);
-        let pass = times_plain <= TIMES_PLAIN;
+        let verdict = match entry.limit {
+            None => "none".to_string(),
+            Some(limit) if times_plain <= limit => format!("{limit} pass"),
+            Some(limit) => {
+                failed.push(format!("{}, {}: {times_plain:.2}, limit {limit}", entry.state, entry.sort));
+                format!("{limit} FAIL")
+            }
+        };
         println!(
-            "  {:<9} {:<25} {:>8.0} {:>8.0} {:>9.0} {:>7.2} {:>8.2} {:>8.2}  {}",
+            "  {:<9} {:<25} {:>8.0} {:>8.0} {:>9.0} {:>9.0} {:>7.2} {:>8.2} {:>8.2} {:>8.2}  {verdict}",
             entry.state,
             entry.sort,
             entry.median_of(|times| times[0]),
             entry.median_of(|times| times[1]),
             entry.median_of(|times| times[2]),
+            entry.median_of(|times| times[3]),
             entry.median_of(|times| times[1] / times[0]),
             entry.median_of(|times| times[2] / times[0]),
             times_plain,
-            if pass { "pass" } else { "FAIL" }
+            entry.median_of(|times| times[1] / times[3])
         );
-        if !pass {
-            failed.push(format!("{}, {}: {times_plain:.2}", entry.state, entry.sort));
-        }
     }
-    println!("  limit: each line at most {TIMES_PLAIN} times plain; copies have none");
+    println!("  limit: how many times plain each line may take; times bytes and copies have none");
     if failed.is_empty() {
         Ok(())
     } else {
-        Err(format!("bench: over {TIMES_PLAIN} times plain: {}", failed.join("; ")))
+        Err(format!("bench: over the limit of times plain: {}", failed.join("; ")))
     }
 }

@@ -1,6 +1,7 @@
 //! Tests and benchmark of the SABRE buffer manager from the side of its host.
 
 mod bench;
+mod bytes;
 mod calls;
 mod cases;
 mod compare;

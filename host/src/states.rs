@@ -2,7 +2,7 @@
 //! the measure of the stack.
 
 use crate::calls::*;
-use crate::model::{self, Condition, Holding, Mode, Pin, Row, RowId, Slot, State, Tally};
+use crate::model::{self, Cause, Condition, Holding, Mode, Pin, Row, RowId, Slot, State, Tally};
 
 /// The rows of each level that are not free began in the falling order of their numbers.
 fn ordered(mut state: State) -> State {
@@ -97,6 +97,15 @@ pub fn states() -> Vec<(&'static str, State)> {
         assert!(model::read(&state.bytes()).as_ref() == Ok(state));
     }
     list
+}
+
+/// The rows whose turn comes in a tick, those taken before it included; 0 in any other call.
+pub fn tries(state: &State, call: &Call) -> u64 {
+    let mut tally = Tally::default();
+    let outcome = state.clone().call(call, &mut tally);
+    outcome.fills.len() as u64
+        + tally.of("tick: a waiting row tried in vain")
+        + tally.of("tick: a waiting row killed on the way")
 }
 
 /// The sort of an outcome, as a line of the table.
@@ -218,8 +227,37 @@ fn all_wait(dormant: bool) -> State {
     ordered(state)
 }
 
+/// A state with 16 slots, each with a write pin of a row of level 2 or 3 and held by no other. The rows
+/// of levels 0 and 1 wait: each to write the page of a slot of its own, or each to read a page that is
+/// in no slot. So each try of a tick takes a row.
+fn all_kill(hit: bool) -> State {
+    let mut state = State::fresh(16, 3);
+    state.begun = true;
+    state.clock = 1000;
+    for slot in 0..16 {
+        let (level, number) = (slot / 8, slot % 8);
+        let deadline = 5000 + 10 * ((number * 3) % 8);
+        let holder = (level + 2, number);
+        let page = 1024 * holder.0 + 16 * number;
+        state.filled.insert(slot, Slot { page, arrival: 900, dirty: false, lowest: holder.0, touch: 980 });
+        state.rows.insert(holder, Row { condition: Condition::Idle, deadline });
+        state.holdings.insert((slot, holder), Holding { pin: Pin::Write, arrival: 950, touch: 980 });
+        let (page, mode) = if hit { (page, Mode::Write) } else { (900 + slot, Mode::Read) };
+        state.rows.insert((level, number), Row { condition: Condition::Waiting { page, mode }, deadline });
+    }
+    let state = ordered(state);
+    let mut after = state.clone();
+    let mut tally = Tally::default();
+    let filled = after.call(&TICK, &mut tally).fills.len();
+    let taken = |row: &&Row| row.condition == Condition::Killed(Cause::Taken);
+    let taken = after.rows.values().filter(taken).count();
+    let chosen = if hit { 0 } else { 16 };
+    assert!(filled == 16 && taken == 16 && tally.of("choice d") == chosen);
+    state
+}
+
 /// States in which a sort occurs that these lack: a dormant slot, a last tick for all, no begin yet,
-/// all rows wait.
+/// all rows wait, each try takes a row.
 pub fn more_states() -> Vec<(&'static str, State)> {
     let (_, full) = states().pop().unwrap();
     let mut dormant = full.clone();
@@ -242,6 +280,8 @@ pub fn more_states() -> Vec<(&'static str, State)> {
         ("fresh", fresh),
         ("all wait in vain", all_wait(false)),
         ("all wait, dormant slots", all_wait(true)),
+        ("each try takes a row, its page is in a slot", all_kill(true)),
+        ("each try takes a row, its page is in none", all_kill(false)),
     ];
     for (name, state) in &list {
         let broken = state.broken();

@@ -2,7 +2,7 @@
 use mathlib.Core.Path.{_≡_, refl, sym, _∙_, ap}
 use mathlib.Core.Bool.{Bool, true, false, cond, _&&_}
 use mathlib.Core.List.{List}
-use Prim.Native.Nat.{ℕ, _+_, _*_, _/_, _%_, _<_}
+use Prim.Native.Nat.{ℕ, _+_, _*_, _/_, _%_, _<_, _≤_}
 use native.Mathlib.Omega.{arith}
 use native.Mathlib.Decide.{ℕ-discrete, decLt}
 use borrow.Author.Tests.{lt-ltb, le-ltb, eq-eqb, ne-eqb}
@@ -149,10 +149,10 @@ slot-below slot r n e h = elim (decLt slot 64) [
   | no d ↦ let m : n ≡ 0 = e ∙ rw (le-ltb slot 64 (omega arith)) in absurd (omega arith)
 ]
 
-pub lost-below : (gone : Bool) (i n : ℕ) → n ≡ lostBy gone → i < n → i < 64
+pub lost-most : (gone : Bool) (n : ℕ) → n ≡ lostBy gone → n ≤ 64
 unfolding lostBy
-lost-below true i n e h = omega arith
-lost-below false i n e h = absurd (omega arith)
+lost-most true n e = omega arith
+lost-most false n e = omega arith
 
 -- what the loops have made of a state: the rows below r, of row r the slots below i, and of a slot the rows below r
 abbrev pub Dropped : State → Change → ℕ → State → Type 0

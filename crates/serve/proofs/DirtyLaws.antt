@@ -2,7 +2,7 @@
 use mathlib.Core.Path.{_≡_, refl, sym, _∙_, ap}
 use mathlib.Core.Bool.{Bool, true, false, cond, _&&_, _||_}
 use mathlib.Core.List.{List}
-use Prim.Native.Nat.{ℕ, _+_, _<_, _≤_}
+use Prim.Native.Nat.{ℕ, _+_, _<_}
 use native.Mathlib.Omega.{arith}
 use lib.ListN.{length, getD, set}
 use lib.Seq.{ext-getD}
@@ -33,11 +33,6 @@ again true true x = twice x
 again true false x = refl
 again false true x = refl
 again false false x = refl
-
-pub lost-most : (gone : Bool) (n : ℕ) → n ≡ lostBy gone → n ≤ 64
-unfolding lostBy
-lost-most true n e = omega arith
-lost-most false n e = omega arith
 
 module _ (s : State) (marks : List Bool) where
   abbrev wrote : ℕ → ℕ → Bool

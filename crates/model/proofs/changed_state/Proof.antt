@@ -3,12 +3,12 @@ use Prim.Native.Nat.{_≤_, _-_}
 use native.Mathlib.Omega.{arith}
 use borrow.Author.Needs.{needs}
 use Rattle.model.proofs.Ranges.{state-ok}
-use Rattle.model.proofs.InPlace.{slot-below, lost-below, Dropped, Dropping, Putting, drop-begins, dropped-long, row-begins, row-turn, row-ends, put-begins, put-turn, put-ends}
+use Rattle.model.proofs.InPlace.{slot-below, lost-most, Dropped, Dropping, Putting, drop-begins, dropped-long, row-begins, row-turn, row-ends, put-begins, put-turn, put-ends}
 use Rattle.model.proofs.changed_state.Statement.{statement}
 use Rattle.model.proofs.changed_state.Tie as tie
 
 abbrev Inv-loop2 : tie.InvT-loop2
-Inv-loop2 c gone held slot n₀ r i₀ i-end n i = (i ≤ i-end) × Dropping n₀ r i n
+Inv-loop2 c gone held slot n₀ r i₀ i-end n i = (i ≤ i-end) × (i-end ≤ 64) × Dropping n₀ r i n
 
 abbrev μ-loop2 : tie.MeasureT-loop2
 μ-loop2 c gone held slot n₀ r i₀ i-end n i = i-end - i
@@ -33,28 +33,12 @@ loop-holds c =
 loop2-holds : tie.Need-loop2-holds Inv-loop2 μ-loop2 Inv-loop μ-loop Inv-loop3 μ-loop3
 loop2-holds c =
     let l = dropped-long (c .before .before .before .before .before .args .s) (state-ok (c .before .before .before .before .before .args .s) _ (c .before .before .before .before .before .good .0) .sized .holdings) (c .before .before .before .before .before .args .c) (c .before .before .loop .r) (c .before .before .loop .n) (c .before .before .loop .inv .1) in
-    (omega arith, row-begins (c .before .before .loop .n) l (c .before .before .loop .r))
-
-mul-t20 : tie.Need-mul-t20 Inv-loop2 μ-loop2 Inv-loop μ-loop Inv-loop3 μ-loop3
-mul-t20 c = let b = lost-below _ (c .before .loop2 .i) _ (c .before .before .slots-lost .ensures) (omega arith) in omega arith
-
-add-t21 : tie.Need-add-t21 Inv-loop2 μ-loop2 Inv-loop μ-loop Inv-loop3 μ-loop3
-add-t21 c = let b = lost-below _ (c .before .loop2 .i) _ (c .before .before .slots-lost .ensures) (omega arith) in omega arith
-
-mul-t22 : tie.Need-mul-t22 Inv-loop2 μ-loop2 Inv-loop μ-loop Inv-loop3 μ-loop3
-mul-t22 c = let b = lost-below _ (c .before .loop2 .i) _ (c .before .before .slots-lost .ensures) (omega arith) in omega arith
-
-element-set-from-n : tie.Need-element-set-from-n Inv-loop2 μ-loop2 Inv-loop μ-loop Inv-loop3 μ-loop3
-element-set-from-n c = let b = lost-below _ (c .before .loop2 .i) _ (c .before .before .slots-lost .ensures) (omega arith) in omega arith
-
-add-i : tie.Need-add-i Inv-loop2 μ-loop2 Inv-loop μ-loop Inv-loop3 μ-loop3
-add-i c = let b = lost-below _ (c .before .loop2 .i) _ (c .before .before .slots-lost .ensures) (omega arith) in omega arith
+    (omega arith, lost-most _ _ (c .slots-lost .ensures), row-begins (c .before .before .loop .n) l (c .before .before .loop .r))
 
 loop2-again : tie.Need-loop2-again Inv-loop2 μ-loop2 Inv-loop μ-loop Inv-loop3 μ-loop3
 loop2-again c =
-    let b = lost-below _ (c .before .loop2 .i) _ (c .before .before .slots-lost .ensures) (omega arith) in
     let l = dropped-long (c .before .before .before .before .before .before .before .args .s) (state-ok (c .before .before .before .before .before .before .before .args .s) _ (c .before .before .before .before .before .before .before .good .0) .sized .holdings) (c .before .before .before .before .before .before .before .args .c) (c .before .before .before .before .loop .r) (c .before .before .before .before .loop .n) (c .before .before .before .before .loop .inv .1) in
-    (omega arith, row-turn (c .before .before .before .before .loop .n) l (c .before .before .before .before .loop .r) (c .before .loop2 .i) (c .before .loop2 .n) (omega arith) b (c .before .loop2 .inv .1))
+    (omega arith, c .before .loop2 .inv .1, row-turn (c .before .before .before .before .loop .n) l (c .before .before .before .before .loop .r) (c .before .loop2 .i) (c .before .loop2 .n) (omega arith) (omega arith) (c .before .loop2 .inv .2))
 
 loop-again : tie.Need-loop-again Inv-loop2 μ-loop2 Inv-loop μ-loop Inv-loop3 μ-loop3
 loop-again c =
@@ -62,7 +46,7 @@ loop-again c =
     let e : c .before .loop2 .i ≡ c .before .before .slots-lost .result = omega arith in (
       omega arith,
       row-ends (a .args .s) (state-ok (a .args .s) _ (a .good .0) .sized .holdings) (a .args .c) (c .before .before .before .before .loop .r) (c .before .loop2 .i) (c .before .before .before .before .loop .n) (c .before .loop2 .n) (e ∙ c .before .before .slots-lost .ensures)
-          (c .before .before .before .before .loop .inv .1) (c .before .loop2 .inv .1),
+          (c .before .before .before .before .loop .inv .1) (c .before .loop2 .inv .2),
     )
 
 loop3-holds : tie.Need-loop3-holds Inv-loop2 μ-loop2 Inv-loop μ-loop Inv-loop3 μ-loop3
@@ -105,6 +89,6 @@ pub changed-state-spec : {M : Type 1} → statement M
 changed-state-spec =
     tie.close
     (tie.spec
-    Inv-loop2 μ-loop2 Inv-loop μ-loop Inv-loop3 μ-loop3 loop-holds (λ c. omega arith) (λ c κs. search needs) loop2-holds mul-t20 add-t21 mul-t22
-    element-set-from-n add-i (λ c. omega arith) loop2-again (λ c. omega arith) (λ c. omega arith) loop-again (λ c κs. search needs) loop3-holds mul-h
+    Inv-loop2 μ-loop2 Inv-loop μ-loop Inv-loop3 μ-loop3 loop-holds (λ c. omega arith) (λ c κs. search needs) loop2-holds (λ c. omega arith) (λ c. omega arith) (λ c. omega arith)
+    (λ c. omega arith) (λ c. omega arith) (λ c. omega arith) loop2-again (λ c. omega arith) (λ c. omega arith) loop-again (λ c κs. search needs) loop3-holds mul-h
     array-copy-out-h mul-h-2 add-h mul-h-3 element-set-from-h (λ c. omega arith) (λ c. omega arith) loop3-again returns)

@@ -2,9 +2,10 @@ use mathlib.Core.Path.{_≡_, _∙_}
 use Prim.Native.Nat.{_≤_, _<_, _-_}
 use native.Mathlib.Omega.{arith}
 use borrow.Author.Needs.{needs}
+use Rattle.model.proofs.InPlace.{lost-most}
 use Rattle.model.proofs.Ranges.{state-ok}
 use Rattle.serve.proofs.SlotLaws.{Read, read-none, read-turn, read-all}
-use Rattle.serve.proofs.DirtyLaws.{lost-most, Released, Releasing, released-none, releasing-none, releasing-turn, releasing-all, released-all}
+use Rattle.serve.proofs.DirtyLaws.{Released, Releasing, released-none, releasing-none, releasing-turn, releasing-all, released-all}
 use Rattle.serve.proofs.ReplyLaws.{taken-slot}
 use Rattle.serve.proofs.ServeLaws.{found-at, chosen-at, serve-wait, serve-into, serve-plan-wait, serve-plan-grant}
 use Rattle.serve.proofs.serve.Statement.{statement}
