@@ -20,8 +20,8 @@ ghost use Rattle.words.specs.Bytes.{hasWords, spliced, joined, wordBytes};
 ghost use Rattle.model.specs.Parties.{modeOf};
 ghost use Rattle.model.specs.State.{freeRow, emptySlot, emptyHolding};
 ghost use Rattle.model.specs.Inner.Changed.{marked, changed};
-ghost use Rattle.area.specs.Layout.{mark, bit, low, causeNumber, conditionOf, pinNumbered, contentOf, rowFrom, slotFrom, holdingFrom, bordersFrom, placesFrom, headerWords, placesBytes, rowWords, slotWords, holdingWords, freeRows, emptySlots, decoded, encoded, versionIn, exactAs};
-ghost use Rattle.area.specs.Inner.Exact.{exactRows, exactSlots, exactHoldings};
+ghost use Rattle.area.specs.Layout.{mark, bit, low, causeNumber, conditionOf, pinNumbered, contentOf, rowFrom, slotFrom, holdingFrom, bordersFrom, placesFrom, placesBytes, rowWords, slotWords, holdingWords, freeRows, emptySlots, decoded, encoded, versionIn, exactAs};
+ghost use Rattle.area.specs.Inner.Exact.{exactRows, exactSlots};
 ghost use Rattle.area.specs.Inner.Writes.{placesPut, orderPut, headerPut, settingPut, rowDropped, rowsDropped};
 
 // The rows, the slots and a holding that an area names, and whether its bytes there are exactly theirs.
@@ -427,7 +427,7 @@ fn put_slots(a: &mut [u8], slots: [Slot; 64])
     }
 }
 
-// The state written over the first 65,536 bytes; the others are left. The holdings are written from their place.
+// The state written over the first 65,536 bytes; the others are left.
 pub fn encode(a: &mut [u8], s: State)
     requires { ⌜ 65536 ≤ length (now a) ⌝ }
     ensures { λ _. ⌜ now (a .exit) ≡ encoded s ++ drop 65536 (now (a .entry)) ⌝ }

@@ -18,8 +18,7 @@ use Rattle.model.specs.declared.State.{State}
 use Rattle.model.specs.State.{slotAt, holdingAt}
 use Rattle.model.specs.Words.{arrivalIn, hasPage, strength, seenHolder, seen, isOpen, strongestPin, pageSlot}
 use Rattle.rules.specs.Calls.{viewedPin, viewedIn}
-use Rattle.serve.specs.Inner.SlotHoldings.{seenTest}
-use Rattle.serve.specs.Inner.SlotHoldings.{holdingsOn, heldBy, seenIn, leastIn, seesDormantIn}
+use Rattle.serve.specs.Inner.SlotHoldings.{seenTest, holdingsOn, heldBy, seenIn, leastIn, seesDormantIn}
 use Rattle.serve.proofs.SlotLaws.{held-by, seen-in, least-in, dormant-in}
 use Rattle.calls.specs.Inner.Parts.{strongestIn}
 

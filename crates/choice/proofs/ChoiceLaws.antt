@@ -13,7 +13,6 @@ use Rattle.seq.specs.declared.Found.the-variants.{At, Nowhere}
 use Rattle.seq.proofs.Tests.{and-true, and-when, parts}
 use Rattle.seq.proofs.PickLaws.{pick-same, picked-same}
 use Rattle.seq.proofs.EachLaws.{each-below-reached}
-use Rattle.model.specs.declared.Rank.{Rank}
 use Rattle.model.specs.declared.State.{State}
 use Rattle.model.specs.Parties.{levelOf}
 use Rattle.model.specs.State.{emptySlot, slotAt}

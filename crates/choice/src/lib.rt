@@ -68,7 +68,7 @@ pub struct Holders {
     pub pinned: bool,
 }
 
-// What the choice asks of the holdings for a requester: its rank, the holders of each slot, and whether the requester pins it.
+// What the choice asks for a requester: its rank, the holders of each slot, and whether the requester pins it.
 pub struct Survey {
     pub requester: Rank,
     pub holders: [Holders; 64],

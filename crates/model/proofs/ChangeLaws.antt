@@ -23,10 +23,6 @@ module _ (some : ℕ → Bool) (s : State) (z : Sized s) where
   unfolding released
   released-slot slot h = each-at (λ i x. cond (wroteSlot some s i) (dirtied x) x) (s .slots) slot emptySlot (rw (z .slots) h)
 
-  pub released-row : (row : ℕ) → rowAt (released some s) row ≡ rowAt s row
-  unfolding released
-  released-row row = refl
-
   pub sized-released : Sized (released some s)
   unfolding released
   sized-released = record { rows = z .rows; slots = each-length _ (s .slots) ∙ z .slots; holdings = each-length _ (s .holdings) ∙ z .holdings; places = z .places }

@@ -1,40 +1,26 @@
 -- The state after a change: its holdings place by place, where no slot's holdings are replaced, and where one of them is set.
-use mathlib.Core.Path.{_≡_, refl, sym, _∙_, ap}
+use mathlib.Core.Path.{_≡_, refl, sym, _∙_}
 use mathlib.Core.Bool.{Bool, false, cond}
 use mathlib.Core.List.{List}
 use Prim.Native.Nat.{ℕ, _+_, _*_, _/_, _%_, _<_}
 use native.Mathlib.Omega.{arith}
 use native.Mathlib.Decide.{ℕ-discrete}
 use borrow.Author.Tests.{eq-eqb, ne-eqb}
-use lib.Dec.{eqb}
 use lib.ListN.{length, getD, set, length-set}
 use lib.Seq.{ext-getD, getD-set-same, getD-set-other}
 use Rattle.seq.specs.Each.{each}
 use Rattle.seq.proofs.EachLaws.{each-length, each-at, each-same, each-still}
 use Rattle.model.specs.State.{emptyHolding, holdingAt}
-use Rattle.model.specs.Changes.{movedUp, closedUp}
 use Rattle.model.specs.Inner.Changed.{marked, holdingAfter, bordersAfter, begunAfter, placesAfter, changed, holdingsDropped}
 use Rattle.model.specs.declared.Row.{Row}
 use Rattle.model.specs.declared.Slot.{Slot}
 use Rattle.model.specs.declared.Holding.{Holding}
 use Rattle.model.specs.declared.Setting.{Setting}
-use Rattle.model.specs.declared.Setting.the-variants.{Left, Begun, Ended, Set}
 use Rattle.model.specs.declared.Change.{Change}
 use Rattle.model.specs.declared.State.{State}
 use Rattle.model.proofs.StateLaws.{Sized, place-slot, place-row}
 
-pub places-long : (x : Setting) (places : List ℕ) → length (placesAfter x places) ≡ length places
-unfolding closedUp
-places-long Left places = refl
-places-long (Begun row place) places = length-set places row place
-places-long (Ended row) places = each-length (movedUp row (getD places row 0)) places
-places-long (Set first second third) places = refl
-
 module _ (s : State) (z : Sized s) where
-  pub sized-changed : (c : Change) → length (c .rows) ≡ 32 → length (c .slots) ≡ 64 → Sized (changed s c)
-  unfolding changed
-  sized-changed c e f = record { rows = e; slots = f; holdings = each-length (holdingAfter c) (s .holdings) ∙ z .holdings; places = places-long (c .setting) (s .places) ∙ z .places }
-
   -- a list that agrees with a change at every place
   pub holdings-are : (c : Change) (l : List Holding) → length l ≡ 2048
       → ((k : ℕ) → k < 2048 → holdingAfter c k (getD (s .holdings) k emptyHolding) ≡ getD l k emptyHolding)

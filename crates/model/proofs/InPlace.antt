@@ -10,6 +10,7 @@ use lib.Dec.{eqb, ltb}
 use lib.ListN.{length, getD, set, length-set}
 use lib.Seq.{ext-getD, getD-set-same, getD-set-other}
 use Rattle.seq.specs.Each.{each}
+use Rattle.seq.proofs.Tests.{and-false-right}
 use Rattle.seq.proofs.EachLaws.{each-length, each-at, each-same, each-still}
 use Rattle.model.specs.State.{emptyHolding, withHoldings}
 use Rattle.model.specs.Inner.Changed.{marked, holdingAfter, changed, LeavesSetting, lostBy, putOn}
@@ -52,16 +53,12 @@ dropping r i k h = cond (eqb (k % 32) r && ltb (k / 32) i) emptyHolding h
 abbrev pub putting : Change → ℕ → ℕ → Holding → Holding
 putting c r k h = cond (eqb (k / 32) (c .slot) && ltb (k % 32) r) (getD (c .held) (k % 32) emptyHolding) h
 
-and-no : (x : Bool) → x && false ≡ false
-and-no true = refl
-and-no false = refl
-
 module _ (l : List Holding) (long : length l ≡ 2048) where
   none-dropped : (gone : List Bool) → l ≡ each (dropped gone 0) l
   none-dropped gone = sym (each-still (dropped gone 0) l emptyHolding (λ k _. rw (le-ltb (k % 32) 0 (omega arith))))
 
   none-dropping : (r : ℕ) → l ≡ each (dropping r 0) l
-  none-dropping r = sym (each-still (dropping r 0) l emptyHolding (λ k _. rw (le-ltb (k / 32) 0 (omega arith), and-no (eqb (k % 32) r))))
+  none-dropping r = sym (each-still (dropping r 0) l emptyHolding (λ k _. rw (le-ltb (k / 32) 0 (omega arith), and-false-right (eqb (k % 32) r) false refl)))
 
   drop-one : (r i : ℕ) → r < 32 → i < 64 → set (each (dropping r i) l) (i * 32 + r) emptyHolding ≡ each (dropping r (i + 1)) l
   drop-one r i h b = set-each l long (dropping r i) (dropping r (i + 1)) (i * 32 + r) emptyHolding (omega arith) other here
@@ -97,10 +94,10 @@ module _ (l : List Holding) (long : length l ≡ 2048) where
         where
           go : k % 32 ≡ r → (t : Bool) → marked gone r ≡ t → i ≡ cond t 64 0 → dropping r i k (dropped gone r k x) ≡ dropped gone (r + 1) k x
           go q true u w = rw (q, eq-eqb r r refl, lt-ltb (k / 32) i (omega arith), lt-ltb r (r + 1) (omega arith), u)
-          go q false u w = rw (q, le-ltb (k / 32) i (omega arith), and-no (eqb r r), le-ltb r r (omega arith), lt-ltb r (r + 1) (omega arith), u)
+          go q false u w = rw (q, le-ltb (k / 32) i (omega arith), and-false-right (eqb r r) false refl, le-ltb r r (omega arith), lt-ltb r (r + 1) (omega arith), u)
 
   none-put : (c : Change) → l ≡ each (putting c 0) l
-  none-put c = sym (each-still (putting c 0) l emptyHolding (λ k _. rw (le-ltb (k % 32) 0 (omega arith), and-no (eqb (k / 32) (c .slot)))))
+  none-put c = sym (each-still (putting c 0) l emptyHolding (λ k _. rw (le-ltb (k % 32) 0 (omega arith), and-false-right (eqb (k / 32) (c .slot)) false refl)))
 
   put-one : (c : Change) (r : ℕ) → c .slot < 64 → r < 32 → set (each (putting c r) l) (c .slot * 32 + r) (getD (c .held) r emptyHolding) ≡ each (putting c (r + 1)) l
   put-one c r b h = set-each l long (putting c r) (putting c (r + 1)) (c .slot * 32 + r) (getD (c .held) r emptyHolding) (omega arith) other here

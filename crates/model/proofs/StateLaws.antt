@@ -60,9 +60,6 @@ module _ (s : State) (z : Sized s) where
   pub sized-put-holding : (slot row : ℕ) (x : Holding) → Sized (putHolding s slot row x)
   sized-put-holding slot row x = record { rows = z .rows; slots = z .slots; holdings = length-set (s .holdings) (slot * 32 + row) x ∙ z .holdings; places = z .places }
 
-  pub sized-clock : (clock : ℕ) → Sized (withClock s clock)
-  sized-clock clock = record { rows = z .rows; slots = z .slots; holdings = z .holdings; places = z .places }
-
   pub sized-begun : Sized (withBegun s)
   sized-begun = record { rows = z .rows; slots = z .slots; holdings = z .holdings; places = z .places }
 

@@ -4,7 +4,7 @@ use mathlib.Core.Bool.{Bool, true, false, cond, _||_, not}
 use mathlib.Core.List.{List, [], _∷_, _++_}
 use Prim.Native.Nat.{ℕ, zero, suc, _+_, _<_, _≤_, _^_}
 use native.Mathlib.Omega.{arith}
-use borrow.Author.Tests.{lt-ltb, le-ltb, lt-leb, ne-eqb}
+use borrow.Author.Tests.{le-ltb, ne-eqb}
 use lib.Dec.{eqb, lit<}
 use lib.ListN.{length, drop, getD}
 use Rattle.seq.proofs.Tests.{true-false, or-none, or-true-right}
@@ -17,7 +17,6 @@ use types.Run.{OneOf, miss}
 use Rattle.model.specs.declared.State.{State}
 use Rattle.model.specs.declared.Outcome.{Outcome}
 use Rattle.model.specs.declared.Reply.{Reply}
-use Rattle.model.specs.declared.Cause.{Cause}
 use Rattle.model.specs.declared.Cause.the-variants.{Late, Taken}
 use Rattle.model.specs.declared.Back.{Back}
 use Rattle.model.specs.declared.Answer.{Answer}
@@ -49,9 +48,9 @@ use Rattle.model.specs.State.{fresh}
 use Rattle.model.specs.Inner.Changed.{changed, outcomeOf}
 use Rattle.rules.specs.Sound.{sound}
 use Rattle.rules.specs.Content.{fields, isStart, isReading}
-use Rattle.rules.specs.Answers.{word, value, slotTold, backTold, isClock}
+use Rattle.rules.specs.Answers.{word, value, slotTold, isClock}
 use Rattle.rules.specs.Refusals.{startRefusal}
-use Rattle.rules.specs.Calls.{unless, started}
+use Rattle.rules.specs.Calls.{started}
 use Rattle.model.specs.declared.Call.{Call}
 use Rattle.model.specs.declared.Call.the-variants.{Start, Begin, Request, Unpin, End, Tick, Look, View, Count, Borders}
 use Rattle.rules.specs.Run.{outcome, fillsOf}

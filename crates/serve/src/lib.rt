@@ -460,7 +460,7 @@ fn into_slot(c: Change, row: usize, page: u32, mode: Mode, due: u64) -> Reply
 }
 
 // What the steps before step 4 make of the state: some rows lose all their holdings, and a slot has the holdings given.
-fn leave_rows(
+fn before_grant(
     clock: u64,
     rows: [Row; 32],
     slots: [Slot; 64],
@@ -482,7 +482,7 @@ fn leave_rows(
 }
 
 // The request of a row for a page: the search for the page, and steps 1 to 4. The holdings of the slot, and those of the rows that are killed, are read
-// here, in loops of its own, since a function that takes the state copies it.
+// here, in loops of its own, since a function that takes the state copies it: once for a chosen slot, and once for the slot that has the page.
 pub fn serve(s: State, row: usize, page: u32, mode: Mode) -> Reply
     requires { ⌜ (s .size ≤ 64) × (row < 32) × (s .clock + s .delay < 2 ^ 64) ⌝ }
     ensures { λ r. ⌜ outcomeOf s r ≡ served s row page mode ⌝ }
@@ -509,7 +509,7 @@ pub fn serve(s: State, row: usize, page: u32, mode: Mode) -> Reply
                 slots[i] = y;
             }
         }
-        let c = leave_rows(clock, rows, slots, gone, chosen, held);
+        let c = before_grant(clock, rows, slots, gone, chosen, held);
         return into_slot(c, row, page, mode, due);
     };
     for r in 0..32usize {
@@ -531,7 +531,7 @@ pub fn serve(s: State, row: usize, page: u32, mode: Mode) -> Reply
             slots[i] = y;
         }
     }
-    let c = leave_rows(clock, rows, slots, gone, slot, held);
+    let c = before_grant(clock, rows, slots, gone, slot, held);
     let taken = take_rows(c);
     grant(taken, row, mode, p.arrival, Back::Nothing)
 }

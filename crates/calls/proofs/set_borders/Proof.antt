@@ -10,7 +10,7 @@ use borrow.Author.Needs.{needs}
 use Rattle.calls.proofs.set_borders.Statement.{statement}
 use Rattle.calls.proofs.set_borders.Tie as tie
 
-number : (c : tie.After-first2) → let a = c .before .before .before .before .before .args in c .first2 .result ≡ bordersRefusal (a .s) (record { first = a .lowest; second = a .middle; third = a .highest })
+number : (c : tie.After-first2) → let a = c .before .before .before .before .before .args in c .first2 .result ≡ bordersRefusal (a .s) (record { first = a .lower; second = a .middle; third = a .upper })
 unfolding bordersRefusal
 number c = cc
 
@@ -26,7 +26,7 @@ unfolding bordered
 returns-2 c =
     let b = c .before .before in
     let a = b .before .before .before .before .before in
-    set-after (a .args .s) (state-ok (a .args .s) _ (a .good .0) .sized) (c .make-setting .result) _ (Set (a .args .lowest) (a .args .middle) (a .args .highest)) Bordered (c .make-setting .ensures)
+    set-after (a .args .s) (state-ok (a .args .s) _ (a .good .0) .sized) (c .make-setting .result) _ (Set (a .args .lower) (a .args .middle) (a .args .upper)) Bordered (c .make-setting .ensures)
     ∙ taken _ _ _ _ (number b) (c .before .if1 .left)
 
 pub set-borders-spec : {M : Type 1} → statement M

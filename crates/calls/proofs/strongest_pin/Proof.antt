@@ -9,8 +9,7 @@ use Rattle.seq.proofs.BelowLaws.{any-test-turn}
 use Rattle.seq.proofs.ValueLaws.{value-turn}
 use Rattle.model.specs.declared.Pin.the-variants.{Absent}
 use Rattle.model.specs.Words.{strength, stronger}
-use Rattle.serve.specs.Inner.SlotHoldings.{seenTest}
-use Rattle.serve.specs.Inner.SlotHoldings.{heldBy}
+use Rattle.serve.specs.Inner.SlotHoldings.{seenTest, heldBy}
 use Rattle.calls.specs.Inner.Parts.{strongestIn}
 use Rattle.calls.proofs.strongest_pin.Statement.{statement}
 use Rattle.calls.proofs.strongest_pin.Tie as tie

@@ -6,7 +6,6 @@ use Rattle.model.proofs.Ranges.{state-ok}
 use Rattle.rules.specs.Calls.{threeSteps}
 use Rattle.rules.specs.Refusals.{tickRefusal}
 use Rattle.rules.specs.Sound.{sound}
-use Rattle.rules.specs.Tries.{listBytes, allTried}
 use Rattle.rules.proofs.Leaves.RefusalFacts.{tick-taken}
 use Rattle.rules.proofs.Stays.StaysSound.{steps-sound}
 use Rattle.tries.proofs.QueueLaws.{waiters-in}

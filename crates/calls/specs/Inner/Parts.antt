@@ -18,8 +18,7 @@ use Rattle.model.specs.Parties.{isPast}
 use Rattle.model.specs.State.{freeRow}
 use Rattle.model.specs.Words.{isLive, strength}
 use Rattle.model.specs.Inner.Changed.{holdingsDropped}
-use Rattle.serve.specs.Inner.SlotHoldings.{seenTest}
-use Rattle.serve.specs.Inner.SlotHoldings.{heldBy}
+use Rattle.serve.specs.Inner.SlotHoldings.{seenTest, heldBy}
 
 -- a reply that changes no holding, with its setting
 unfoldable pub settingMade : ℕ → List Row → List Slot → Setting → Answer → Reply

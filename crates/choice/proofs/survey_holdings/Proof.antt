@@ -3,12 +3,12 @@ use mathlib.Core.Bool.{false}
 use Prim.Native.Nat.{_≤_, _-_}
 use native.Mathlib.Omega.{arith}
 use borrow.Author.Needs.{needs}
-use lib.ListN.{getD, replicate}
+use lib.ListN.{replicate}
 use Rattle.seq.specs.Each.{eachBelow}
 use Rattle.seq.proofs.EachLaws.{each-below-none}
 use Rattle.seq.proofs.BuildLaws.{build-turn}
 use Rattle.model.specs.Words.{pins}
-use Rattle.choice.specs.Inner.Summary.{noRank, noHolders, holdersBelow, surveyOf}
+use Rattle.choice.specs.Inner.Summary.{noHolders, holdersBelow, surveyOf}
 use Rattle.choice.proofs.SummaryLaws.{rank-at, holders-turn, holders-none}
 use Rattle.choice.proofs.survey_holdings.Statement.{statement}
 use Rattle.choice.proofs.survey_holdings.Tie as tie

@@ -79,7 +79,7 @@ holdersWith w row rank h =
     (record { best = row; rank = rank; latest = h .touch; held = true; pinned = isPin (h .pin) }))
     w
 
--- ---- what the choice asks of the holdings for a requester: its rank, the holders of each slot started with, and whether it pins it
+-- ---- what the choice asks for a requester: its rank, the holders of each slot started with, and whether it pins it
 unfoldable pub surveyOf : State → ℕ → Survey
 surveyOf s me = record {
   requester = rankIn (s .rows) (s .places) me;

@@ -1,26 +1,17 @@
 use Rattle.rules.specs.Answers.{slotTold}
 use mathlib.Core.List.{_++_}
-use lib.ListN.{drop}
+use lib.ListN.{drop, length}
 use Rattle.model.specs.declared.State.{State}
 use Rattle.area.specs.Layout.{encoded}
 use native.Mathlib.Omega.{arith}
-use mathlib.Core.Path.{_≡_, refl, _∙_, sym, ap}
-use mathlib.Core.Bool.{not}
-use lib.ListN.{length, length-append}
-use Rattle.sabre.proofs.CallLaws.{Promise, refused-1, start-refused, start-accepted}
+use mathlib.Core.Path.{refl, _∙_, ap}
+use Rattle.sabre.proofs.CallLaws.{refused-1, start-refused, start-accepted}
 use borrow.Author.Tests.{lt-ltb}
 use Rattle.model.specs.declared.Call.the-variants.{Start}
 use Rattle.sabre.specs.Lent.{unfit}
 use borrow.Author.Needs.{needs}
 use Rattle.sabre.proofs.start.Statement.{statement}
 use Rattle.sabre.proofs.start.Tie as tie
-use Rattle.sabre.proofs.start.Reads as reads
-use Rattle.sabre.proofs.start.Lts as lts
-use Rattle.area.proofs.encode.Reads as encode-reads
-use Rattle.calls.proofs.start_refusal.Reads as start-refusal-reads
-use Rattle.model.proofs.fresh_state.Reads as fresh-state-reads
-use Rattle.sabre.proofs.refuse.Reads as refuse-reads
-use Rattle.sabre.proofs.tell.Reads as tell-reads
 
 refuse-requires : tie.Need-refuse-requires
 refuse-requires c κs = search needs

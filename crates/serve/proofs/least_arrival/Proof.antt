@@ -7,8 +7,7 @@ use lib.Dec.{ltb}
 use Rattle.seq.specs.Below.{anyBelow, pickBelow, atFound}
 use Rattle.seq.proofs.BelowLaws.{any-test-turn}
 use Rattle.seq.proofs.ValueLaws.{value-turn}
-use Rattle.serve.specs.Inner.SlotHoldings.{seenTest, lesser}
-use Rattle.serve.specs.Inner.SlotHoldings.{heldBy, leastIn}
+use Rattle.serve.specs.Inner.SlotHoldings.{seenTest, lesser, heldBy, leastIn}
 use Rattle.serve.proofs.least_arrival.Statement.{statement}
 use Rattle.serve.proofs.least_arrival.Tie as tie
 use Rattle.serve.proofs.least_arrival.Reads as reads

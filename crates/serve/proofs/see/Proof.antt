@@ -4,8 +4,7 @@ use native.Mathlib.Omega.{arith}
 use borrow.Author.Needs.{needs}
 use Rattle.seq.specs.Below.{anyBelow}
 use Rattle.seq.proofs.BelowLaws.{any-test-turn}
-use Rattle.serve.specs.Inner.SlotHoldings.{seenTest}
-use Rattle.serve.specs.Inner.SlotHoldings.{heldBy, seenIn}
+use Rattle.serve.specs.Inner.SlotHoldings.{seenTest, heldBy, seenIn}
 use Rattle.serve.proofs.see.Statement.{statement}
 use Rattle.serve.proofs.see.Tie as tie
 use Rattle.serve.proofs.see.Reads as reads

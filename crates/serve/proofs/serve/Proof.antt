@@ -97,7 +97,7 @@ loop2-again c =
 
 into-slot-requires : tie.Need-into-slot-requires Inv-loop μ-loop Inv-loop3 μ-loop3 Inv-loop2 μ-loop2 Inv-loop4 μ-loop4 Inv-loop6 μ-loop6 Inv-loop5 μ-loop5
 into-slot-requires c κs =
-    (rw (c .leave-rows .ensures) (c .before .before .before .before .before .loop .inv .1), c .before .before .before .before .before .before .before .before .before .before .before .before .before .before .before .before .pre .1)
+    (rw (c .before-grant .ensures) (c .before .before .before .before .before .loop .inv .1), c .before .before .before .before .before .before .before .before .before .before .before .before .before .before .before .before .pre .1)
 
 returns-2 : tie.Need-returns-2 Inv-loop μ-loop Inv-loop3 μ-loop3 Inv-loop2 μ-loop2 Inv-loop4 μ-loop4 Inv-loop6 μ-loop6 Inv-loop5 μ-loop5
 returns-2 c =
@@ -109,10 +109,10 @@ returns-2 c =
     let f = k .before .before .before .find-page in
     let o = k .before .before .before .before .before .before .before in
     serve-into (o .args .t1) (o .args .row) (o .args .page) (o .args .mode) (state-ok (o .args .t1) _ (o .good .0) .sized) (o .pre .1)
-    (f .result) (f .ensures) (k .before .enum-told .given .1) (k .choose .result) (k .choose .ensures) (g .0 .0) (g .1) (h .inv .1) (h .held) (m .result) (w .slots) (c .before .leave-rows .result) (c .into-slot .result)
+    (f .result) (f .ensures) (k .before .enum-told .given .1) (k .choose .result) (k .choose .ensures) (g .0 .0) (g .1) (h .inv .1) (h .held) (m .result) (w .slots) (c .before .before-grant .result) (c .into-slot .result)
     (read-all (o .args .t1) (g .0 .0) (h .r) (h .held) (omega (arith, h .inv .0, c .before .before .before .before .before .loop-test .left)) (h .inv .2)) (m .ensures)
     (released-all (o .args .t1) (m .result) (w .r) (w .slots) (omega (arith, w .inv .0, c .before .before .loop2-test .left)) (w .inv .1))
-    (c .before .leave-rows .ensures) (c .into-slot .ensures)
+    (c .before .before-grant .ensures) (c .into-slot .ensures)
 
 loop4-holds : tie.Need-loop4-holds Inv-loop μ-loop Inv-loop3 μ-loop3 Inv-loop2 μ-loop2 Inv-loop4 μ-loop4 Inv-loop6 μ-loop6 Inv-loop5 μ-loop5
 loop4-holds c =
@@ -167,7 +167,7 @@ loop5-again c =
 
 grant-requires : tie.Need-grant-requires Inv-loop μ-loop Inv-loop3 μ-loop3 Inv-loop2 μ-loop2 Inv-loop4 μ-loop4 Inv-loop6 μ-loop6 Inv-loop5 μ-loop5
 grant-requires c κs =
-    let l = c .before .leave-rows2 in
+    let l = c .before .before-grant2 in
     (taken-slot (l .result) (c .take-rows .result) (c .take-rows .ensures) (rw (l .ensures) (c .before .before .before .before .before .before .before .before .before .before .loop4 .inv .1)), c .before .before .before .before .before .before .before .before .before .before .before .before .before .before .before .before .before .before .pre .1)
 
 returns-4 : tie.Need-returns-4 Inv-loop μ-loop Inv-loop3 μ-loop3 Inv-loop2 μ-loop2 Inv-loop4 μ-loop4 Inv-loop6 μ-loop6 Inv-loop5 μ-loop5
@@ -180,9 +180,9 @@ returns-4 c =
     let o = f .before .before .before .before in
     serve-plan-grant (o .args .t1) (o .args .row) (o .args .page) (o .args .mode) (state-ok (o .args .t1) _ (o .good .0) .sized) (o .pre .1)
     (f .find-page .result) (f .find-page .ensures) (g .0 .0) (g .1) (h .held) (read-all (o .args .t1) (g .0 .0) (h .r) (h .held) (omega (arith, h .inv .0, c .before .before .before .before .before .before .before .before .before .before .loop4-test .left)) (h .inv .2))
-    (p .result) (p .ensures) (c .before .before .before .before .before .before .if1 .left) (h .inv .1) (w .slots) (c .before .before .leave-rows2 .result) (c .before .take-rows .result) (c .grant .result)
+    (p .result) (p .ensures) (c .before .before .before .before .before .before .if1 .left) (h .inv .1) (w .slots) (c .before .before .before-grant2 .result) (c .before .take-rows .result) (c .grant .result)
     (released-all (o .args .t1) (p .result .marks) (w .r) (w .slots) (omega (arith, w .inv .0, c .before .before .before .loop5-test .left)) (w .inv .1))
-    (c .before .before .leave-rows2 .ensures) (c .before .take-rows .ensures) (c .grant .ensures)
+    (c .before .before .before-grant2 .ensures) (c .before .take-rows .ensures) (c .grant .ensures)
 
 pub serve-spec : {M : Type 1} → statement M
 serve-spec =
