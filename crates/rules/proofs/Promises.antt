@@ -17,6 +17,7 @@ pub mod Drops
 pub mod FillLists
 pub mod Booking
 pub mod LetsGo
+pub mod WasDirty
 pub mod Widths
 pub mod Deadlines
 pub mod TickFills
