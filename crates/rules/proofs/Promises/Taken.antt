@@ -98,7 +98,7 @@ module _ (s : State) (sound-state : sound s ≡ true) (row : ℕ) (b : row < 32)
         let f = freed s z slot (chosen-free s row b z slot c .0) in
         let g = filled-ground s z page slot (levelOf row) (chosen-free s row b z slot c .0) in
         let x = one-of (pins s slot) slot (g .slot-is) (filled (pinnersKilled s slot) slot page (levelOf row)) (g .sized)
-            (filled-row (killed (pins s slot) Taken s) (f .sized) (f .most) slot page (levelOf row) (f .there)) (s .clock + s .delay) (writeBack (slotAt (pinnersKilled s slot) slot)) (rw r at k) in
+        (filled-row (killed (pins s slot) Taken s) (f .sized) (f .most) slot page (levelOf row) (f .there)) (s .clock + s .delay) (writeBack (slotAt (pinnersKilled s slot) slot)) (rw r at k) in
         on-chosen slot (g .slot-is) e c (is-pinned (holdingAt s slot q .pin) x)
 
   pub served-takes : IsTaken (served s row page mode .state) q → (q ≡ row → ⊥) × Takes s row page mode q

@@ -135,8 +135,8 @@ module _ (s : State) (sound-state : sound s ≡ true) (row : ℕ) (b : row < 32)
           let f = freed s z slot (free .0) in
           let g = filled-ground s z asked slot (levelOf row) (free .0) in
           let gone = other-row s z (pins s slot) row slot b below (filled (pinnersKilled s slot) slot asked (levelOf row)) (g .sized)
-              (filled-row k (f .sized) (f .most) slot asked (levelOf row) (f .there)) mode (s .clock + s .delay) (writeBack (slotAt (pinnersKilled s slot) slot))
-              q m (λ r. true-false (sym p ∙ rw r (free .1))) in (
+          (filled-row k (f .sized) (f .most) slot asked (levelOf row) (f .there)) mode (s .clock + s .delay) (writeBack (slotAt (pinnersKilled s slot) slot))
+          q m (λ r. true-false (sym p ∙ rw r (free .1))) in (
             c,
             has-page page (slotAt s slot .content) (z .held slot q below m (write-held (holdingAt s slot q .pin) v) .filled) (sym (dirtied-page (slotAt s slot .content)) ∙ (rw x at (d .1))),
             inr (record {
