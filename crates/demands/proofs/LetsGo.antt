@@ -1,4 +1,4 @@
--- Demand 2 over lent areas: a row that is killed or free holds nothing; a holding goes only so, or with its slot; what was written is dirty or reported.
+-- Demand 2 over lent areas: a row that is killed or free holds nothing; who is taken had a pin; a holding goes only so, or with its slot; what was written is dirty or reported, and what is reported was dirty.
 use mathlib.Core.Path.{_≡_, refl, sym, _∙_}
 use mathlib.Core.Bool.{true, false}
 use mathlib.Core.List.{List}
@@ -21,9 +21,12 @@ use Rattle.rules.specs.Calls.{looked}
 use Rattle.model.specs.declared.Call.{Call}
 use Rattle.model.specs.declared.Call.the-variants.{Look}
 use Rattle.rules.specs.Content.{Fits}
-use Rattle.rules.specs.Slots.{holdsPage, Refilled, Dirty, Reported}
+use Rattle.rules.specs.Slots.{holdsPage, Refilled, Dirty, Reported, WasDirty}
+use Rattle.rules.specs.Taken.{TakenBy}
 use Rattle.rules.proofs.Facts.SoundFacts.{facts}
 use Rattle.rules.proofs.Promises.LetsGo as States
+use Rattle.rules.proofs.Promises.Taken as Taking
+use Rattle.rules.proofs.Promises.WasDirty as Dirtied
 use Rattle.area.specs.Layout.{decoded}
 use Rattle.sabre.specs.Lent.{answerOn, isRefused, areaAfter, fitArea}
 use Rattle.demands.proofs.Areas.{accepted-sound, sound-answer, look-answer, look-named}
@@ -86,11 +89,20 @@ module _ (a : List ℕ) (z : fitArea a ≡ true) (c : Call) (fits : Fits c) wher
   lets-go row slot r b =
       rw (step-on a c z fits .1) (States.lets-go (decoded a) (fit-area a z .sound-state) c row slot r b)
 
+  -- a row that the call newly makes taken had, on a state of the call's course, a pin in conflict on the slot of the page that another row asked for, or a pin on the slot that was chosen for it
+  pub taken-only : (row : ℕ) → row < 32 → (rowAt (decoded a) row .condition ≡ Killed Taken → ⊥) → rowAt (decoded (areaAfter a c)) row .condition ≡ Killed Taken → TakenBy (decoded a) c row
+  taken-only row r new =
+      rw (step-on a c z fits .1) (Taking.taken-only (decoded a) (fit-area a z .sound-state) row r new c)
+
   -- a row no longer holds a page only where it is no longer live, or where it had no pin and a request that is served in the course of the call chose the slot for another page
   pub drops-only : (slot row page : ℕ) → slot < 64 → row < 32 → holdsPage (decoded a) slot row page ≡ true → holdsPage (decoded (areaAfter a c)) slot row page ≡ false
       → (isLive (rowAt (decoded (areaAfter a c)) row .condition) ≡ false) ⊎ Refilled (decoded a) c (decoded (areaAfter a c)) slot row
   drops-only slot row page b r =
       rw (step-on a c z fits .1) (States.drops-only (decoded a) (fit-area a z .sound-state) c slot row page b r)
+
+  -- a page that is reported for write-back, by the answer or by an entry of the list, stood in that slot on a state of the call's course: dirty, or written by a row that the call took
+  pub reported-dirty : (slot page : ℕ) → Reported (decoded a) c slot page → WasDirty (decoded a) c slot page
+  reported-dirty = Dirtied.reported-dirty (decoded a) (fit-area a z .sound-state) c
 
   -- by every call but an accepted start
   module _ (again : isStarted (answerOn a c) ≡ false) (slot : ℕ) (b : slot < 64) where

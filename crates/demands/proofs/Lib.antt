@@ -11,6 +11,7 @@ pub mod BeginOrder
 pub mod SessionHolds
 pub mod OneSlot
 pub mod Arrived
+pub mod Charged
 pub mod LetsGo
 pub mod TickList
 pub mod TickWaits

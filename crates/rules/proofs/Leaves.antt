@@ -1,4 +1,5 @@
 pub mod PageLaws
+pub mod PinWords
 pub mod GrantLaws
 pub mod UnpinLaws
 pub mod FillLaws

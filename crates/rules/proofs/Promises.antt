@@ -6,7 +6,9 @@ pub mod Granting
 pub mod BetterSafe
 pub mod ServedRows
 pub mod Reasons
+pub mod Charged
 pub mod TriedRows
+pub mod Taken
 pub mod Filled
 pub mod WaitFetch
 pub mod Arrived
@@ -15,6 +17,7 @@ pub mod Drops
 pub mod FillLists
 pub mod Booking
 pub mod LetsGo
+pub mod WasDirty
 pub mod Widths
 pub mod Deadlines
 pub mod TickFills

@@ -6,6 +6,7 @@ pub mod Content
 pub mod Run
 pub mod BeginOrder
 pub mod Requests
+pub mod Taken
 pub mod Arrivals
 pub mod Choice
 pub mod Waits

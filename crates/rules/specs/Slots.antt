@@ -1,13 +1,16 @@
--- Document 01, "The calls" and "Choosing a slot", and document 02, T-04: a page that a row holds, a slot that is dirty, a page that is reported for write-back, and a slot that was given a new page.
+-- Document 01, "The calls" and "Choosing a slot", and document 02, T-04: a page that a row holds, a slot that is dirty, a page that is reported for write-back and why, and a slot that was given a new page.
 use mathlib.Core.Path.{_≡_}
 use mathlib.Core.Bool.{Bool, true, false, _&&_}
 use mathlib.Core.Logic.{_⊎_}
-use Prim.Native.Nat.{ℕ, _+_}
+use Prim.Native.Nat.{ℕ, _+_, _<_, _≤_}
 use Rattle.seq.specs.declared.Found.the-variants.{At, Nowhere}
 use Rattle.model.specs.declared.Back.the-variants.{Page}
+use Rattle.model.specs.declared.Cause.the-variants.{Taken}
+use Rattle.model.specs.declared.Condition.the-variants.{Killed}
 use Rattle.model.specs.declared.Mode.{Mode}
+use Rattle.model.specs.declared.Pin.the-variants.{Write}
 use Rattle.model.specs.declared.State.{State}
-use Rattle.model.specs.State.{slotAt}
+use Rattle.model.specs.State.{rowAt, slotAt, holdingAt}
 use Rattle.model.specs.Words.{dirtyIn, hasPage, holds, pins, slotOf}
 use Rattle.rules.specs.Choice.{chosen}
 use Rattle.model.specs.declared.Call.{Call}
@@ -30,6 +33,25 @@ abbrev pub Reported : State → Call → ℕ → ℕ → Type 0
 Reported s c slot page =
     ((slotTold (outcome s c .answer) ≡ slot + 1) × (backTold (outcome s c .answer) ≡ page + 1))
     ⊎ Some (λ f. (f .slot ≡ slot) × (f .back ≡ Page page)) (fillsOf s c)
+
+-- a row with a write pin on the slot, whose page had arrived on u, is taken on t
+pub record WriterTaken (u t : State) (slot : ℕ) : Type 0 where
+  pub writer : ℕ
+  pub writer-row : writer < 32
+  pub writes : holdingAt u slot writer .pin ≡ Write
+  pub arrived : holdingAt u slot writer .arrival ≤ u .clock
+  pub taken : rowAt t writer .condition ≡ Killed Taken
+
+-- a request that was served in the course of the call, on a state of its course, chose the slot, in which the page stood: dirty, or written by a row that the call took
+pub record WasDirty (s : State) (c : Call) (slot page : ℕ) : Type 0 where
+  pub on : State
+  pub row : ℕ
+  pub asked : ℕ
+  pub mode : Mode
+  pub serves : Serves s c on row asked mode
+  pub chose : chosen on row ≡ At slot
+  pub has-it : hasPage page (slotAt on slot .content) ≡ true
+  pub dirty : (dirtyIn (slotAt on slot .content) ≡ true) ⊎ WriterTaken on (outcome s c .state) slot
 
 -- a request that was served in the course of the call, on a state of its course, gave the slot a new page, and row q had no pin there
 pub record Refilled (s : State) (c : Call) (t : State) (slot q : ℕ) : Type 0 where

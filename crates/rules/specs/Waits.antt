@@ -11,9 +11,10 @@ use Rattle.model.specs.declared.Mode.{Mode}
 use Rattle.model.specs.declared.State.{State}
 use Rattle.model.specs.Parties.{levelOf}
 use Rattle.model.specs.State.{rowAt, slotAt, holdingAt}
-use Rattle.model.specs.Words.{isLive, hasPage, pinOf, conflict, holds, pins, outranks, slotOf}
+use Rattle.model.specs.Words.{isLive, hasPage, holds, pins, outranks, slotOf}
 use Rattle.rules.specs.Calls.{viewedIn}
 use Rattle.rules.specs.Listed.{isIdleOrFetching, PinnedFor, Some}
+use Rattle.rules.specs.Taken.{InConflict}
 use Rattle.rules.specs.Tries.{Fill}
 
 -- step 1: a better row that the row sees pins its page in conflict
@@ -26,7 +27,7 @@ pub record BetterPins (s : State) (row page : ℕ) (mode : Mode) : Type 0 where
   pub slot : ℕ
   pub slot-is : slot < 64
   pub has-it : hasPage page (slotAt s slot .content) ≡ true
-  pub against : conflict (pinOf mode) (holdingAt s slot other .pin) ≡ true
+  pub against : InConflict mode (holdingAt s slot other .pin)
 
 -- a slot that the row cannot take: held by a row of lower level, by a better row of its own level, or pinned by itself
 pub data CannotTake (s : State) (row slot : ℕ) : Type 0 where

@@ -29,6 +29,7 @@ use Rattle.model.specs.declared.Answer.the-variants.{
   Bordered,
 }
 use Rattle.model.specs.declared.Call.{Call}
+use Rattle.model.specs.declared.Cause.the-variants.{Late, Taken}
 use Rattle.model.specs.declared.Condition.{Condition}
 use Rattle.model.specs.declared.Condition.the-variants.{Free, Idle, Fetching, Waiting, Killed}
 use Rattle.model.specs.declared.Pin.{Pin}
@@ -36,6 +37,7 @@ use Rattle.model.specs.declared.Pin.the-variants as Pin
 use Rattle.model.specs.declared.State.{State}
 use Rattle.model.specs.State.{slotAt}
 use Rattle.model.specs.Words.{arrivalIn, seen, seesDormant, strongestPin, leastArrival, slotOf}
+use Rattle.rules.specs.Answers.{word, isClock}
 use Rattle.rules.specs.Refusals.{conditionAt}
 use Rattle.rules.specs.Calls.{looked, viewedPin, viewedIn}
 use Rattle.rules.proofs.Leaves.CallEffects.{Still, refused, looks, views, counts}
@@ -85,6 +87,23 @@ viewed-is P unseen active read write asleep s level (At slot) = go (seen s level
     go true b Pin.Write = write (leastArrival s level slot)
     go false true p = asleep (arrivalIn (slotAt s slot .content))
     go false false p = unseen
+
+-- nor is a call that leaves the state told as a tick is
+looked-silent : (x : Condition) → isClock (looked x) ≡ false
+unfolding word
+looked-silent Free = refl
+looked-silent Idle = refl
+looked-silent (Fetching due) = refl
+looked-silent (Waiting page mode) = refl
+looked-silent (Killed Late) = refl
+looked-silent (Killed Taken) = refl
+
+pub still-silent : (s : State) (c : Call) (a : Answer) → Still s c a → isClock a ≡ false
+unfolding word
+still-silent s c a (refused n e) = rw e
+still-silent s c a (looks level number q n e) = rw e (looked-silent (conditionAt s level number))
+still-silent s c a (views level page q e) = rw e (viewed-is (λ a. isClock a ≡ false) refl (λ _. refl) (λ _. refl) (λ _. refl) (λ _. refl) s level (slotOf s page))
+still-silent s c a (counts level n q e) = rw e
 
 pub still-unserved : (s : State) (c : Call) (a : Answer) → Still s c a → isServed a ≡ false
 still-unserved s c a (refused n e) = rw e

@@ -1,6 +1,6 @@
 -- Properties of some and of each entry of a list of fills.
 use mathlib.Core.List.{List, [], _∷_, _++_}
-use mathlib.Core.Logic.{inl, inr}
+use mathlib.Core.Logic.{_⊎_, inl, inr}
 use Rattle.rules.specs.Listed.{EachFill, Some}
 use Rattle.rules.specs.Tries.{Fill}
 
@@ -12,6 +12,15 @@ some-left P (x ∷ xs) ys (inr h) = inr (some-left P xs ys h)
 pub some-right : (P : Fill → Type 0) (xs ys : List Fill) → Some P ys → Some P (xs ++ ys)
 some-right P [] ys h = h
 some-right P (x ∷ xs) ys h = inr (some-right P xs ys h)
+
+pub some-either : (P : Fill → Type 0) (xs ys : List Fill) → Some P (xs ++ ys) → Some P xs ⊎ Some P ys
+some-either P [] ys h = inr h
+some-either P (x ∷ xs) ys (inl h) = inl (inl h)
+some-either P (x ∷ xs) ys (inr h) = go (some-either P xs ys h)
+  where
+    go : Some P xs ⊎ Some P ys → Some P (x ∷ xs) ⊎ Some P ys
+    go (inl k) = inl (inr k)
+    go (inr k) = inr k
 
 pub some-fill : (P Q : Fill → Type 0) → ((f : Fill) → P f → Q f) → (fs : List Fill) → Some P fs → Some Q fs
 some-fill P Q k [] h = absurd h

@@ -125,7 +125,7 @@ module _ (s : State) (row page : ℕ) (mode : Mode) (mine : row < 32) (o : Outco
       ap (λ (x : Outcome). hasPage page (slotAt (x .state) (g .slot) .content)) (g .same)
       ∙ granted-booked (g .before) (g .ground .sized) row (g .slot) mine (g .ground .slot-is) mode (g .arrival) (g .back) 0 page (g .slot) .has-it (g .ground .has-it)
 
-  own-holding : holdingAt (o .state) (g .slot) row ≡ grantedHolding (g .before) row (g .slot) mode (g .arrival)
+  pub own-holding : holdingAt (o .state) (g .slot) row ≡ grantedHolding (g .before) row (g .slot) mode (g .arrival)
   own-holding =
       ap (λ (x : Outcome). holdingAt (x .state) (g .slot) row) (g .same)
       ∙ granted-holding (g .before) (g .ground .sized) row (g .slot) mine (g .ground .slot-is) mode (g .arrival) (g .back) (g .slot) row mine

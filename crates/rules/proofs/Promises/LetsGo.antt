@@ -53,7 +53,7 @@ drops-only s z c slot row page b r h =
 
 -- ---- writes
 
-dirty-filled : (c : Content) → dirtyIn c ≡ true → isFilled c ≡ true
+pub dirty-filled : (c : Content) → dirtyIn c ≡ true → isFilled c ≡ true
 dirty-filled Empty e = e
 dirty-filled (Filled page arrival dirty lowest) e = refl
 

@@ -29,7 +29,7 @@ use Rattle.model.specs.Changes.{killed}
 use Rattle.model.specs.State.{rowAt, slotAt, holdingAt}
 use Rattle.model.specs.Words.{strength, strongestPin, leastArrival, hasPage, isHeld, isPin, pinOf, conflict, holds, pins, seenHolder, seen, outranks, slotOf}
 use Rattle.model.proofs.ContentLaws.{has-page, page-has}
-use Rattle.model.proofs.PinLaws.{pin-held, conflict-pin}
+use Rattle.model.proofs.PinLaws.{pin-held}
 use Rattle.model.proofs.SeenLaws.{seen-by, by-seen}
 use Rattle.model.proofs.PriorityLaws.{outranks-trans, outranks-level, outranks-kept}
 use Rattle.rules.specs.Calls.{viewedPin, step1, waiting, conflicts, mustWait, served, viewedIn}
@@ -39,6 +39,7 @@ use Rattle.rules.specs.Waits.{BetterPins, CannotTake, by-lower, by-bette
 use Rattle.rules.proofs.Choosing.ChoiceSteps.{neither, no-step-a, no-step-b, c-or-d}
 use Rattle.rules.proofs.Facts.SoundFacts.{Sound, facts}
 use Rattle.rules.proofs.Leaves.PageLaws.{finds, found-slot, found-has, found-below, killed-page}
+use Rattle.rules.proofs.Leaves.PinWords.{conflict-in, in-conflict-is, in-conflict-held}
 use Rattle.rules.proofs.Leaves.ServeCases.{served-fixed}
 use Rattle.rules.proofs.Promises.BetterSafe.{LeftAlone, chosen-unheld, granted-page, better-safe}
 use Rattle.rules.proofs.Promises.Granting.{never-waits, killed-ground}
@@ -142,7 +143,7 @@ module _ (s : State) (z : Sound s) where
       let k = pick-is (seenHolder s level slot) before 32 (y .0) (y .1) .1 in
       rw (y .1) (search parts depth 20)
 
-  seen-page : (page level slot : ℕ) → slot < 64 → hasPage page (slotAt s slot .content) ≡ true → seen s level slot ≡ true → viewedIn (slotOf s page) s level ≡ PageUnseen → ⊥
+  pub seen-page : (page level slot : ℕ) → slot < 64 → hasPage page (slotAt s slot .content) ≡ true → seen s level slot ≡ true → viewedIn (slotOf s page) s level ≡ PageUnseen → ⊥
   seen-page page level slot b h v e =
       let f = page-has page (slotAt s slot .content) h in
       pinned-seen (strongestPin s level slot) (leastArrival s level slot) (strongest-held level slot v) (rw (finds s z page slot b (f .0) (f .1), v) at e)
@@ -178,7 +179,7 @@ module _ (s : State) (z : Sound s) where
         different = eqb-false (x .0) row (not-true (eqb (x .0) row) (search parts depth 20));
         other-level = leb-true (levelOf (x .0)) (levelOf row) (search parts depth 20);
         better = search parts depth 20;
-        against = search parts depth 20;
+        against = conflict-in mode (holdingAt s slot (x .0) .pin) (search parts depth 20);
       }
 
   -- wait comes only by steps 1 and g
@@ -194,13 +195,13 @@ module _ (s : State) (z : Sound s) where
   unfolding mustWait conflicts
   must-wait-by row page mode p =
       hit-any (λ other. leb (levelOf other) (levelOf row) && (not (eqb other row) && conflict (pinOf mode) (holdingAt s (p .slot) other .pin)) && outranks s other row) 32 (p .other) (p .other-row)
-      (rw (le-leb (levelOf (p .other)) (levelOf row) (p .other-level), ne-eqb (p .other) row (p .different), p .against, p .better))
+      (rw (le-leb (levelOf (p .other)) (levelOf row) (p .other-level), ne-eqb (p .other) row (p .different), in-conflict-is mode (holdingAt s (p .slot) (p .other) .pin) (p .against), p .better))
 
   pub reason-waits : (row page : ℕ) (mode : Mode) → row < 32 → WaitReason s row page mode → served s row page mode .answer ≡ Wait
   unfolding served step1 waiting
   reason-waits row page mode b (inl p) =
       let f = page-has page (slotAt s (p .slot) .content) (p .has-it) in
-      let q = pin-held (holdingAt s (p .slot) (p .other) .pin) (conflict-pin (pinOf mode) (holdingAt s (p .slot) (p .other) .pin) (p .against)) in
+      let q = in-conflict-held mode (holdingAt s (p .slot) (p .other) .pin) (p .against) in
       rw (finds s z page (p .slot) (p .slot-is) (f .0) (f .1), by-seen s (levelOf row) (p .slot) (p .other) (p .other-row) (p .other-level) q, must-wait-by row page mode p)
   reason-waits row page mode b (inr n) = rw (nowhere-found page (no-slot-has row page b n), no-slot-chosen row page b n)
 
@@ -241,13 +242,13 @@ module _ (s : State) (z : sound s ≡ true) (worse : ℕ) (c : worse < 32) (aske
       record {
         slot = p .slot;
         slot-is = i;
-        has-it = x .page-same (p .slot) i (pin-held (holdingAt s (p .slot) (p .other) .pin) (conflict-pin (pinOf mode) (holdingAt s (p .slot) (p .other) .pin) (p .against))) page ∙ p .has-it;
+        has-it = x .page-same (p .slot) i (in-conflict-held mode (holdingAt s (p .slot) (p .other) .pin) (p .against)) page ∙ p .has-it;
         other = p .other;
         other-row = p .other-row;
         different = p .different;
         other-level = p .other-level;
         better = still-better (p .other) x (p .better);
-        against = ap (λ (k : Holding). conflict (pinOf mode) (k .pin)) (x .holding-same (p .slot) i) ∙ p .against;
+        against = rw (x .holding-same (p .slot) i) (p .against);
       }
 
   held-still : (slot : ℕ) → slot < 64 → CannotTake s row slot → CannotTake t row slot

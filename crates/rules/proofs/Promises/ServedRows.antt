@@ -51,16 +51,19 @@ wait-rows s z row b page mode =
     record { others = λ q m n. inl (row-other s z row x q n); deadline = ap (λ (y : Row). y .deadline) (row-same s z row x b) }
 
 -- a grant on a state with the rows that a kill of others left
-grant-rows : (s : State) → Sound s → (some : ℕ → Bool) (row slot : ℕ) → row < 32 → slot < 64 → some row ≡ false → (u : State) → Sized u → ((q : ℕ) → rowAt u q ≡ rowAt (killed some Taken s) q)
-    → (mode : Mode) (arrival : ℕ) (back : Back) → Rows s (granted u row slot mode arrival back .state) row
-grant-rows s z some row slot b c mine u y same mode arrival back = record {
-  others = λ q m n. rw (granted-row u y row slot b c mode arrival back q, ne-eqb q row n, same q, killed-row some s (z .sized) Taken q m) (go q (some q));
-  deadline = rw (granted-row u y row slot b c mode arrival back row, eq-eqb row row refl, same row, killed-row some s (z .sized) Taken row b, mine);
-}
-  where
-    go : (q : ℕ) (gone : Bool) → SameOrTaken (rowAt s q) (cond gone (killedRow Taken) (rowAt s q))
-    go q true = inr refl
-    go q false = inl refl
+module _ (s : State) (z : Sound s) (some : ℕ → Bool) (row slot : ℕ) (b : row < 32) (c : slot < 64) (u : State) (y : Sized u) (same : (q : ℕ) → rowAt u q ≡ rowAt (killed some Taken s) q) (mode : Mode) (arrival : ℕ) (back : Back) where
+  pub other-row : (q : ℕ) → q < 32 → (q ≡ row → ⊥) → rowAt (granted u row slot mode arrival back .state) q ≡ cond (some q) (killedRow Taken) (rowAt s q)
+  other-row q m n = rw (granted-row u y row slot b c mode arrival back q, ne-eqb q row n, same q, killed-row some s (z .sized) Taken q m)
+
+  grant-rows : some row ≡ false → Rows s (granted u row slot mode arrival back .state) row
+  grant-rows mine = record {
+    others = λ q m n. rw (other-row q m n) (go q (some q));
+    deadline = rw (granted-row u y row slot b c mode arrival back row, eq-eqb row row refl, same row, killed-row some s (z .sized) Taken row b, mine);
+  }
+    where
+      go : (q : ℕ) (gone : Bool) → SameOrTaken (rowAt s q) (cond gone (killedRow Taken) (rowAt s q))
+      go q true = inr refl
+      go q false = inl refl
 
 -- ---- the row that asks
 
@@ -120,14 +123,14 @@ module _ (s : State) (sound-state : sound s ≡ true) (row : ℕ) (b : row < 32)
       go o (waits-g e c q) = rw q (wait-rows s (z .sized) row b page mode)
       go o (joins slot arrival some e mine q) =
           let g = killed-ground s z some page slot e in
-          rw q (grant-rows s z some row slot b (g .slot-is) mine (killed some Taken s) (g .sized) (λ r. refl) mode arrival Nothing)
+          rw q (grant-rows s z some row slot b (g .slot-is) (killed some Taken s) (g .sized) (λ r. refl) mode arrival Nothing mine)
       go o (fills slot e c q) =
           let x = chosen-free s row b z slot c in
           let k : State = killed (pins s slot) Taken s in
           let f = freed s z slot (x .0) in
           let g = filled-ground s z page slot (levelOf row) (x .0) in
-          rw q (grant-rows s z (pins s slot) row slot b (g .slot-is) (x .1) (filled k slot page (levelOf row)) (g .sized)
-          (filled-row k (f .sized) (f .most) slot page (levelOf row) (f .there)) mode (s .clock + s .delay) (writeBack (slotAt (pinnersKilled s slot) slot)))
+          rw q (grant-rows s z (pins s slot) row slot b (g .slot-is) (filled k slot page (levelOf row)) (g .sized)
+          (filled-row k (f .sized) (f .most) slot page (levelOf row) (f .there)) mode (s .clock + s .delay) (writeBack (slotAt (pinnersKilled s slot) slot)) (x .1))
 
   -- every other row stays as it was, or is killed as taken
   pub served-others : (q : ℕ) → q < 32 → (q ≡ row → ⊥) → SameOrTaken (rowAt s q) (rowAt (served s row page mode .state) q)

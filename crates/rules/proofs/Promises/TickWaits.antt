@@ -20,8 +20,7 @@ use Rattle.model.specs.declared.Row.{Row}
 use Rattle.model.specs.declared.State.{State}
 use Rattle.model.specs.Parties.{levelOf}
 use Rattle.model.specs.State.{rowAt, holdingAt}
-use Rattle.model.specs.Words.{isLive, isPin, pinOf, pins, holds, outranks}
-use Rattle.model.proofs.PinLaws.{pin-held, conflict-pin}
+use Rattle.model.specs.Words.{isLive, isPin, pins, holds, outranks}
 use Rattle.model.proofs.PriorityLaws.{outranks-once, outranks-other, outranks-kept, level-outranks}
 use Rattle.model.specs.Changes.{killedRow, killed, released}
 use Rattle.rules.specs.Calls.{deliveredRow, isLate, threeSteps, served, lateKilled, deliveredRows, advanced}
@@ -32,6 +31,7 @@ use Rattle.rules.specs.Sound.{sound}
 use Rattle.rules.specs.Tries.{tryRow, tries, waiters, allTried}
 use Rattle.rules.specs.Waits.{CannotTake, by-lower, by-better, by-itself, WaitReason, AfterWaiting, waits-on, is-granted, is-late, is-taken, BestLive, PinsAll, IdleOrFetchingUnless, idle-or-fetching, made-late, pins-all}
 use Rattle.rules.proofs.Facts.SoundFacts.{facts}
+use Rattle.rules.proofs.Leaves.PinWords.{in-conflict-held}
 use Rattle.rules.proofs.Leaves.TickLaws.{later, delivered-live, delivered-waiting, ticked-row, ticked-holding, ticked-clock, ticked-size}
 use Rattle.rules.proofs.Leaves.TryLaws.{by-try, by-tries, waiters-wait, waiters-rows, waiters-have, tried-fixed}
 use Rattle.rules.proofs.Promises.BetterSafe.{LeftAlone, better-safe}
@@ -249,7 +249,7 @@ module _ (s : State) (z : sound s ≡ true) (room clock : ℕ) (accepted : outco
 
       go : WaitReason t row page mode → PinsAll t row
       go (inl p) slot i =
-          let h = pin-held (holdingAt t (p .slot) (p .other) .pin) (conflict-pin (pinOf mode) (holdingAt t (p .slot) (p .other) .pin) (p .against)) in
+          let h = in-conflict-held mode (holdingAt t (p .slot) (p .other) .pin) (p .against) in
           outranks-once t (p .other) row (p .better) (beaten (p .slot) (p .other) (p .slot-is) (p .other-row) (p .different) h)
       go (inr n) slot i = own-pin slot (omega (arith, facts t sound-t .size-most)) (n .every slot i)
 

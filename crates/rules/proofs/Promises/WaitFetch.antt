@@ -70,16 +70,17 @@ tried-sound [] s u row b z h = absurd h
 tried-sound (r ∷ rows) s u row b z (inl h) = (rw (h .0) z, rw (h .1) (b .0))
 tried-sound (r ∷ rows) s u row b z (inr h) = tried-sound rows (tryRow (rowAt s r .condition) s r .state) u row (b .1) (try-sound s z r (b .0)) h
 
--- in the course of a call: each request that is served is served on a sound state, and waits there exactly for these reasons
+-- each request that is served in the course of a call is served on a sound state
+pub course-sound : (s : State) → sound s ≡ true → (c : Call) (u : State) (row page : ℕ) (mode : Mode) → Serves s c u row page mode → (sound u ≡ true) × (row < 32)
+course-sound s z c u row page mode (own e a o) = (rw e z, omega (arith, a .row-is, a .level-most, a .number-most))
+course-sound s z c u row page mode (stored room k t h w) = tried-sound (waiters (threeSteps s)) (threeSteps s) u row (waiters-rows (threeSteps s)) (steps-sound s z (tick-taken s room t .early)) h
+
+-- and waits there exactly for these reasons
 pub course-waits : (s : State) → sound s ≡ true → (c : Call) (u : State) (row page : ℕ) (mode : Mode) → Serves s c u row page mode
     → (sound u ≡ true) × (served u row page mode .answer ≡ Wait → WaitReason u row page mode) × (WaitReason u row page mode → served u row page mode .answer ≡ Wait)
 course-waits s z c u row page mode h =
-    let y = go h in
+    let y = course-sound s z c u row page mode h in
     (y .0, waits-by u (facts u (y .0)) row page mode (served u row page mode) (serving u row page mode), reason-waits u (facts u (y .0)) row page mode (y .1))
-  where
-    go : Serves s c u row page mode → (sound u ≡ true) × (row < 32)
-    go (own e a o) = (rw e z, omega (arith, a .row-is, a .level-most, a .number-most))
-    go (stored room k t h w) = tried-sound (waiters (threeSteps s)) (threeSteps s) u row (waiters-rows (threeSteps s)) (steps-sound s z (tick-taken s room t .early)) h
 
 -- ---- fetch
 
