@@ -1,11 +1,11 @@
 -- Document 02, T-04, over lent areas: the bytes of the list that a call leaves, and what the entries of an accepted tick's list say.
 use mathlib.Core.Path.{_≡_, refl, sym, _∙_}
 use mathlib.Core.Bool.{Bool, true, false, cond}
-use mathlib.Core.List.{List, [], _++_}
-use Prim.Native.Nat.{ℕ, _-_, _<_, _≤_}
+use mathlib.Core.List.{List, _++_}
+use Prim.Native.Nat.{ℕ, _<_}
 use native.Mathlib.Omega.{arith}
 use borrow.Author.Tests.{eqb-true}
-use lib.ListN.{length, drop, replicate, length-append, length-replicate}
+use lib.ListN.{drop}
 use lib.Seq.{drop-at}
 use Rattle.seq.proofs.SortOrder.{Ranked}
 use Rattle.seq.proofs.Tests.{not-true-false}
@@ -16,18 +16,18 @@ use Rattle.model.specs.declared.State.{State}
 use Rattle.model.specs.State.{rowAt}
 use Rattle.model.specs.Words.{outranks}
 use Rattle.rules.specs.Answers.{word, isClock}
-use Rattle.rules.specs.Listed.{isIdleOrFetching, Listed, GrantedFor, WaitedFor, EachFill, HasRow, OnceEach}
+use Rattle.rules.specs.Listed.{isIdleOrFetching, Listed, GrantedFor, WaitedFor, EachFill, HasRow, OnceEach, InOrder}
+use Rattle.rules.specs.ListRead.{fillsIn}
 use Rattle.rules.specs.Refusals.{isWaiting}
 use Rattle.rules.specs.Calls.{threeSteps}
 use Rattle.rules.specs.Requests.{TriedOn}
-use Rattle.rules.specs.Run.{outcome, fillsOf}
-use Rattle.rules.specs.Tries.{Fill, waiters, allTried, entries, listBytes}
+use Rattle.rules.specs.Run.{fillsOf}
+use Rattle.rules.specs.Tries.{waiters, listBytes}
+use Rattle.rules.proofs.Leaves.ListLaws.{fills-most, list-long, list-read}
 use Rattle.rules.proofs.Leaves.TryLaws.{waiters-have, has-tried}
 use Rattle.rules.proofs.Promises.Filled.{ranked}
 use Rattle.rules.proofs.Promises.Deadlines.{stepped}
 use Rattle.rules.proofs.Promises.TickFills as States
-use Rattle.tries.proofs.EntryLaws.{entries-length}
-use Rattle.tries.proofs.TurnLaws.{tries-most, waiters-most}
 use Rattle.area.specs.Layout.{decoded}
 use Rattle.sabre.specs.Lent.{answerOn, isRefused, areaAfter, listAfter}
 use Rattle.demands.proofs.Steps.{tick-on}
@@ -38,22 +38,6 @@ use Rattle.demands.proofs.Steps.{tick-on}
 pub refused-list : (a : List ℕ) (c : Call) (list : List ℕ) → isRefused (answerOn a c) ≡ true → listAfter a c list ≡ list
 unfolding listAfter
 refused-list a c list e = rw (not-true-false (isClock (answerOn a c)) (λ k. let n = sym (eqb-true (word (answerOn a c)) 0 e) ∙ eqb-true (word (answerOn a c)) 8 k in absurd (omega arith)))
-
--- 256 bytes are written
-list-long : (fs : List Fill) → length fs ≤ 32 → length (listBytes fs) ≡ 256
-unfolding listBytes
-list-long fs h =
-    let n = entries-length fs in
-    length-append (entries fs) (replicate (256 - length (entries fs)) 0) ∙ rw (length-replicate {A = ℕ} (256 - length (entries fs)) 0) (omega arith)
-
--- a call fills at most 32 rows
-fills-most : (s : State) (c : Call) → length (fillsOf s c) ≤ 32
-unfolding fillsOf allTried
-fills-most s c = go (isClock (outcome s c .answer))
-  where
-    go : (b : Bool) → length (cond b (allTried (threeSteps s) .fills) []) ≤ 32
-    go true = let u = threeSteps s in omega (arith, tries-most (waiters u) u, waiters-most u)
-    go false = omega arith
 
 -- the bytes past 256 stay, whatever the call
 pub past-list : (a : List ℕ) (c : Call) (list : List ℕ) → drop 256 (listAfter a c list) ≡ drop 256 list
@@ -84,6 +68,14 @@ module _ (a : List ℕ) (room clock : ℕ) (e : answerOn a (Tick room) ≡ Clock
   pub list-left : (list : List ℕ) → listAfter a (Tick room) list ≡ listBytes (fillsOf (decoded a) (Tick room)) ++ drop 256 list
   unfolding listAfter word
   list-left list = rw e
+
+  -- read back, the bytes of the list say the fills of the tick, in turn
+  pub list-says : (list : List ℕ) → fillsIn (listAfter a (Tick room) list) ≡ fillsOf (decoded a) (Tick room)
+  list-says list = rw (list-left list) (list-read (fillsOf (decoded a) (Tick room)) (drop 256 list) (fills-most (decoded a) (Tick room)))
+
+  -- each entry's row had better priority before the tick than the row of every later entry
+  pub listed-in-order : InOrder (outranks (decoded a)) (fillsOf (decoded a) (Tick room))
+  listed-in-order = let x = tick-on a room clock e in States.listed-in-order (decoded a) (x .sound-state) room clock (x .answer)
 
   -- after the tick each entry's row is idle or fetching and pins the slot that the entry names, which has the entry's page
   pub listed-holds : EachFill (Listed (decoded (areaAfter a (Tick room)))) (fillsOf (decoded a) (Tick room))

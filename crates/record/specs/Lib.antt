@@ -1,5 +1,6 @@
 pub mod Record
 pub mod Text
+pub mod FillText
 pub mod Play
 pub mod ShortRecord
 -- for the code

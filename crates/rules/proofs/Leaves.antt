@@ -10,4 +10,5 @@ pub mod CallEffects
 pub mod ServeCases
 pub mod AnswerCases
 pub mod TryLaws
+pub mod ListLaws
 pub mod SettingLaws

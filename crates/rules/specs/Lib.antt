@@ -2,6 +2,7 @@ pub mod Sound
 pub mod Calls
 pub mod Tries
 pub mod Listed
+pub mod ListRead
 pub mod Content
 pub mod Run
 pub mod BeginOrder

@@ -58,3 +58,8 @@ HasRow row fs = Some (λ f. f .row ≡ row) fs
 abbrev pub OnceEach : List Fill → Type 0
 OnceEach [] = Unit {0}
 OnceEach (f ∷ fs) = (HasRow (f .row) fs → ⊥) × OnceEach fs
+
+-- each entry's row comes before the row of every later entry
+abbrev pub InOrder : (ℕ → ℕ → Bool) → List Fill → Type 0
+InOrder before [] = Unit {0}
+InOrder before (f ∷ fs) = EachFill (λ g. before (f .row) (g .row) ≡ true) fs × InOrder before fs

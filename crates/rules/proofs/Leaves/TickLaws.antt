@@ -14,7 +14,7 @@ use Rattle.model.specs.declared.Row.{Row}
 use Rattle.model.specs.declared.State.{State}
 use Rattle.model.specs.State.{freeRow, emptyHolding, rowAt, slotAt, holdingAt}
 use Rattle.model.specs.Words.{isFree, isLive}
-use Rattle.model.specs.Changes.{dirtied, killedRow, wroteSlot}
+use Rattle.model.specs.Changes.{dirtied, killedRow, killed, released, wroteSlot}
 use Rattle.model.proofs.StateLaws.{Sized}
 use Rattle.model.proofs.ChangeLaws.{killed-row, killed-slot, killed-holding, killed-clock, killed-size}
 use Rattle.rules.specs.Calls.{delivered, deliveredRow, deliveredRows, isLate, lateKilled, advanced}
@@ -76,6 +76,22 @@ module _ (s : State) (z : Sized s) where
   pub ticked-clock : lateKilled (later s) .clock ≡ s .clock + 1
   unfolding lateKilled deliveredRows advanced
   ticked-clock = killed-clock (isLate (later s)) Late (later s)
+
+  -- no begin order changes
+  pub ticked-places : lateKilled (later s) .places ≡ s .places
+  unfolding lateKilled deliveredRows advanced killed released
+  ticked-places = refl
+
+  -- a row that is live was live before, and has its deadline
+  pub ticked-live : (row : ℕ) → row < 32 → isLive (rowAt (lateKilled (later s)) row .condition) ≡ true
+      → (isLive (rowAt s row .condition) ≡ true) × (rowAt (lateKilled (later s)) row .deadline ≡ rowAt s row .deadline)
+  unfolding deliveredRow
+  ticked-live row b = rw (ticked-row row b) (go (isLate (later s) row))
+    where
+      go : (late : Bool) → isLive (cond late (killedRow Late) (deliveredRow (s .clock + 1) (rowAt s row)) .condition) ≡ true
+          → (isLive (rowAt s row .condition) ≡ true) × (cond late (killedRow Late) (deliveredRow (s .clock + 1) (rowAt s row)) .deadline ≡ rowAt s row .deadline)
+      go true l = true-false (sym l)
+      go false l = (sym (delivered-live (s .clock + 1) (rowAt s row .condition)) ∙ l, refl)
 
   -- a row that was fetching becomes idle when its tick is reached
   pub ticked-idle : (row due : ℕ) → row < 32 → rowAt s row .condition ≡ Fetching due → rowAt (lateKilled (later s)) row .condition ≡ Idle → due ≤ s .clock + 1

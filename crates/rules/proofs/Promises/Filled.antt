@@ -1,4 +1,4 @@
--- Document 02, T-04, the list of what the tries of a tick filled: its entries hold when the tries are done, it has each row that was made ready or fetching, and no row twice.
+-- Document 02, T-04, the list of what the tries of a tick filled: its entries hold when the tries are done, it has each row that was made ready or fetching, no row twice, and the rows in the order of their priority.
 use mathlib.Core.Path.{_≡_, refl, sym, _∙_, ap}
 use mathlib.Core.Bool.{Bool, true, false}
 use mathlib.Core.List.{List, [], _∷_, _++_}
@@ -9,6 +9,7 @@ use native.Mathlib.Decide.{ℕ-discrete}
 use Rattle.seq.proofs.Tests.{true-false, not-false-true}
 use Rattle.seq.proofs.SortLaws.{Each}
 use Rattle.seq.proofs.SortOrder.{Ranked, sorted-ranked}
+use Rattle.model.specs.declared.Answer.{Answer}
 use Rattle.model.specs.declared.Condition.the-variants.{Waiting}
 use Rattle.model.specs.declared.Mode.{Mode}
 use Rattle.model.specs.declared.Outcome.{Outcome}
@@ -20,11 +21,12 @@ use Rattle.model.specs.Words.{isLive, isHeld, isPin, outranks}
 use Rattle.model.proofs.PinLaws.{pin-held}
 use Rattle.model.proofs.PriorityLaws.{outranks-trans, outranks-kept}
 use Rattle.rules.specs.Calls.{served}
-use Rattle.rules.specs.Listed.{isIdleOrFetching, Listed, PinnedFor, GrantedFor, WaitedFor, EachFill, Some, HasRow, OnceEach}
+use Rattle.rules.specs.Listed.{isIdleOrFetching, Listed, PinnedFor, GrantedFor, WaitedFor, EachFill, Some, HasRow, OnceEach, InOrder}
 use Rattle.rules.specs.Refusals.{isWaiting}
 use Rattle.rules.specs.Sound.{sound}
 use Rattle.rules.specs.Tries.{Fill, Tried, filledBy, tries, waiters, allTried}
 use Rattle.rules.proofs.Facts.SoundFacts.{facts, live-taken, ranks-apart}
+use Rattle.rules.proofs.Leaves.AnswerCases.{by-slot}
 use Rattle.rules.proofs.Leaves.ServeCases.{served-fixed}
 use Rattle.rules.proofs.Leaves.TryLaws.{by-tries, waiters-rows}
 use Rattle.rules.proofs.Promises.BetterSafe.{LeftAlone, better-safe}
@@ -39,6 +41,32 @@ pub by-filled : (P : List Fill → Type 0) (row page : ℕ) (mode : Mode) (o : O
 by-filled P row page mode o (own-waits a c) none one = rw a (none c)
 by-filled P row page mode o (own-ready slot back a c l) none one = rw a (one (record { row = row; slot = slot; page = page; back = back }) refl refl l)
 by-filled P row page mode o (own-fetch due slot back a c l) none one = rw a (one (record { row = row; slot = slot; page = page; back = back }) refl refl l)
+
+-- ---- in which order
+
+-- what an answer fills: nothing, or an entry of the row
+by-answer : (P : List Fill → Type 0) (row page : ℕ) (x : Answer) → P [] → ((f : Fill) → f .row ≡ row → P (f ∷ [])) → P (filledBy row page x)
+by-answer P row page x none one =
+    by-slot x
+    (λ slot back e. rw e (one (record { row = row; slot = slot; page = page; back = back }) refl))
+    (λ due slot back e. rw e (one (record { row = row; slot = slot; page = page; back = back }) refl))
+    (λ n e. rw n none)
+
+-- the entries stand in the order in which their rows were tried
+module _ (before : ℕ → ℕ → Bool) where
+  abbrev InTurn : List ℕ → State → Tried → Type 0
+  InTurn rows s y = ((r : ℕ) → Each (λ q. before r q ≡ true) rows → EachFill (λ f. before r (f .row) ≡ true) (y .fills)) × (Ranked before rows → InOrder before (y .fills))
+
+  tries-in-order : (rows : List ℕ) (s : State) → InTurn rows s (tries rows s)
+  tries-in-order = by-tries InTurn
+      (λ s. ((λ r h. tt), (λ k. tt)))
+      (λ row rows s y w more. ((λ r h. more .0 r (h .1)), (λ k. more .1 (k .1))))
+      (λ row rows s page mode y w more. (
+        (λ r h.
+            by-answer (λ xs. EachFill (λ f. before r (f .row) ≡ true) (xs ++ y .fills)) row page (served s row page mode .answer) (more .0 r (h .1))
+            (λ f e. (rw e (h .0), more .0 r (h .1)))),
+        (λ k. by-answer (λ xs. InOrder before (xs ++ y .fills)) row page (served s row page mode .answer) (more .1 (k .1)) (λ f e. (rw e (more .0 row (k .0)), more .1 (k .1)))),
+      ))
 
 -- ---- which rows have entries
 
@@ -225,6 +253,11 @@ module _ (u : State) (z : sound u ≡ true) where
 
   pub fills-hold : EachFill (Listed (allTried u .state)) (allTried u .fills)
   fills-hold = each-fill (GrantedFor u (allTried u .state)) (Listed (allTried u .state)) (λ f k. k .2 .0) (allTried u .fills) fills-granted
+
+  -- the row of each entry outranks that of every later one
+  pub fills-in-order : InOrder (outranks u) (allTried u .fills)
+  unfolding allTried
+  fills-in-order = tries-in-order (outranks u) (waiters u) u .1 (ranked u z)
 
   -- no row has two entries
   pub fills-once : OnceEach (allTried u .fills)

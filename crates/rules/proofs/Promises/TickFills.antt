@@ -13,19 +13,21 @@ use Rattle.model.specs.declared.Mode.{Mode}
 use Rattle.model.specs.declared.Row.{Row}
 use Rattle.model.specs.declared.State.{State}
 use Rattle.model.specs.State.{rowAt}
+use Rattle.model.specs.Words.{outranks}
 use Rattle.model.specs.Changes.{killedRow}
+use Rattle.model.proofs.PriorityLaws.{outranks-kept}
 use Rattle.rules.specs.Answers.{word}
 use Rattle.rules.specs.Calls.{delivered, deliveredRow, isLate, threeSteps}
-use Rattle.rules.specs.Listed.{isIdleOrFetching, Listed, GrantedFor, WaitedFor, EachFill, HasRow, OnceEach}
+use Rattle.rules.specs.Listed.{isIdleOrFetching, Listed, GrantedFor, WaitedFor, EachFill, HasRow, OnceEach, InOrder}
 use Rattle.rules.specs.Refusals.{isWaiting}
 use Rattle.rules.specs.Run.{outcome, fillsOf}
 use Rattle.rules.specs.Sound.{sound}
-use Rattle.rules.specs.Tries.{allTried}
+use Rattle.rules.specs.Tries.{Fill, allTried}
 use Rattle.rules.proofs.Facts.SoundFacts.{facts}
-use Rattle.rules.proofs.Leaves.TickLaws.{later, ticked-row}
+use Rattle.rules.proofs.Leaves.TickLaws.{later, ticked-row, ticked-places, ticked-live}
 use Rattle.rules.proofs.Promises.Deadlines.{ticked-is, stepped, late-stays}
-use Rattle.rules.proofs.Promises.FillLists.{each-fill}
-use Rattle.rules.proofs.Promises.Filled.{fills-granted, fills-once, fills-all}
+use Rattle.rules.proofs.Promises.FillLists.{each-fill, in-order-kept}
+use Rattle.rules.proofs.Promises.Filled.{fills-granted, fills-in-order, fills-once, fills-all}
 
 -- a row that waits after the steps waited before them
 delivered-waits : (clock : ℕ) (x : Condition) (page : ℕ) (mode : Mode) → delivered clock x ≡ Waiting page mode → x ≡ Waiting page mode
@@ -89,6 +91,16 @@ module _ (s : State) (z : sound s ≡ true) (room clock : ℕ) (accepted : outco
 
   pub listed-waited : EachFill (WaitedFor s) (fillsOf s (Tick room))
   listed-waited = each-fill (GrantedFor s (outcome s (Tick room) .state)) (WaitedFor s) (λ f h. (h .0, h .1)) (fillsOf s (Tick room)) listed-granted
+
+  -- each entry's row had better priority before the tick than the row of every later entry
+  pub listed-in-order : InOrder (outranks s) (fillsOf s (Tick room))
+  listed-in-order = rw listed
+      (in-order-kept (GrantedFor u (allTried u .state)) (outranks u) (outranks s)
+      (λ f g h k o. outranks-kept s u (f .row) (g .row) (sym (ticked-places s (facts s z .sized))) (deadline f h) (deadline g k) ∙ o)
+      (allTried u .fills) (fills-granted u y) (fills-in-order u y))
+    where
+      deadline : (f : Fill) → GrantedFor u (allTried u .state) f → rowAt s (f .row) .deadline ≡ rowAt u (f .row) .deadline
+      deadline f h = sym (ticked-live s (facts s z .sized) (f .row) (h .2 .0 .row-is) (rw (h .1)) .1)
 
   -- no row has two entries
   pub listed-once : OnceEach (fillsOf s (Tick room))

@@ -22,8 +22,8 @@ use Rattle.model.specs.Parties.{levelOf}
 use Rattle.model.specs.State.{rowAt, holdingAt}
 use Rattle.model.specs.Words.{isLive, isPin, pins, holds, outranks}
 use Rattle.model.proofs.PriorityLaws.{outranks-once, outranks-other, outranks-kept, level-outranks}
-use Rattle.model.specs.Changes.{killedRow, killed, released}
-use Rattle.rules.specs.Calls.{deliveredRow, isLate, threeSteps, served, lateKilled, deliveredRows, advanced}
+use Rattle.model.specs.Changes.{killedRow}
+use Rattle.rules.specs.Calls.{deliveredRow, isLate, threeSteps, served}
 use Rattle.rules.specs.Listed.{isIdleOrFetching, PinnedFor, GrantedFor, Some}
 use Rattle.rules.specs.Refusals.{isWaiting}
 use Rattle.rules.specs.Run.{outcome, fillsOf}
@@ -32,7 +32,7 @@ use Rattle.rules.specs.Tries.{tryRow, tries, waiters, allTried}
 use Rattle.rules.specs.Waits.{CannotTake, by-lower, by-better, by-itself, WaitReason, AfterWaiting, waits-on, is-granted, is-late, is-taken, BestLive, PinsAll, IdleOrFetchingUnless, idle-or-fetching, made-late, pins-all}
 use Rattle.rules.proofs.Facts.SoundFacts.{facts}
 use Rattle.rules.proofs.Leaves.PinWords.{in-conflict-held}
-use Rattle.rules.proofs.Leaves.TickLaws.{later, delivered-live, delivered-waiting, ticked-row, ticked-holding, ticked-clock, ticked-size}
+use Rattle.rules.proofs.Leaves.TickLaws.{later, delivered-waiting, ticked-row, ticked-holding, ticked-clock, ticked-size, ticked-places, ticked-live}
 use Rattle.rules.proofs.Leaves.TryLaws.{by-try, by-tries, waiters-wait, waiters-rows, waiters-have, tried-fixed}
 use Rattle.rules.proofs.Promises.BetterSafe.{LeftAlone, better-safe}
 use Rattle.rules.proofs.Promises.Deadlines.{ticked-is, stepped, late-is, late-stays}
@@ -145,12 +145,8 @@ module _ (s : State) (z : sound s ≡ true) (room clock : ℕ) (accepted : outco
   after = ticked-is s z room clock accepted .0
 
   -- no begin order changes
-  places-u : u .places ≡ s .places
-  unfolding lateKilled deliveredRows advanced killed released
-  places-u = refl
-
   places-t : t .places ≡ s .places
-  places-t = rw after (tried-fixed u .places ∙ places-u)
+  places-t = rw after (tried-fixed u .places ∙ ticked-places s (facts s z .sized))
 
   row-u : (q : ℕ) → q < 32 → rowAt u q ≡ cond (isLate (later s) q) (killedRow Late) (deliveredRow (s .clock + 1) (rowAt s q))
   row-u = ticked-row s (facts s z .sized)
@@ -174,19 +170,10 @@ module _ (s : State) (z : sound s ≡ true) (room clock : ℕ) (accepted : outco
       waited x r (made k i d) c = waits-unmade (r .condition) (rw c) i
 
   -- a row that is live was live before, and has its deadline
-  live-steps : (q : ℕ) → q < 32 → isLive (rowAt u q .condition) ≡ true → (isLive (rowAt s q .condition) ≡ true) × (rowAt u q .deadline ≡ rowAt s q .deadline)
-  unfolding deliveredRow
-  live-steps q m = rw (row-u q m) (go (isLate (later s) q))
-    where
-      go : (late : Bool) → isLive (cond late (killedRow Late) (deliveredRow (s .clock + 1) (rowAt s q)) .condition) ≡ true
-          → (isLive (rowAt s q .condition) ≡ true) × (cond late (killedRow Late) (deliveredRow (s .clock + 1) (rowAt s q)) .deadline ≡ rowAt s q .deadline)
-      go true l = true-false (sym l)
-      go false l = (sym (delivered-live (s .clock + 1) (rowAt s q .condition)) ∙ l, refl)
-
   live-before : (q : ℕ) → q < 32 → isLive (rowAt t q .condition) ≡ true → (isLive (rowAt s q .condition) ≡ true) × (rowAt t q .deadline ≡ rowAt s q .deadline)
   live-before q m l =
       let x = live-after (rowAt u q) (rowAt t q) (tried q m) l in
-      let k = live-steps q m (x .0) in
+      let k = ticked-live s (facts s z .sized) q m (x .0) in
       (k .0, x .1 ∙ k .1)
 
   -- ---- what a tick makes of a row that waited
@@ -219,7 +206,7 @@ module _ (s : State) (z : sound s ≡ true) (room clock : ℕ) (accepted : outco
         taken-row d k =
             rw (listed s z room clock accepted)
             (some-fill (λ f. Outranker u row (f .row)) (λ f. outranks s (f .row) row ≡ true)
-            (λ f h. outranks-kept s u (f .row) row (sym places-u) (sym (live-steps (f .row) (h .0) (waiting-live (rowAt u (f .row) .condition) (h .1)) .1)) (ap (λ (r : Row). r .deadline) (sym d)) ∙ h .2)
+            (λ f h. outranks-kept s u (f .row) row (sym (ticked-places s (facts s z .sized))) (sym (ticked-live s (facts s z .sized) (f .row) (h .0) (waiting-live (rowAt u (f .row) .condition) (h .1)) .1)) (ap (λ (r : Row). r .deadline) (sym d)) ∙ h .2)
             (allTried u .fills) (fills-taken u y row b (rw (d, w)) (rw (← after, k))))
 
         go-on : rowAt u row ≡ rowAt s row → AfterTries (rowAt u row) (rowAt t row) → AfterWaiting s t (fillsOf s (Tick room)) row page mode
@@ -272,9 +259,9 @@ module _ (s : State) (z : sound s ≡ true) (room clock : ℕ) (accepted : outco
         later-one : (q ≡ row → ⊥) → (row ≡ q) ⊎ Has row rows → ⊥
         later-one n (inl v) = n (sym v)
         later-one n (inr v) =
-            let l = live-steps q (a .0 .0) (waiting-live (rowAt u q .condition) (a .0 .1)) in
+            let l = ticked-live s (facts s z .sized) q (a .0 .0) (waiting-live (rowAt u q .condition) (a .0 .1)) in
             outranks-once u q row (each-has (λ r. outranks u q r ≡ true) rows row (k .0) v)
-            (outranks-kept u s row q places-u (ap (λ (r : Row). r .deadline) e) (l .1) ∙ best .best q (a .0 .0) n (l .0))
+            (outranks-kept u s row q (ticked-places s (facts s z .sized)) (ap (λ (r : Row). r .deadline) e) (l .1) ∙ best .best q (a .0 .0) n (l .0))
 
     best-tried : rowAt u row ≡ rowAt s row → MadeOr u (tries (waiters u) u .state) row page mode
     unfolding tries
