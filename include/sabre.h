@@ -27,7 +27,9 @@
  *   answer[2]  slot + 1, for ready and fetch of a request; else 0
  *   answer[3]  page to write back + 1; 0 if there is none
  * sabre_slot, sabre_back and sabre_word_text, at the end of this file, read it.
- * Word and value may go to the clearance that made the call, and to no other.
+ * Word and value may go to the clearance that made the call, and to no other. Start,
+ * tick and borders are the server's calls: word and value of a tick may go to every
+ * clearance, those of a start and of borders are for the server alone.
  * answer[2] and answer[3] depend on what higher clearances do. They are for the
  * server alone: never pass them, or anything of the area, on to a clearance.
  *
@@ -203,7 +205,7 @@ uint32_t sabre_end(uint8_t *area, size_t len, uint32_t level, uint32_t row, uint
  * arrival tick: tick on to there only once it has been read from disk.
  * list  at least 256 bytes; has an entry for each row made ready or fetching
  * Answers clock, the value is the new clock; answer[2] and answer[3] are 0. Refusals 1, 21, 17,
- * in this order.
+ * in this order. Word and value may go to every clearance, the list to none.
  *
  * What a waiting row means. After an accepted tick a row waits for its page only if
  *   - a better row that it sees pins the page in conflict: another row of its level or of a lower

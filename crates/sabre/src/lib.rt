@@ -1,6 +1,7 @@
-// The exported calls. Each makes its call by `make`: the lent area is read, the call made on the state by value, and what it changes written over the
-// area. Look, view and count, which change nothing, go by `ask`. A tick, which is lent a list too, goes by `tick`, and a start, which takes any bytes, by
-// `start`: these write the whole of the next state.
+// The exported calls, over the calls on a state by value. This crate and `area` alone write the lent area. `make` reads it as a state, has it tested by
+// `sound`, which reads the holdings from the area, makes the call on the state, and has what it changes written over the area. Look, view and count, which
+// change nothing, go by `ask`. A tick, which is lent a list too, goes by `tick`, and a start, which takes any bytes, by `start`: these write the whole of the
+// next state.
 use model::Answer;
 use model::Back;
 use model::Call;
