@@ -1,0 +1,1 @@
+// Further runs of the computed table, which no edit of rules needs. No code.
