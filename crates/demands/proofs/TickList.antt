@@ -73,7 +73,7 @@ module _ (a : List ℕ) (room clock : ℕ) (e : answerOn a (Tick room) ≡ Clock
   pub list-says : (list : List ℕ) → fillsIn (listAfter a (Tick room) list) ≡ fillsOf (decoded a) (Tick room)
   list-says list = rw (list-left list) (list-read (fillsOf (decoded a) (Tick room)) (drop 256 list) (fills-most (decoded a) (Tick room)))
 
-  -- each entry's row had better priority before the tick than the row of every later entry
+  -- the row of every entry had better priority before the tick than the row of each later one
   pub listed-in-order : InOrder (outranks (decoded a)) (fillsOf (decoded a) (Tick room))
   listed-in-order = let x = tick-on a room clock e in States.listed-in-order (decoded a) (x .sound-state) room clock (x .answer)
 

@@ -52,10 +52,10 @@ field-past xs list at from n e = rw (e, drop-append-add xs list at)
 zero-field : (m at : ℕ) (rest : List ℕ) → at < m → field (replicate m 0 ++ rest) at 1 ≡ 0
 unfolding field bigEndian
 zero-field m at rest h =
-    let l : at < length (replicate {A = ℕ} m 0) = rw (length-replicate {A = ℕ} m 0) h in
-    let z : getD (replicate m 0 ++ rest) at 0 ≡ 0 = List·getD-append (replicate m 0) rest 0 at l ∙ getD-replicate m at 0 0 h in
-    let e : at + 0 < length (replicate m 0 ++ rest) = rw length-append (omega arith) in
-    field-more (replicate m 0 ++ rest) at 0 e ∙ rw z (omega arith)
+    let b : at + 0 < m = omega arith in
+    let l : at + 0 < length (replicate {A = ℕ} m 0) = rw (length-replicate {A = ℕ} m 0) b in
+    let z : getD (replicate m 0 ++ rest) (at + 0) 0 ≡ 0 = List·getD-append (replicate m 0) rest 0 (at + 0) l ∙ getD-replicate m (at + 0) 0 0 b in
+    field-more (replicate m 0 ++ rest) at 0 (rw length-append (omega arith)) ∙ rw z (omega arith)
 
 -- a byte, and two, as a number
 one-byte : (b : ℕ) → b ≡ 0 * 256 + b

@@ -59,7 +59,11 @@ abbrev pub OnceEach : List Fill → Type 0
 OnceEach [] = Unit {0}
 OnceEach (f ∷ fs) = (HasRow (f .row) fs → ⊥) × OnceEach fs
 
--- each entry's row comes before the row of every later entry
+-- a property of every entry with each later one
+abbrev pub EachLater : (Fill → Fill → Type 0) → List Fill → Type 0
+EachLater R [] = Unit {0}
+EachLater R (f ∷ fs) = EachFill (R f) fs × EachLater R fs
+
+-- the row of every entry comes before the row of each later one
 abbrev pub InOrder : (ℕ → ℕ → Bool) → List Fill → Type 0
-InOrder before [] = Unit {0}
-InOrder before (f ∷ fs) = EachFill (λ g. before (f .row) (g .row) ≡ true) fs × InOrder before fs
+InOrder before = EachLater (λ f g. before (f .row) (g .row) ≡ true)

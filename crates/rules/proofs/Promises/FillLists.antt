@@ -1,10 +1,13 @@
--- Properties of some and of each entry of a list of fills, and orders on its rows.
-use mathlib.Core.Path.{_≡_}
-use mathlib.Core.Bool.{Bool, true}
+-- Properties of some and of each entry of a list of fills, and of each with every later one.
 use mathlib.Core.List.{List, [], _∷_, _++_}
+<<<<<<< ours
 use mathlib.Core.Logic.{_⊎_, inl, inr}
 use Prim.Native.Nat.{ℕ}
 use Rattle.rules.specs.Listed.{EachFill, Some, InOrder}
+=======
+use mathlib.Core.Logic.{inl, inr}
+use Rattle.rules.specs.Listed.{EachFill, Some, EachLater}
+>>>>>>> theirs
 use Rattle.rules.specs.Tries.{Fill}
 
 pub some-left : (P : Fill → Type 0) (xs ys : List Fill) → Some P xs → Some P (xs ++ ys)
@@ -44,16 +47,13 @@ pub each-fill : (P Q : Fill → Type 0) → ((f : Fill) → P f → Q f) → (fs
 each-fill P Q k [] h = tt
 each-fill P Q k (f ∷ fs) h = (k f (h .0), each-fill P Q k fs (h .1))
 
-pub each-both : (P Q : Fill → Type 0) (fs : List Fill) → EachFill P fs → EachFill Q fs → EachFill (λ f. P f × Q f) fs
+each-both : (P Q : Fill → Type 0) (fs : List Fill) → EachFill P fs → EachFill Q fs → EachFill (λ f. P f × Q f) fs
 each-both P Q [] h k = tt
 each-both P Q (f ∷ fs) h k = ((h .0, k .0), each-both P Q fs (h .1) (k .1))
 
--- an order that says what another says of the entries
-pub in-order-kept : (P : Fill → Type 0) (before other : ℕ → ℕ → Bool) → ((f g : Fill) → P f → P g → before (f .row) (g .row) ≡ true → other (f .row) (g .row) ≡ true)
-    → (fs : List Fill) → EachFill P fs → InOrder before fs → InOrder other fs
-in-order-kept P before other k [] h o = tt
-in-order-kept P before other k (f ∷ fs) h o = (
-  each-fill (λ g. P g × (before (f .row) (g .row) ≡ true)) (λ g. other (f .row) (g .row) ≡ true) (λ g x. k f g (h .0) (x .0) (x .1)) fs
-      (each-both P (λ g. before (f .row) (g .row) ≡ true) fs (h .1) (o .0)),
-  in-order-kept P before other k fs (h .1) (o .1),
+pub each-later : (P : Fill → Type 0) (R S : Fill → Fill → Type 0) → ((f g : Fill) → P f → P g → R f g → S f g) → (fs : List Fill) → EachFill P fs → EachLater R fs → EachLater S fs
+each-later P R S k [] h o = tt
+each-later P R S k (f ∷ fs) h o = (
+  each-fill (λ g. P g × R f g) (S f) (λ g x. k f g (h .0) (x .0) (x .1)) fs (each-both P (R f) fs (h .1) (o .0)),
+  each-later P R S k fs (h .1) (o .1),
 )

@@ -26,7 +26,7 @@ use Rattle.rules.specs.Tries.{Fill, allTried}
 use Rattle.rules.proofs.Facts.SoundFacts.{facts}
 use Rattle.rules.proofs.Leaves.TickLaws.{later, ticked-row, ticked-places, ticked-live}
 use Rattle.rules.proofs.Promises.Deadlines.{ticked-is, stepped, late-stays}
-use Rattle.rules.proofs.Promises.FillLists.{each-fill, in-order-kept}
+use Rattle.rules.proofs.Promises.FillLists.{each-fill, each-later}
 use Rattle.rules.proofs.Promises.Filled.{fills-granted, fills-in-order, fills-once, fills-all}
 
 -- a row that waits after the steps waited before them
@@ -92,10 +92,10 @@ module _ (s : State) (z : sound s ≡ true) (room clock : ℕ) (accepted : outco
   pub listed-waited : EachFill (WaitedFor s) (fillsOf s (Tick room))
   listed-waited = each-fill (GrantedFor s (outcome s (Tick room) .state)) (WaitedFor s) (λ f h. (h .0, h .1)) (fillsOf s (Tick room)) listed-granted
 
-  -- each entry's row had better priority before the tick than the row of every later entry
+  -- the row of every entry had better priority before the tick than the row of each later one
   pub listed-in-order : InOrder (outranks s) (fillsOf s (Tick room))
   listed-in-order = rw listed
-      (in-order-kept (GrantedFor u (allTried u .state)) (outranks u) (outranks s)
+      (each-later (GrantedFor u (allTried u .state)) (λ f g. outranks u (f .row) (g .row) ≡ true) (λ f g. outranks s (f .row) (g .row) ≡ true)
       (λ f g h k o. outranks-kept s u (f .row) (g .row) (sym (ticked-places s (facts s z .sized))) (deadline f h) (deadline g k) ∙ o)
       (allTried u .fills) (fills-granted u y) (fills-in-order u y))
     where
