@@ -305,6 +305,11 @@ pub rows-in-order : (a : List ℕ) (c : Call) → map (λ r. r .0) (refusals a c
 unfolding refusals order
 rows-in-order a c = refl
 
+-- the place of the first number of the order is 0, that of the next 1, and so on
+pub place-of-order : map (place order) order ≡ 0 ∷ 1 ∷ 2 ∷ 3 ∷ 4 ∷ 5 ∷ 6 ∷ 7 ∷ 8 ∷ 9 ∷ 10 ∷ 11 ∷ 12 ∷ 13 ∷ 14 ∷ 15 ∷ 16 ∷ 17 ∷ 18 ∷ []
+unfolding order
+place-of-order = refl
+
 by-place : (a : List ℕ) (c : Call) → Rising (place order) 0 (refusals a c)
 unfolding refusals order
 by-place a c = omega arith
