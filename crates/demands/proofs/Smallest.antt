@@ -42,7 +42,8 @@ use Rattle.rules.specs.Content.{isStart, isTick}
 use Rattle.rules.specs.Run.{outcome}
 use Rattle.rules.specs.Tries.{ticked}
 use Rattle.rules.proofs.Promises.CallCases.{viewed-is}
-use Rattle.rules.proofs.Facts.SoundFacts.{Sound, facts, borders-facts}
+use Rattle.rules.specs.SoundFacts.{Sound}
+use Rattle.rules.proofs.Facts.SoundFacts.{facts, borders-facts}
 use Rattle.rules.proofs.Leaves.PageLaws.{found-has, found-below, not-found, one-place}
 use Rattle.area.specs.Layout.{decoded}
 use Rattle.sabre.specs.Lent.{unfit, answerOn, isRefused, status, fitArea}

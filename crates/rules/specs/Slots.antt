@@ -1,13 +1,13 @@
--- Document 01, "The calls" and "Choosing a slot", and document 02, T-04: a page that a row holds, a slot that is dirty, a page that is reported for write-back, and a slot that was given a new page.
+-- Document 01, "The calls" and "Choosing a slot", and document 02, T-04: a page that a row holds, a slot that is dirty, a page that is reported for write-back, a slot that was given a new page, and a row that was left alone.
 use mathlib.Core.Path.{_≡_}
 use mathlib.Core.Bool.{Bool, true, false, _&&_}
 use mathlib.Core.Logic.{_⊎_}
-use Prim.Native.Nat.{ℕ, _+_}
+use Prim.Native.Nat.{ℕ, _+_, _<_}
 use Rattle.seq.specs.declared.Found.the-variants.{At, Nowhere}
 use Rattle.model.specs.declared.Back.the-variants.{Page}
 use Rattle.model.specs.declared.Mode.{Mode}
 use Rattle.model.specs.declared.State.{State}
-use Rattle.model.specs.State.{slotAt}
+use Rattle.model.specs.State.{rowAt, slotAt, holdingAt}
 use Rattle.model.specs.Words.{dirtyIn, hasPage, holds, pins, slotOf}
 use Rattle.rules.specs.Choice.{chosen}
 use Rattle.model.specs.declared.Call.{Call}
@@ -42,3 +42,9 @@ pub record Refilled (s : State) (c : Call) (t : State) (slot q : ℕ) : Type 0 w
   pub chose : chosen on row ≡ At slot
   pub new-page : hasPage page (slotAt t slot .content) ≡ true
   pub unpinned : pins on slot q ≡ false
+
+-- the row and its holdings are as they were, and the slots that it holds have their pages
+pub record LeftAlone (s t : State) (row : ℕ) : Type 0 where
+  pub row-same : rowAt t row ≡ rowAt s row
+  pub holding-same : (slot : ℕ) → slot < 64 → holdingAt t slot row ≡ holdingAt s slot row
+  pub page-same : (slot : ℕ) → slot < 64 → holds s slot row ≡ true → (page : ℕ) → hasPage page (slotAt t slot .content) ≡ hasPage page (slotAt s slot .content)
