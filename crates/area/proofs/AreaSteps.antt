@@ -8,8 +8,7 @@ use lib.Dec.{eqb}
 use lib.ListN.{length, drop, replicate, length-append}
 use Rattle.seq.specs.Below.{allBelow}
 use Rattle.seq.proofs.BelowLaws.{all-more}
-use Rattle.words.specs.Bytes.{wordAt, hasWords, wordBytes, zeroWords, spliced}
-use Rattle.words.proofs.ByteLaws.{AllUnder}
+use Rattle.words.specs.Bytes.{wordAt, hasWords, wordBytes, zeroWords, spliced, AllUnder}
 use Rattle.words.proofs.SpliceLaws.{spliced-more}
 use Rattle.model.specs.declared.Borders.{Borders}
 use Rattle.model.specs.declared.State.{State}

@@ -12,8 +12,8 @@ use lib.ListN.{length, getD, length-replicate, List·getD-eq-default}
 use Rattle.seq.proofs.BuildLaws.{build-at}
 use Rattle.seq.proofs.EachLaws.{each-length}
 use Rattle.seq.specs.Below.{allBelow}
-use Rattle.words.specs.Bytes.{wordAt, wordBytes, hasWords}
-use Rattle.words.proofs.ByteLaws.{AllUnder, under-each, length-words, word-under, word-back, word-in}
+use Rattle.words.specs.Bytes.{wordAt, wordBytes, hasWords, AllUnder}
+use Rattle.words.proofs.ByteLaws.{under-each, length-words, word-under, word-back, word-in}
 use Rattle.model.specs.declared.Cause.{Cause}
 use Rattle.model.specs.declared.Cause.the-variants.{Late, Taken}
 use Rattle.model.specs.declared.Mode.{Mode}
@@ -31,8 +31,7 @@ use Rattle.model.specs.declared.State.{State}
 use Rattle.model.specs.Parties.{modeOf, modeNumber}
 use Rattle.model.specs.State.{freeRow, emptySlot, emptyHolding, emptyHoldings, rowAt, slotAt, placeAt}
 use Rattle.model.specs.Words.{isFilled, pageIn, arrivalIn, dirtyIn, lowestIn, strength}
-use Rattle.model.proofs.StateLaws.{Sized}
-use Rattle.model.proofs.Ranges.{ConditionOk, ContentOk, RowOk, SlotOk, HoldingOk, BordersOk, StateOk}
+use Rattle.model.specs.Ranges.{Sized, ConditionOk, ContentOk, RowOk, SlotOk, HoldingOk, BordersOk, StateOk}
 use Rattle.area.specs.Layout.{headerWords, conditionNumber, awaited, waitingMode, rowWords, bit, slotWords, holdingWords, low, conditionOf, pinNumbered, contentOf, rowFrom, slotFrom, holdingFrom, bordersFrom, freeRows, emptySlots, noPlaces, placesFrom, decoded}
 
 -- ---- how long they are

@@ -9,8 +9,8 @@ use borrow.Author.Tests.{eq-eqb}
 use lib.ListN.{length, getD, take, replicate, length-replicate}
 use Rattle.seq.specs.Below.{allBelow}
 use Rattle.seq.proofs.BelowLaws.{each-all, all-same}
-use Rattle.words.specs.Bytes.{part, joined, wordAt, wordBytes, zeroWords, hasWords, same}
-use Rattle.words.proofs.ByteLaws.{AllUnder, length-words}
+use Rattle.words.specs.Bytes.{part, joined, wordAt, wordBytes, zeroWords, hasWords, same, AllUnder}
+use Rattle.words.proofs.ByteLaws.{length-words}
 use Rattle.words.proofs.JoinLaws.{length-joined}
 use Rattle.words.proofs.SameLaws.{same-cut, has-words, has-zeros, has-pieces}
 use Rattle.model.specs.declared.Holding.{Holding}

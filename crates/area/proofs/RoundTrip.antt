@@ -10,14 +10,14 @@ use lib.Seq.{ext-getD, take-at}
 use Rattle.seq.specs.Each.{each}
 use Rattle.seq.proofs.EachLaws.{each-length}
 use Rattle.seq.proofs.BuildLaws.{build-at}
-use Rattle.words.specs.Bytes.{wordAt, wordBytes, zeroWords}
-use Rattle.words.proofs.ByteLaws.{AllUnder, under-append, words-under, word-under, word-within, length-words}
+use Rattle.words.specs.Bytes.{wordAt, wordBytes, zeroWords, AllUnder}
+use Rattle.words.proofs.ByteLaws.{under-append, words-under, word-under, word-within, length-words}
 use Rattle.words.proofs.JoinLaws.{under-joined, piece-back}
 use Rattle.words.proofs.SameLaws.{same-true, true-same}
 use Rattle.model.specs.declared.Holding.{Holding}
 use Rattle.model.specs.declared.State.{State}
 use Rattle.model.specs.State.{freeRow, emptySlot, emptyHolding, emptyHoldings, rowAt, slotAt, placeAt}
-use Rattle.model.proofs.Ranges.{StateOk}
+use Rattle.model.specs.Ranges.{StateOk}
 use Rattle.area.specs.Layout.{headerWords, placesBytes, rowWords, slotWords, holdingWords, encodedAs, bit, low, rowFrom, slotFrom, holdingFrom, bordersFrom, freeRows, emptySlots, noPlaces, placesFrom, decoded, versionIn, exactAs}
 use Rattle.area.proofs.Elements.{header-wide, place-wide, row-wide, slot-wide, holding-wide, low-same, bit-back, place-back, row-back, slot-back, holding-back, header-back, AllWords, decoded-ok}
 use Rattle.area.proofs.Pieces.{rowsBytes, slotsBytes, holdingsBytes, places-long, rows-long, slots-long, holdings-long, zeros-long}

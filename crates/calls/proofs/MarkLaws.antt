@@ -15,7 +15,7 @@ use Rattle.model.specs.declared.State.{State}
 use Rattle.model.specs.State.{freeRow, withClock, withRows, putRow}
 use Rattle.model.specs.Changes.{released, killed}
 use Rattle.model.specs.Inner.Changed.{marked}
-use Rattle.model.proofs.StateLaws.{Sized}
+use Rattle.model.specs.Ranges.{Sized}
 use Rattle.model.proofs.SameRows.{released-same, killed-same}
 use Rattle.rules.specs.Calls.{deliveredRow, deliveredRows, isLate, lateKilled, advanced}
 use Rattle.rules.proofs.Leaves.TickLaws.{later, sized-later}

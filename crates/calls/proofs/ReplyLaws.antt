@@ -20,7 +20,7 @@ use Rattle.model.specs.declared.State.{State}
 use Rattle.model.specs.State.{emptyHolding, withClock, withRows}
 use Rattle.model.specs.Changes.{released, killed, killedRow}
 use Rattle.model.specs.Inner.Changed.{marked, bordersAfter, begunAfter, placesAfter, withSetting, changed, outcomeOf, holdingsDropped}
-use Rattle.model.proofs.StateLaws.{Sized}
+use Rattle.model.specs.Ranges.{Sized}
 use Rattle.model.proofs.ChangedLaws.{changed-dropped, changed-none}
 use Rattle.rules.specs.Calls.{unless}
 use Rattle.calls.specs.Inner.Parts.{settingMade}

@@ -18,7 +18,7 @@ use Rattle.model.specs.declared.State.{State}
 use Rattle.model.specs.State.{withClock}
 use Rattle.model.specs.Changes.{killedRow, killed, released}
 use Rattle.model.specs.Inner.Changed.{marked, changed, LeavesSetting, outcomeOf, holdingsDropped}
-use Rattle.model.proofs.StateLaws.{Sized}
+use Rattle.model.specs.Ranges.{Sized}
 use Rattle.rules.specs.Answers.{word, isClock}
 use Rattle.rules.specs.Calls.{deliveredRow, threeSteps, lateKilled, deliveredRows, advanced}
 use Rattle.rules.specs.Refusals.{tickRefusal}

@@ -24,7 +24,7 @@ use Rattle.model.specs.State.{emptyHolding, slotAt, holdingAt, putSlot, putHold
 use Rattle.model.specs.Words.{isPin, pins, slotOf}
 use Rattle.model.specs.Changes.{written, dirtied}
 use Rattle.model.specs.Inner.Changed.{holdingAfter, changed}
-use Rattle.model.proofs.StateLaws.{Sized}
+use Rattle.model.specs.Ranges.{Sized}
 use Rattle.model.proofs.ChangedLaws.{held-set}
 use Rattle.rules.specs.Refusals.{firstToApply, pinsPage}
 use Rattle.rules.specs.Calls.{unless, unpinnedAt, unpinned}

@@ -17,10 +17,11 @@ use Rattle.model.specs.State.{rowAt, placeAt}
 use Rattle.model.specs.Words.{isFree, rankAt, outranks}
 use Rattle.model.proofs.PriorityLaws.{place-better}
 use Rattle.rules.specs.Answers.{isStarted}
-use Rattle.rules.specs.BeginOrder.{placeIn}
+use Rattle.rules.specs.BeginOrder.{placeIn, InOrder}
 use Rattle.rules.specs.Calls.{looked}
-use Rattle.rules.proofs.Facts.SoundFacts.{OrderSound, facts, is-free}
-use Rattle.rules.proofs.Promises.BeginOrder.{InOrder, fresh-order, order-next}
+use Rattle.rules.specs.SoundFacts.{OrderSound}
+use Rattle.rules.proofs.Facts.SoundFacts.{facts, is-free}
+use Rattle.rules.proofs.Promises.BeginOrder.{fresh-order, order-next}
 use Rattle.area.specs.Layout.{decoded}
 use Rattle.area.proofs.Elements.{decoded-place}
 use Rattle.sabre.specs.Lent.{answerOn, areaAfter, fitArea}

@@ -11,7 +11,7 @@ use lib.Seq.{take-at, drop-at}
 use Rattle.seq.proofs.Tests.{true-false, same-truth, or-false, or-true-right}
 use Rattle.model.specs.declared.Answer.the-variants.{Refused, Started}
 use Rattle.model.specs.declared.Call.{Call}
-use Rattle.model.specs.declared.Call.the-variants.{Start}
+use Rattle.model.specs.declared.Call.the-variants.{Start, Look, View, Count}
 use Rattle.model.specs.declared.Outcome.{Outcome}
 use Rattle.model.specs.declared.State.{State}
 use Rattle.model.specs.State.{fresh}
@@ -67,6 +67,15 @@ same-length a c = go (isRefused (answerOn a c) || isReading c) refl
 pub reading-leaves : (a : List ℕ) (c : Call) → isReading c ≡ true → areaAfter a c ≡ a
 unfolding areaAfter
 reading-leaves a c r = rw (r, or-true-right (isRefused (answerOn a c)) true refl)
+
+pub look-leaves : (a : List ℕ) (level number : ℕ) → areaAfter a (Look level number) ≡ a
+look-leaves a level number = reading-leaves a (Look level number) refl
+
+pub view-leaves : (a : List ℕ) (level page : ℕ) → areaAfter a (View level page) ≡ a
+view-leaves a level page = reading-leaves a (View level page) refl
+
+pub count-leaves : (a : List ℕ) (level : ℕ) → areaAfter a (Count level) ≡ a
+count-leaves a level = reading-leaves a (Count level) refl
 
 -- ---- bytes past 65,536 are never read
 

@@ -42,7 +42,8 @@ use Rattle.rules.specs.Content.{isStart, isTick}
 use Rattle.rules.specs.Run.{outcome}
 use Rattle.rules.specs.Tries.{ticked}
 use Rattle.rules.proofs.Promises.CallCases.{viewed-is}
-use Rattle.rules.proofs.Facts.SoundFacts.{Sound, facts, borders-facts}
+use Rattle.rules.specs.SoundFacts.{Sound}
+use Rattle.rules.proofs.Facts.SoundFacts.{facts, borders-facts}
 use Rattle.rules.proofs.Leaves.PageLaws.{found-has, found-below, not-found, one-place}
 use Rattle.area.specs.Layout.{decoded}
 use Rattle.sabre.specs.Lent.{unfit, answerOn, isRefused, status, fitArea}
@@ -304,6 +305,11 @@ least f a c o e =
 pub rows-in-order : (a : List ℕ) (c : Call) → map (λ r. r .0) (refusals a c) ≡ order
 unfolding refusals order
 rows-in-order a c = refl
+
+-- the place of the first number of the order is 0, that of the next 1, and so on
+pub place-of-order : map (place order) order ≡ 0 ∷ 1 ∷ 2 ∷ 3 ∷ 4 ∷ 5 ∷ 6 ∷ 7 ∷ 8 ∷ 9 ∷ 10 ∷ 11 ∷ 12 ∷ 13 ∷ 14 ∷ 15 ∷ 16 ∷ 17 ∷ 18 ∷ []
+unfolding order
+place-of-order = refl
 
 by-place : (a : List ℕ) (c : Call) → Rising (place order) 0 (refusals a c)
 unfolding refusals order

@@ -16,7 +16,7 @@ use Rattle.model.specs.declared.Mode.{Mode}
 use Rattle.model.specs.declared.Outcome.{Outcome}
 use Rattle.model.specs.declared.State.{State}
 use Rattle.model.specs.State.{fresh}
-use Rattle.model.proofs.Ranges.{StateOk}
+use Rattle.model.specs.Ranges.{StateOk}
 use Rattle.rules.specs.Sound.{sound}
 use Rattle.rules.specs.Answers.{word, isStarted}
 use Rattle.rules.specs.Refusals.{startRefusal, StartTaken}
@@ -32,11 +32,11 @@ use Rattle.rules.proofs.Promises.Serving.{Serving, waits, waits-g, joins, fills
 use Rattle.rules.proofs.Promises.Granting.{granted-answer}
 use Rattle.rules.proofs.Stays.StaysFresh.{fresh-sound}
 use Rattle.rules.proofs.Stays.StaysSound.{stays-sound}
-use Rattle.rules.proofs.Promises.Widths.{fresh-narrow, stays-narrow, sound-ok}
+use Rattle.rules.proofs.Promises.Widths.{fresh-narrow, stays-narrow, sound-ok, c-fits}
 use Rattle.area.specs.Layout.{version, encoded, decoded}
 use Rattle.area.proofs.RoundTrip.{decode-encode}
 use Rattle.sabre.specs.Lent.{answerOn, isRefused, areaAfter, soundArea, fitArea}
-use Rattle.demands.specs.Runs.{AllFit, areaAfterAll, notStartedAgain, Run, startedArea, FromFreshStart}
+use Rattle.demands.specs.Runs.{AllFit, AllOfC, areaAfterAll, notStartedAgain, Run, startedArea, FromFreshStart}
 use Rattle.demands.proofs.Areas.{unfit-start, accepted-sound, taken-fit, accepted-fit, fit-long, fit-answer}
 use Rattle.sabre.proofs.SoundAreas.{encode-sound, sound-fit, fit-area, fit-ok}
 
@@ -196,6 +196,11 @@ start-bytes a slots delay e =
     rw (e, r)
 
 -- ---- lists of calls
+
+-- every list of calls that C can make has numbers that fit
+pub c-all-fit : (cs : List Call) → AllOfC cs → AllFit cs
+c-all-fit [] h = tt
+c-all-fit (c ∷ cs) h = (c-fits c (h .0), c-all-fit cs (h .1))
 
 -- every list of calls leaves a sound area sound, and one that is sound in the last 32-bit layout sound in one of the two
 pub run-sound-on : (cs : List Call) (a : List ℕ) → soundArea a ≡ true → AllFit cs → soundArea (areaAfterAll a cs) ≡ true

@@ -7,7 +7,7 @@ use native.Mathlib.Omega.{arith}
 use borrow.Author.Tests.{eqb-true}
 use lib.ListN.{drop}
 use lib.Seq.{drop-at}
-use Rattle.seq.proofs.SortOrder.{Ranked}
+use Rattle.seq.specs.Order.{Ranked}
 use Rattle.seq.proofs.Tests.{not-true-false}
 use Rattle.model.specs.declared.Answer.the-variants.{Clock}
 use Rattle.model.specs.declared.Call.{Call}

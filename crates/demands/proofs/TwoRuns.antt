@@ -2,7 +2,7 @@
 -- A run beside the run of its kept calls alone.
 use mathlib.Core.Path.{_≡_, refl, sym, _∙_, ap}
 use mathlib.Core.Bool.{Bool, true, false, _&&_}
-use mathlib.Core.List.{List, [], _∷_}
+use mathlib.Core.List.{List, [], _∷_, _++_}
 use Prim.Native.Nat.{ℕ, _≤_}
 use native.Mathlib.Omega.{arith}
 use borrow.Author.Tests.{eqb-true, le-leb}
@@ -132,6 +132,18 @@ module _ (L : ℕ) (most : L ≤ 3) (last : Borders) where
           → noted areaAfter mark entry a cs ≡ noted areaAfter mark entry b (only (isKept L) cs)
       same-notes mark entry m e n = beside-noted areaAfter (isKept L) Good Fine Near good-first good-rest kept-step other-step mark entry m e n cs a b x g
 
-  -- so two runs with the same kept calls are compared by one run of those
-  pub beside-kept : (cs ks : List Call) → ks ≡ keptCalls L cs → (a b : List ℕ) → Near a b → Good a cs → Beside a cs b ks
-  beside-kept cs ks e a b x g = rw e (beside cs a b x g)
+  -- from a place on in the run
+  near-from : (ds cs : List Call) (a b : List ℕ) → Near a b → Good a (cs ++ ds) → Near (areaAfterAll a cs) (areaAfterAll b (keptCalls L cs))
+  unfolding keptCalls areaAfterAll
+  near-from ds =
+      beside-last areaAfter (isKept L) (λ a cs. Good a (cs ++ ds)) Fine Near (λ a c cs. good-first a c (cs ++ ds)) (λ a c cs. good-rest a c (cs ++ ds)) kept-step other-step
+
+  good-from : (ds cs : List Call) (a : List ℕ) → Good a (cs ++ ds) → Good (areaAfterAll a cs) ds
+  unfolding areaAfterAll lastOf
+  good-from ds [] a g = g
+  good-from ds (c ∷ cs) a g = good-from ds cs (areaAfter a c) (good-rest a c (cs ++ ds) g)
+
+  -- so two runs that have the same kept calls up to a place and from there on are compared by one run of those
+  pub beside-from : (cs ds js ks : List Call) → js ≡ keptCalls L cs → ks ≡ keptCalls L ds → (a b : List ℕ) → Near a b → Good a (cs ++ ds)
+      → Beside (areaAfterAll a cs) ds (areaAfterAll b js) ks
+  beside-from cs ds js ks e k a b x g = rw (e, k) (beside ds (areaAfterAll a cs) (areaAfterAll b (keptCalls L cs)) (near-from ds cs a b x g) (good-from ds cs a g))

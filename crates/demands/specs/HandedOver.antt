@@ -4,8 +4,8 @@ use mathlib.Core.Bool.{true}
 use mathlib.Core.List.{List, _++_}
 use Prim.Native.Nat.{ℕ, _≤_}
 use Rattle.model.specs.declared.Call.{Call}
-use Rattle.rules.specs.Answers.{Told, told}
-use Rattle.rules.specs.Secrecy.{isQuestion}
+use Rattle.rules.specs.Answers.{told}
+use Rattle.rules.specs.Secrecy.{keptCalls, isQuestion}
 use Rattle.rules.specs.Run.{outcome}
 use Rattle.area.specs.Layout.{version, decoded, versionIn}
 use Rattle.layout32.specs.Layout as Old
@@ -19,7 +19,8 @@ pub record TakenOver (a : List ℕ) (c : Call) : Type 0 where
   pub is-sound : soundArea (areaAfter a c) ≡ true
   pub is-new : versionIn (areaAfter a c) ≡ version
 
--- after the first calls of a run the area is not the one that they leave here, but an old one that names the same state
+-- after the first calls of a run the area is not the one that they leave here, but an old one that names the same state. They were made by other software,
+-- and what that answered is no part of this: the claims are about the calls after them. A tick that it refused by 17 at its last clock, lastClock32, is no call of the run.
 pub record HandedOver (r : Run) : Type 0 where
   pub before : List Call
   pub after : List Call
@@ -29,26 +30,36 @@ pub record HandedOver (r : Run) : Type 0 where
   pub same-state : Old.decoded area ≡ decoded (areaAfterAll (startedArea r) before)
 
 module _ (r : Run) (h : HandedOver r) where
-  -- what the kept calls are answered, the ticks of a row's deliveries, and the area at the end
-  abbrev pub handedAnswers : ℕ → List Told
-  handedAnswers L = keptAnswersOn L (startedArea r) (h .before) ++ keptAnswersOn L (h .area) (h .after)
-
-  abbrev pub handedDeliveries : ℕ → ℕ → List ℕ
-  handedDeliveries level number = deliveriesOn (startedArea r) (h .before) level number ++ deliveriesOn (h .area) (h .after) level number
+  -- the area that the run has there if it is not handed over, and the one at the end of the run that is
+  abbrev pub areaThere : List ℕ
+  areaThere = areaAfterAll (startedArea r) (h .before)
 
   abbrev pub handedArea : List ℕ
   handedArea = areaAfterAll (h .area) (h .after)
 
--- it is answered, call after call, as the run is that was not handed over
+-- the calls after the hand-over are answered, call after call, as in the run that was not handed over, and the deliveries come at the same ticks; so it is with any call afterwards
 pub record AsInRun (r : Run) (h : HandedOver r) : Type 0 where
-  pub answers : (L : ℕ) → handedAnswers r h L ≡ keptAnswersOn L (startedArea r) (r .calls)
-  pub delivered : (level number : ℕ) → handedDeliveries r h level number ≡ deliveriesOn (startedArea r) (r .calls) level number
+  pub answers : (L : ℕ) → keptAnswersOn L (h .area) (h .after) ≡ keptAnswersOn L (areaThere r h) (h .after)
+  pub delivered : (level number : ℕ) → deliveriesOn (h .area) (h .after) level number ≡ deliveriesOn (areaThere r h) (h .after) level number
   pub afterwards : (c : Call) → answerOn (handedArea r h) c ≡ answerOn (areaAfterAll (startedArea r) (r .calls)) c
 
--- demand 3 for two runs that were handed over, each at its own time
+-- a place among the calls after the hand-over: those up to it and those from it on
+pub record From (r : Run) (h : HandedOver r) : Type 0 where
+  pub done : List Call
+  pub rest : List Call
+  pub parts : h .after ≡ done ++ rest
+
+-- the area there
+abbrev pub areaFrom : (r : Run) (h : HandedOver r) → From r h → List ℕ
+areaFrom r h x = areaAfterAll (h .area) (x .done)
+
+-- demand 3 for two runs that were handed over, each at its own time: from any two places on after the hand-overs from which the kept calls agree,
+-- these have the same answers and each row of L or below the same deliveries; and each question afterwards is answered alike
 pub record HandedAlike (L : ℕ) (r q : Run) (h : HandedOver r) (k : HandedOver q) : Type 0 where
-  pub answers : handedAnswers r h L ≡ handedAnswers q k L
-  pub delivered : (level number : ℕ) → level ≤ L → number ≤ 7 → handedDeliveries r h level number ≡ handedDeliveries q k level number
+  pub answers : (x : From r h) (y : From q k) → keptCalls L (x .rest) ≡ keptCalls L (y .rest)
+      → keptAnswersOn L (areaFrom r h x) (x .rest) ≡ keptAnswersOn L (areaFrom q k y) (y .rest)
+  pub delivered : (x : From r h) (y : From q k) → keptCalls L (x .rest) ≡ keptCalls L (y .rest) → (level number : ℕ) → level ≤ L → number ≤ 7
+      → deliveriesOn (areaFrom r h x) (x .rest) level number ≡ deliveriesOn (areaFrom q k y) (y .rest) level number
   pub afterwards : (c : Call) → isQuestion L c ≡ true → told (answerOn (handedArea r h) c) ≡ told (answerOn (handedArea q k) c)
 
 abbrev pub Demand3HandedOver : Type 0

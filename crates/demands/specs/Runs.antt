@@ -9,7 +9,7 @@ use Rattle.model.specs.declared.Borders.{Borders}
 use Rattle.model.specs.declared.Call.{Call}
 use Rattle.model.specs.declared.Call.the-variants.{Start, Look}
 use Rattle.rules.specs.Answers.{isStarted, isReady, isPending, isIdle, Told, told}
-use Rattle.rules.specs.Content.{isTick, isRequest, namesRow, Fits}
+use Rattle.rules.specs.Content.{isTick, isRequest, namesRow, Fits, OfC}
 use Rattle.rules.specs.Secrecy.{isKept, keptCalls, isQuestion}
 use Rattle.area.specs.Layout.{decoded}
 use Rattle.sabre.specs.Lent.{answerOn, areaAfter}
@@ -18,6 +18,11 @@ use Rattle.sabre.specs.Lent.{answerOn, areaAfter}
 abbrev pub AllFit : List Call → Type 0
 AllFit [] = Unit {0}
 AllFit (c ∷ cs) = Fits c × AllFit cs
+
+-- every call of the list is one that C can make
+abbrev pub AllOfC : List Call → Type 0
+AllOfC [] = Unit {0}
+AllOfC (c ∷ cs) = OfC c × AllOfC cs
 
 -- the area that a list of calls leaves
 unfoldable pub areaAfterAll : List ℕ → List Call → List ℕ

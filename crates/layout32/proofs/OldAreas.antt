@@ -23,16 +23,17 @@ use Rattle.model.specs.declared.Row.{Row}
 use Rattle.model.specs.declared.State.{State}
 use Rattle.model.specs.Parties.{modeOf}
 use Rattle.model.specs.State.{freeRow, emptySlot, emptyHolding, emptyHoldings, rowAt, slotAt}
-use Rattle.model.proofs.Ranges.{StateOk}
+use Rattle.model.specs.Ranges.{StateOk}
 use Rattle.rules.specs.Sound.{sound}
-use Rattle.rules.proofs.Facts.SoundFacts.{Sound, RowSound, facts}
+use Rattle.rules.specs.SoundFacts.{Sound, RowSound}
+use Rattle.rules.proofs.Facts.SoundFacts.{facts}
 use Rattle.rules.proofs.Promises.Widths.{due-below, touch-below, arrival-below, held-below, sound-ok}
 use Rattle.area.specs.Layout.{headerWords, rowWords, slotWords, holdingWords, encodedAs, low, conditionOf, contentOf, pinNumbered, rowFrom, slotFrom, holdingFrom, bordersFrom, placesFrom, freeRows, emptySlots, noPlaces, decoded, exactAs}
 use Rattle.area.proofs.Elements.{low-small, low-same, at-each-place, decoded-row, decoded-slot, decoded-holding, decoded-sized}
 use Rattle.area.proofs.RoundTrip.{built, decode-encode, encode-exact, exact-long}
 use Rattle.layout32.specs.Layout as Old
 use Rattle.layout32.specs.Sound32.{lastClock32, sound32, soundArea32}
-use Rattle.layout32.specs.Inner.Known.{fits}
+use Rattle.layout32.specs.Known.{OldArea, fits}
 
 -- ---- the bytes of a state are those of the layout that is written, but for the version
 
@@ -150,13 +151,6 @@ unfolding Old.decoded Old.freeRows Old.rowFrom
 old-deadline a = at-each-place (λ (x : Row). x .deadline < 2 ^ 32) freeRow (lit< tt) (Old.decoded a .rows)
     (λ i b. let h : i < 32 = rw (each-length (λ row _. Old.rowFrom a (512 + row * 64)) (replicate 32 freeRow), length-replicate 32 freeRow) at b in
     rw (build-at (λ i. Old.rowFrom a (512 + i * 64)) 32 freeRow i freeRow h) (low-small (wordAt a (512 + i * 64 + 24))))
-
-pub record OldArea (a : List ℕ) : Type 0 where
-  pub long : 65536 ≤ length a
-  pub exactly : exactAs Old.version a ≡ true
-  pub narrow : fits (decoded a .clock) (decoded a .rows) ≡ true
-  pub sound-state : sound (decoded a) ≡ true
-  pub named : Old.decoded a ≡ decoded a
 
 module _ (a : List ℕ) (e : Old.exact a ≡ true) (z : sound (Old.decoded a) ≡ true) where
   abbrev old : State

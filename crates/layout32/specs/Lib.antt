@@ -1,4 +1,3 @@
 pub mod Layout
 pub mod Sound32
--- for the code
-pub mod Inner
+pub mod Known

@@ -1,7 +1,7 @@
 // Which areas are taken besides those of the layout that is written: those of the last 32-bit layout, docs/LAYOUT.md.
 use model::Row;
 ghost use mathlib.Core.Path.{_≡_};
-ghost use Rattle.layout32.specs.Inner.Known.{fits, known};
+ghost use Rattle.layout32.specs.Known.{fits, known};
 
 // The clock and the deadlines of the rows fit the last 32-bit layout.
 fn is_narrow(clock: u64, rows: [Row; 32]) -> bool

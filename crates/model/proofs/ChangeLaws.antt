@@ -10,7 +10,8 @@ use Rattle.model.specs.State.{freeRow, emptySlot, emptyHolding, rowAt, s
 use Rattle.model.specs.Changes.{written, dirtied, wroteSlot, released, killed, killedRow, cleared}
 use Rattle.model.specs.declared.Cause.{Cause}
 use Rattle.model.specs.declared.State.{State}
-use Rattle.model.proofs.StateLaws.{Sized, place-slot, place-row}
+use Rattle.model.specs.Ranges.{Sized}
+use Rattle.model.proofs.StateLaws.{place-slot, place-row}
 
 module _ (some : ℕ → Bool) (s : State) (z : Sized s) where
   pub released-holding : (slot row : ℕ) → row < 32 → holdingAt (released some s) slot row ≡ cond (some row) emptyHolding (holdingAt s slot row)

@@ -18,7 +18,8 @@ use Rattle.model.specs.declared.Holding.{Holding}
 use Rattle.model.specs.declared.Setting.{Setting}
 use Rattle.model.specs.declared.Change.{Change}
 use Rattle.model.specs.declared.State.{State}
-use Rattle.model.proofs.StateLaws.{Sized, place-slot, place-row}
+use Rattle.model.specs.Ranges.{Sized}
+use Rattle.model.proofs.StateLaws.{place-slot, place-row}
 
 module _ (s : State) (z : Sized s) where
   -- a list that agrees with a change at every place

@@ -13,7 +13,7 @@ use Rattle.model.specs.Parties.{rowOf, levelOf}
 use Rattle.model.specs.State.{rowAt, placeAt}
 use Rattle.model.specs.Words.{isFree}
 use Rattle.model.specs.Changes.{rowsNotFree, movedUp, closedUp}
-use Rattle.model.proofs.StateLaws.{Sized}
+use Rattle.model.specs.Ranges.{Sized}
 
 pub closed-long : (row : ℕ) (places : List ℕ) → length (closedUp row places) ≡ length places
 unfolding closedUp

@@ -8,7 +8,7 @@ use Rattle.model.specs.declared.Row.{Row}
 use Rattle.model.specs.declared.Slot.{Slot}
 use Rattle.model.specs.declared.Holding.{Holding}
 use Rattle.model.specs.declared.State.{State}
-use Rattle.model.proofs.StateLaws.{Sized}
+use Rattle.model.specs.Ranges.{Sized}
 
 module _ (s : State) (z : Sized s) where
   pub row-same : (row : ℕ) (x : Row) → row < 32 → rowAt (putRow s row x) row ≡ x

@@ -9,6 +9,7 @@ use denote.Laws.{Is}
 use denote.Array.{each}
 use denote.Shadow.{shadow}
 use denote.Struct.Field.{Field, usize-field}
+use Rattle.model.specs.Ranges.{ConditionOk, ContentOk, HoldingOk, RowOk, SlotOk, BordersOk, StateOk}
 use Rattle.model.specs.State.{freeRow, emptySlot, emptyHolding}
 use Rattle.model.specs.declared.Condition as Condition'
 use Rattle.model.specs.declared.Condition.the-variants.{Free, Idle, Fetching, Waiting, Killed}
@@ -19,7 +20,6 @@ use Rattle.model.specs.declared.Row as Row'
 use Rattle.model.specs.declared.Slot as Slot'
 use Rattle.model.specs.declared.Borders as Borders'
 use Rattle.model.specs.declared.State as State'
-use Rattle.model.proofs.StateLaws.{Sized}
 use Rattle.model.proofs.Condition
 use Rattle.model.proofs.Content
 use Rattle.model.proofs.Holding
@@ -27,45 +27,6 @@ use Rattle.model.proofs.Row
 use Rattle.model.proofs.Slot
 use Rattle.model.proofs.Borders
 use Rattle.model.proofs.State
-
-abbrev pub ConditionOk : Condition'.Condition → Type 0
-ConditionOk Free = Unit {0}
-ConditionOk Idle = Unit {0}
-ConditionOk (Fetching due) = due < 2 ^ 64
-ConditionOk (Waiting page mode) = page < 2 ^ 32
-ConditionOk (Killed cause) = Unit {0}
-
-abbrev pub ContentOk : Content'.Content → Type 0
-ContentOk Empty = Unit {0}
-ContentOk (Filled page arrival dirty lowest) = (page < 2 ^ 32) × (arrival < 2 ^ 64) × (lowest < 2 ^ 64)
-
-pub record HoldingOk (h : Holding'.Holding) : Type 0 where
-  pub arrival : h .arrival < 2 ^ 64
-  pub touch : h .touch < 2 ^ 64
-
-pub record RowOk (r : Row'.Row) : Type 0 where
-  pub condition : ConditionOk (r .condition)
-  pub deadline : r .deadline < 2 ^ 64
-
-pub record SlotOk (t : Slot'.Slot) : Type 0 where
-  pub content : ContentOk (t .content)
-  pub touch : t .touch < 2 ^ 64
-
-pub record BordersOk (b : Borders'.Borders) : Type 0 where
-  pub first : b .first < 2 ^ 32
-  pub second : b .second < 2 ^ 32
-  pub third : b .third < 2 ^ 32
-
-pub record StateOk (s : State'.State) : Type 0 where
-  pub size : s .size < 2 ^ 64
-  pub delay : s .delay < 2 ^ 64
-  pub clock : s .clock < 2 ^ 64
-  pub sized : Sized s
-  pub row : (i : ℕ) → RowOk (getD (s .rows) i freeRow)
-  pub slot : (i : ℕ) → SlotOk (getD (s .slots) i emptySlot)
-  pub holding : (i : ℕ) → HoldingOk (getD (s .holdings) i emptyHolding)
-  pub borders : BordersOk (s .borders)
-  pub place : (i : ℕ) → getD (s .places) i 0 < 2 ^ 64
 
 -- what holds of each element by its type, holds of the element at an index, or of the default
 module _ (F : Field) (P : F .Value → Type 0) (ok : (x : F .Value) (u : Val) → Is (F .row) (F .into x) (u ∷ []) → P x) (d : F .Value) (pd : P d) where

@@ -9,7 +9,7 @@ use Rattle.model.specs.declared.Cause.{Cause}
 use Rattle.model.specs.declared.State.{State}
 use Rattle.model.specs.State.{freeRow, emptySlot, emptyHolding, holdingAt, withRows, withSlots, withHoldings}
 use Rattle.model.specs.Changes.{written, dirtied, released, killed, killedRow, wroteSlot}
-use Rattle.model.proofs.StateLaws.{Sized}
+use Rattle.model.specs.Ranges.{Sized}
 
 module _ (some other : ℕ → Bool) (s : State) (same : (row : ℕ) → row < 32 → some row ≡ other row) where
   wrote-same : (slot : ℕ) → wroteSlot some s slot ≡ wroteSlot other s slot

@@ -6,20 +6,14 @@ use native.Mathlib.Omega.{arith}
 use native.Mathlib.Decide.{ℕ-discrete}
 use borrow.Author.Tests.{eq-eqb, ne-eqb}
 use lib.Dec.{eqb}
-use lib.ListN.{length, length-set, length-replicate}
+use lib.ListN.{length-set, length-replicate}
 use Rattle.seq.proofs.EachLaws.{set-at, replicate-at}
+use Rattle.model.specs.Ranges.{Sized}
 use Rattle.model.specs.State.{freeRow, emptySlot, emptyHolding, emptyHoldings, fresh, rowAt, slotAt, holdingAt, withClock, withBegun, putRow, putSlot, putHolding}
 use Rattle.model.specs.declared.Row.{Row}
 use Rattle.model.specs.declared.Slot.{Slot}
 use Rattle.model.specs.declared.Holding.{Holding}
 use Rattle.model.specs.declared.State.{State}
-
--- the arrays have their sizes
-pub record Sized (s : State) : Type 0 where
-  pub rows : length (s .rows) ≡ 32
-  pub slots : length (s .slots) ≡ 64
-  pub holdings : length (s .holdings) ≡ 2048
-  pub places : length (s .places) ≡ 32
 
 -- the place of a holding tells its slot and its row
 pub place-slot : (slot row : ℕ) → row < 32 → (slot * 32 + row) / 32 ≡ slot

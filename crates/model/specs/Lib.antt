@@ -1,5 +1,6 @@
 pub mod Parties
 pub mod State
+pub mod Ranges
 pub mod Words
 pub mod Changes
 -- for the code

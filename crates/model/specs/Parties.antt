@@ -1,7 +1,9 @@
--- Document 01, "The parties": rows, classes, the access rule, priority; of document 02, T-01, when a deadline has passed, T-02, the borders of the classes, and T-06, priority among equal deadlines.
-use mathlib.Core.Bool.{Bool, cond, _&&_}
+-- Document 01, "The parties": rows, classes, the access rule and its table, priority; of document 02, T-01, when a deadline has passed, T-02, the borders of the classes, and T-06, priority among equal deadlines.
+use mathlib.Core.Bool.{Bool, true, false, cond, _&&_}
+use mathlib.Core.List.{List, [], _∷_}
 use Prim.Native.Nat.{ℕ, _+_, _*_, _/_, _%_}
 use lib.Dec.{leb, ltb, eqb}
+use lib.ListN.{getD}
 use Rattle.seq.specs.Order.{lexLess}
 use Rattle.model.specs.declared.Mode.{Mode}
 use Rattle.model.specs.declared.Mode.the-variants.{Read, Write}
@@ -42,6 +44,18 @@ modeNumber Write = 1
 unfoldable pub allowed : ℕ → ℕ → Mode → Bool
 allowed level class Read = leb class level
 allowed level class Write = leb level class
+
+-- all 32 pairings in one constant table, a line for each level: its verdict on each class, to read and to write
+unfoldable pub accessTable : List Bool
+accessTable =
+    true ∷ true ∷ false ∷ true ∷ false ∷ true ∷ false ∷ true
+    ∷ true ∷ false ∷ true ∷ true ∷ false ∷ true ∷ false ∷ true
+    ∷ true ∷ false ∷ true ∷ false ∷ true ∷ true ∷ false ∷ true
+    ∷ true ∷ false ∷ true ∷ false ∷ true ∷ false ∷ true ∷ true ∷ []
+
+-- the table's entry for a level and a class up to 3
+unfoldable pub tableEntry : ℕ → ℕ → Mode → Bool
+tableEntry level class mode = getD accessTable (level * 8 + class * 2 + modeNumber mode) false
 
 -- the access to a page
 abbrev pub mayAccess : Borders → ℕ → ℕ → Mode → Bool

@@ -8,12 +8,7 @@ use native.Mathlib.Omega.{arith}
 use borrow.Author.Tests.{ltb-false}
 use lib.Dec.{ltb}
 use lib.ListN.{length, getD, length-append, List·getD-append}
-use Rattle.record.specs.Text.{digits}
-
--- the number that a text of digits names after x
-unfoldable pub named : ℕ → List ℕ → ℕ
-named x [] = x
-named x (d ∷ ds) = named (x * 10 + (d - 48)) ds
+use Rattle.record.specs.Text.{digits, named}
 
 named-last : (x : ℕ) (ds : List ℕ) (d : ℕ) → named x (ds ++ (d ∷ [])) ≡ named x ds * 10 + (d - 48)
 unfolding named

@@ -12,7 +12,7 @@ use Rattle.record.specs.declared.Progress.{Progress}
 use Rattle.record.specs.Record.{recordWidth, listLength, recordOf}
 use Rattle.record.specs.Text.{lineOf, fillLines, mostText}
 use Rattle.record.specs.Play.{Played, isBad, admitted, answerTo, areaWith, zeroList, listWith, nextProgress, playedRecord, unplayed, playedOne}
-use Rattle.words.specs.Inner.Written.{Wrote}
+use Rattle.words.specs.Bytes.{Wrote}
 use Rattle.words.proofs.WroteLaws.{wrote-none, wrote-more}
 use Rattle.record.proofs.RecordLaws.{cut}
 use Rattle.record.proofs.TextLaws.{line-most, fills-most}

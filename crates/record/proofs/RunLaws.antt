@@ -1,5 +1,5 @@
 -- Records played one after another, the records of an input, and that nothing follows a bad record.
-use Prim.{Unit, tt}
+use Prim.{tt}
 use mathlib.Core.Path.{_≡_, refl, _∙_, sym, ap}
 use mathlib.Core.Bool.{Bool, true, cond}
 use mathlib.Core.List.{List, [], _∷_, _++_, append-assoc, append-nil}
@@ -10,7 +10,7 @@ use lib.Seq.{take-all, take-append-le, take-at, drop-at}
 use Rattle.record.specs.declared.Progress.{Progress}
 use Rattle.record.specs.Record.{shortWidth, recordWidth, recordOf}
 use Rattle.record.specs.Text.{header}
-use Rattle.record.specs.Play.{Played, admitted, playedRecord, unplayed, playedOne, andThen, played, firstRecords, recordsOf, firstProgress, printed}
+use Rattle.record.specs.Play.{Played, admitted, playedRecord, unplayed, playedOne, andThen, played, firstRecords, recordsOf, AllFull, inputOf, firstProgress, printed}
 use Rattle.record.proofs.RecordLaws.{same-width, widths}
 
 then-then : (p q s : Played) → andThen p (andThen q s) ≡ andThen (andThen p q) s
@@ -67,19 +67,9 @@ pub last-record : (r : List ℕ) → 0 < length r → length r ≤ recordWidth r
 unfolding recordsOf firstRecords
 last-record r h k = first-record r h ∙ rw (take-all (recordWidth r) r k, drop-of-length-le r {i = recordWidth r} k)
 
--- records of full width alone
-abbrev pub AllFull : List (List ℕ) → Type 0
-AllFull [] = Unit {0}
-AllFull (r ∷ rs) = (length r ≡ recordWidth r) × AllFull rs
-
 pub full-more : (rs : List (List ℕ)) (r : List ℕ) → AllFull rs → length r ≡ recordWidth r → AllFull (rs ++ (r ∷ []))
 full-more [] r h e = (e, tt)
 full-more (x ∷ rs) r h e = (h .0, full-more rs r (h .1) e)
-
--- the bytes of some records, and what follows them
-unfoldable pub inputOf : List (List ℕ) → List ℕ → List ℕ
-inputOf [] rest = rest
-inputOf (r ∷ rs) rest = r ++ inputOf rs rest
 
 pub records-input : (rs : List (List ℕ)) (rest : List ℕ) → AllFull rs → recordsOf (inputOf rs rest) ≡ rs ++ recordsOf rest
 unfolding inputOf

@@ -7,8 +7,8 @@ use native.Mathlib.Omega.{arith}
 use borrow.Author.Tests.{ne-eqb}
 use lib.ListN.{length, take, drop, length-take}
 use lib.Seq.{take-take}
-use Rattle.words.specs.Bytes.{part}
-use Rattle.words.proofs.ByteLaws.{AllUnder, under-tail, under-take, under-drop, under-part}
+use Rattle.words.specs.Bytes.{part, AllUnder}
+use Rattle.words.proofs.ByteLaws.{under-tail, under-take, under-drop, under-part}
 use Rattle.seq.proofs.Tests.{or-none}
 use Rattle.record.specs.Record.{bigEndian, field, kinds, ofKind, longMark, shortWidth, recordWidth, hasMark, isWhole, recordOf}
 use Rattle.record.specs.Play.{firstRecords, recordsOf}

@@ -11,8 +11,7 @@ use lib.Dec.{eqb, ltb, leb}
 use lib.ListN.{length, getD, take, drop, set, replicate, length-append, drop-of-length-le}
 use lib.Seq.{take-suc, length-take-le, drop-cons}
 use Rattle.seq.proofs.Tests.{and-left, and-right}
-use Rattle.words.specs.Bytes.{spliced, joined, same}
-use Rattle.words.specs.Inner.Written.{Wrote}
+use Rattle.words.specs.Bytes.{spliced, joined, same, Wrote}
 use Rattle.words.proofs.SpliceLaws.{spliced-length, spliced-none, spliced-more}
 use Rattle.words.proofs.WroteLaws.{set-spliced, wrote-none, wrote-more}
 use Rattle.words.proofs.SameLaws.{same-true}

@@ -1,4 +1,5 @@
 -- Document 01, "The player", and document 02, T-04 and T-07: records played one after another on an area, and the text that comes out.
+use mathlib.Core.Path.{_≡_}
 use mathlib.Core.Bool.{Bool, true, false, cond, not, _||_}
 use mathlib.Core.List.{List, [], _∷_, _++_}
 use Prim.Native.Nat.{ℕ, zero, suc, _+_}
@@ -87,6 +88,16 @@ firstRecords (suc n) (b ∷ bs) = let w = recordWidth (b ∷ bs) in take w (b �
 -- all records of some bytes, of which there are no more than bytes
 unfoldable pub recordsOf : List ℕ → List (List ℕ)
 recordsOf bytes = firstRecords (length bytes) bytes
+
+-- records of full width alone
+abbrev pub AllFull : List (List ℕ) → Type 0
+AllFull [] = Unit {0}
+AllFull (r ∷ rs) = (length r ≡ recordWidth r) × AllFull rs
+
+-- the bytes of some records, and what follows them
+unfoldable pub inputOf : List (List ℕ) → List ℕ → List ℕ
+inputOf [] rest = rest
+inputOf (r ∷ rs) rest = r ++ inputOf rs rest
 
 unfoldable pub firstProgress : Progress
 firstProgress = record { started = false; over = false; number = 1 }

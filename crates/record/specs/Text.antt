@@ -1,7 +1,7 @@
 -- Document 01, "The player", and document 02, T-02 and T-04: the line of an answer and the lines of a tick's list, as bytes.
 use mathlib.Core.Bool.{cond}
 use mathlib.Core.List.{List, [], _∷_, _++_}
-use Prim.Native.Nat.{ℕ, zero, suc, _+_, _*_, _/_, _%_}
+use Prim.Native.Nat.{ℕ, zero, suc, _+_, _*_, _-_, _/_, _%_}
 use lib.Dec.{eqb, ltb}
 use lib.ListN.{getD}
 use Rattle.words.specs.Bytes.{joined}
@@ -11,6 +11,11 @@ use Rattle.record.specs.Record.{field}
 unfoldable pub digits : ℕ → ℕ → List ℕ
 digits zero n = []
 digits (suc k) n = cond (ltb n 10) ((48 + n) ∷ []) (digits k (n / 10) ++ ((48 + n % 10) ∷ []))
+
+-- the number that a text of digits names after x
+unfoldable pub named : ℕ → List ℕ → ℕ
+named x [] = x
+named x (d ∷ ds) = named (x * 10 + (d - 48)) ds
 
 -- a 64-bit number has at most 20 digits
 abbrev pub decimal : ℕ → List ℕ

@@ -4,7 +4,7 @@ ghost use mathlib.Core.Path.{_≡_};
 ghost use Prim.Native.Nat.{_+_, _*_, _^_, _<_, _≤_};
 ghost use mathlib.Core.List.{[], _∷_};
 ghost use lib.ListN.{length};
-ghost use Rattle.words.specs.Inner.Written.{Wrote};
+ghost use Rattle.words.specs.Bytes.{Wrote};
 ghost use Rattle.rules.specs.Content.{isStart};
 ghost use Rattle.record.specs.Record.{field, ofKind, recordWidth, hasMark, recordOf};
 ghost use Rattle.sabre.specs.Lent.{status, answerNumbers};

@@ -1,4 +1,3 @@
-pub mod Alike
 pub mod AlikeLaws
 pub mod SamePages
 pub mod SameSlots

@@ -20,7 +20,7 @@ use Rattle.rules.proofs.Leaves.ContentLaws.{asks-above}
 use Rattle.rules.proofs.Leaves.CallEffects.{Effect, unchanged, starts, begins, unpins, ends, ticks, sets, serves, effect}
 use Rattle.rules.proofs.Leaves.SettingLaws.{kept-borders}
 use Rattle.rules.proofs.Stays.StaysSound.{stays-sound}
-use Rattle.rules.proofs.Same.Alike.{Alike}
+use Rattle.rules.specs.Alike.{Alike}
 use Rattle.rules.proofs.Same.AlikeLaws.{alike-sym, alike-trans}
 use Rattle.rules.proofs.Same.SameStep.{same-step}
 use Rattle.rules.proofs.Hidden.Hidden.{hidden, borders-hidden}

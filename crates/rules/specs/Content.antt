@@ -1,4 +1,4 @@
--- Document 01, "The calls" and "Two runs side by side", and document 02, T-02 and T-04: a call's content, its kind, its numbers and the length of what is lent beside the area, and who makes it.
+-- Document 01, "The calls" and "Two runs side by side", and document 02, T-02 and T-04: a call's content, its kind, its numbers and the length of what is lent beside the area, and who makes it; of T-07, the widths of numbers.
 -- A tick is lent a list. The answer, lent to every call, is always four numbers long, so its length is no part of the content.
 use mathlib.Core.Bool.{Bool, _&&_, _||_, not}
 use Prim.Native.Nat.{ℕ, _<_, _^_}
@@ -7,7 +7,9 @@ use Rattle.model.specs.declared.Call.{Call}
 use Rattle.model.specs.declared.Call.the-variants.{Start, Begin, Request, Unpin, End, Tick, Look, View, Count}
 use Rattle.model.specs.declared.Call.the-variants as Call
 use Rattle.model.specs.declared.Borders.{Borders}
+use Rattle.model.specs.declared.State.{State}
 use Rattle.model.specs.Parties.{rowOf}
+use Rattle.model.specs.State.{rowAt}
 
 -- a call's kind and numbers, 0 for a number that it has not; kinds as the player has them:
 -- 0 start, 1 begin, 2 request, 3 unpin, 4 end, 6 tick, 7 look, 8 view, 9 count, 10 borders; room is the length of a tick's list
@@ -102,3 +104,26 @@ pub record Fits (c : Call) : Type 0 where
   pub first : fields c .first < 2 ^ 32
   pub second : fields c .second < 2 ^ 32
   pub third : fields c .third < 2 ^ 32
+
+-- A call as C can make it, by the types of include/sabre.h: uint64_t for a delay and a deadline, uint32_t for every other number. The length of a list may be any.
+abbrev pub U32 : ℕ → Type 0
+U32 n = n < 4294967296
+
+abbrev pub U64 : ℕ → Type 0
+U64 n = n < 18446744073709551616
+
+abbrev pub OfC : Call → Type 0
+OfC (Start slots delay) = U32 slots × U64 delay
+OfC (Begin level number deadline) = U32 level × U32 number × U64 deadline
+OfC (Request level number page mode) = U32 level × U32 number × U32 page × U32 mode
+OfC (Unpin level number page) = U32 level × U32 number × U32 page
+OfC (End level number) = U32 level × U32 number
+OfC (Tick room) = Unit {0}
+OfC (Look level number) = U32 level × U32 number
+OfC (View level page) = U32 level × U32 page
+OfC (Count level) = U32 level
+OfC (Call.Borders first second third) = U32 first × U32 second × U32 third
+
+-- each row's deadline is an unsigned 64-bit number
+abbrev pub Narrow : State → Type 0
+Narrow s = (row : ℕ) → rowAt s row .deadline < 2 ^ 64

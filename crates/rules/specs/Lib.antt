@@ -1,4 +1,5 @@
 pub mod Sound
+pub mod SoundFacts
 pub mod Calls
 pub mod Tries
 pub mod Listed
@@ -13,6 +14,7 @@ pub mod Choice
 pub mod Waits
 pub mod Slots
 pub mod Secrecy
+pub mod Alike
 pub mod Refusals
 pub mod Answers
 pub mod Marked

@@ -1,12 +1,15 @@
 -- Document 01, "The calls" and "Two runs side by side", and document 02, T-02 and T-04: what a call does to a state, and what a list of calls is answered.
-use mathlib.Core.Bool.{cond}
+use mathlib.Core.Bool.{Bool, false, cond, _||_}
 use mathlib.Core.List.{List, [], _∷_}
 use Rattle.model.specs.declared.Call.{Call}
 use Rattle.model.specs.declared.Call.the-variants.{Start, Begin, Request, Unpin, End, Tick, Look, View, Count, Borders}
+use Rattle.model.specs.declared.Borders as Borders'
 use Rattle.model.specs.declared.State.{State}
 use Rattle.model.specs.declared.Outcome.{Outcome}
 use Rattle.model.specs.declared.Answer.{Answer}
-use Rattle.rules.specs.Answers.{isClock}
+use Rattle.model.specs.Parties.{usualBorders}
+use Rattle.rules.specs.Answers.{isStarted, isBegun, isBordered, isClock}
+use Rattle.rules.specs.Content.{bordersNamed}
 use Rattle.rules.specs.Tries.{Fill, allTried, ticked}
 use Rattle.rules.specs.Calls.{started, begun, requested, unpinned, ended, threeSteps, lookedAt, viewed, counted, bordered}
 
@@ -34,3 +37,10 @@ after s (c ∷ cs) = after (outcome s c .state) cs
 unfoldable pub answers : State → List Call → List Answer
 answers s [] = []
 answers s (c ∷ cs) = let o = outcome s c in o .answer ∷ answers (o .state) cs
+
+-- T-02: the borders after a call, and whether a row has begun, by its answer
+abbrev pub bordersBy : State → Call → Answer → Borders'.Borders
+bordersBy s c a = cond (isStarted a) usualBorders (cond (isBordered a) (bordersNamed c) (s .borders))
+
+abbrev pub begunBy : State → Answer → Bool
+begunBy s a = cond (isStarted a) false (isBegun a || s .begun)

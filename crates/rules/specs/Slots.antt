@@ -1,4 +1,4 @@
--- Document 01, "The calls" and "Choosing a slot", and document 02, T-04: a page that a row holds, a slot that is dirty, a page that is reported for write-back and why, and a slot that was given a new page.
+-- Document 01, "The calls" and "Choosing a slot", and document 02, T-04: a page that a row holds, a slot that is dirty, a page that is reported for write-back and why, a slot that was given a new page, and a row that was left alone.
 use mathlib.Core.Path.{_≡_}
 use mathlib.Core.Bool.{Bool, true, false, _&&_}
 use mathlib.Core.Logic.{_⊎_}
@@ -64,3 +64,9 @@ pub record Refilled (s : State) (c : Call) (t : State) (slot q : ℕ) : Type 0 w
   pub chose : chosen on row ≡ At slot
   pub new-page : hasPage page (slotAt t slot .content) ≡ true
   pub unpinned : pins on slot q ≡ false
+
+-- the row and its holdings are as they were, and the slots that it holds have their pages
+pub record LeftAlone (s t : State) (row : ℕ) : Type 0 where
+  pub row-same : rowAt t row ≡ rowAt s row
+  pub holding-same : (slot : ℕ) → slot < 64 → holdingAt t slot row ≡ holdingAt s slot row
+  pub page-same : (slot : ℕ) → slot < 64 → holds s slot row ≡ true → (page : ℕ) → hasPage page (slotAt t slot .content) ≡ hasPage page (slotAt s slot .content)

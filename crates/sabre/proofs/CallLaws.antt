@@ -55,7 +55,8 @@ use Rattle.model.specs.declared.Call.{Call}
 use Rattle.model.specs.declared.Call.the-variants.{Start, Begin, Request, Unpin, End, Tick, Look, View, Count, Borders}
 use Rattle.rules.specs.Run.{outcome, fillsOf}
 use Rattle.rules.specs.Tries.{listBytes}
-use Rattle.rules.proofs.Facts.SoundFacts.{Sound, facts}
+use Rattle.rules.specs.SoundFacts.{Sound}
+use Rattle.rules.proofs.Facts.SoundFacts.{facts}
 use Rattle.rules.proofs.Promises.Granting.{grant-fetch, grant-ready}
 use Rattle.rules.proofs.Promises.CallCases.{isServed}
 use Rattle.rules.proofs.Promises.WaitFetch.{granted-alone}

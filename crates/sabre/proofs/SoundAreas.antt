@@ -10,15 +10,15 @@ use lib.Dec.{leb, eqb, lit<}
 use lib.ListN.{length, drop, length-append}
 use Rattle.seq.proofs.Tests.{and-true, both-true, or-true-right, not-true-false, same-truth}
 use Rattle.model.specs.declared.State.{State}
-use Rattle.model.proofs.Ranges.{StateOk}
+use Rattle.model.specs.Ranges.{StateOk}
 use Rattle.rules.specs.Sound.{sound}
 use Rattle.area.specs.Layout.{version, encoded, decoded, versionIn, exactAs, exact}
 use Rattle.area.proofs.RoundTrip.{encoded-long, decode-encode, encode-exact, exact-area, exact-ok, exact-version}
 use Rattle.layout32.specs.Layout as Old
 use Rattle.layout32.specs.Sound32.{soundArea32}
-use Rattle.layout32.specs.Inner.Known.{fits, known}
+use Rattle.layout32.specs.Known.{fits, known}
 use Rattle.layout32.proofs.OldAreas.{old-area, area-old}
-use Rattle.sabre.specs.Lent.{soundArea, fitArea}
+use Rattle.sabre.specs.Lent.{soundArea, fitArea, FitArea}
 
 -- what the test says of an area
 pub record SoundArea (a : List ℕ) : Type 0 where
@@ -70,13 +70,6 @@ sound-version a e = exact-version version a (sound-area a e .exactly) (lit< tt)
 
 pub old-version : (a : List ℕ) → soundArea32 a ≡ true → versionIn a ≡ Old.version
 old-version a e = exact-version Old.version a (old-area a e .exactly) (lit< tt)
-
--- what the test says of such an area
-pub record FitArea (a : List ℕ) : Type 0 where
-  pub long : 65536 ≤ length a
-  pub exactly : exactAs (versionIn a) a ≡ true
-  pub is-known : known (versionIn a) (decoded a .clock) (decoded a .rows) ≡ true
-  pub sound-state : sound (decoded a) ≡ true
 
 pub fit-area : (a : List ℕ) → fitArea a ≡ true → FitArea a
 unfolding known

@@ -1,7 +1,8 @@
 -- Demands 1 and 2 over the bytes of a lent area: what each exported call answers, the area that it leaves, and the list that a tick leaves.
-use mathlib.Core.Bool.{Bool, cond, not, _&&_, _||_}
+use mathlib.Core.Path.{_≡_}
+use mathlib.Core.Bool.{Bool, true, cond, not, _&&_, _||_}
 use mathlib.Core.List.{List, [], _∷_, _++_}
-use Prim.Native.Nat.{ℕ}
+use Prim.Native.Nat.{ℕ, _≤_}
 use lib.Dec.{eqb, leb, ltb}
 use lib.ListN.{length, drop}
 use Rattle.model.specs.declared.Answer.{Answer}
@@ -12,8 +13,9 @@ use Rattle.rules.specs.Answers.{word, value, slotTold, backTold, isClock}
 use Rattle.model.specs.declared.Call.{Call}
 use Rattle.rules.specs.Run.{outcome, fillsOf}
 use Rattle.rules.specs.Tries.{listBytes}
-use Rattle.area.specs.Layout.{encoded, decoded, exact}
+use Rattle.area.specs.Layout.{encoded, decoded, versionIn, exactAs, exact}
 use Rattle.layout32.specs.Sound32.{soundArea32}
+use Rattle.layout32.specs.Known.{known}
 
 -- an area is sound if it is long enough, its first 65,536 bytes are exactly those of the state that they name, and that state is sound
 unfoldable pub soundArea : List ℕ → Bool
@@ -22,6 +24,13 @@ soundArea a = leb 65536 (length a) && (exact a && sound (decoded a))
 -- a call other than start takes a sound area, and a sound area of the last 32-bit layout
 unfoldable pub fitArea : List ℕ → Bool
 fitArea a = soundArea a || soundArea32 a
+
+-- what is so of such an area: it is exact with the version that it has, which with its clock and rows is known, and its state is sound
+pub record FitArea (a : List ℕ) : Type 0 where
+  pub long : 65536 ≤ length a
+  pub exactly : exactAs (versionIn a) a ≡ true
+  pub is-known : known (versionIn a) (decoded a .clock) (decoded a .rows) ≡ true
+  pub sound-state : sound (decoded a) ≡ true
 
 -- refusal 1: the area is under 65,536 bytes, or (not for start) sound in neither of the two layouts
 unfoldable pub unfit : List ℕ → Call → Bool

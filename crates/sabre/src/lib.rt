@@ -21,7 +21,7 @@ ghost use Rattle.model.specs.declared.Answer.the-variants.{Refused};
 ghost use Rattle.model.specs.declared.Call.the-variants.{Start, Begin, Request, Unpin, End, Tick, Look, View, Count, Borders};
 ghost use Rattle.model.specs.Inner.Changed.{changed};
 ghost use Rattle.area.specs.Layout.{encoded, decoded, versionIn, exactAs};
-ghost use Rattle.layout32.specs.Inner.Known.{known};
+ghost use Rattle.layout32.specs.Known.{known};
 ghost use Rattle.sabre.specs.Lent.{isRefused, answerOn, areaAfter, listAfter, status, answerNumbers};
 
 fn cause_word(cause: Cause) -> u64

@@ -5,7 +5,7 @@ use Prim.Native.Nat.{ℕ, zero, suc, _+_, _<_, _≤_}
 use native.Mathlib.Numerals.{add-one}
 use native.Mathlib.Omega.{arith}
 use native.Mathlib.Decide.{ℕ-discrete, decLt}
-use Rattle.seq.specs.Below.{anyBelow, allBelow, countBelow}
+use Rattle.seq.specs.Below.{anyBelow, allBelow, countBelow, One}
 use Rattle.seq.proofs.Tests.{true-false, and-true, or-false, or-true-right, and-false-right, both-true}
 
 -- a number below n + 1 is below n, or n
@@ -146,13 +146,6 @@ module _ (p q : ℕ → Bool) where
   unfolding countBelow
   count-same zero f = refl
   count-same (suc n) f = rw (count-same n (λ i h. f i (omega arith)), f n (omega arith))
-
--- exactly one number below n passes
-pub record One (p : ℕ → Bool) (n : ℕ) : Type 0 where
-  pub at : ℕ
-  pub below : at < n
-  pub passes : p at ≡ true
-  pub only : (i : ℕ) → i < n → p i ≡ true → i ≡ at
 
 module _ (p : ℕ → Bool) where
   pub count-none : (n : ℕ) → ((i : ℕ) → i < n → p i ≡ false) → countBelow n p ≡ 0

@@ -1,7 +1,8 @@
 -- Tests, counts and searches over the numbers below n, in rising order.
+use mathlib.Core.Path.{_≡_}
 use mathlib.Core.Bool.{Bool, true, false, cond, _&&_, _||_}
 use mathlib.Core.List.{List, [], _∷_}
-use Prim.Native.Nat.{ℕ, zero, suc, _+_}
+use Prim.Native.Nat.{ℕ, zero, suc, _+_, _<_}
 use Rattle.seq.specs.declared.Found.{Found}
 use Rattle.seq.specs.declared.Found.the-variants.{At, Nowhere}
 
@@ -52,3 +53,10 @@ inserted before n (m ∷ ms) = cond (before n m) (n ∷ (m ∷ ms)) (m ∷ inser
 unfoldable pub sortedBelow : ℕ → (ℕ → Bool) → (ℕ → ℕ → Bool) → List ℕ
 sortedBelow zero p before = []
 sortedBelow (suc n) p before = cond (p n) (inserted before n (sortedBelow n p before)) (sortedBelow n p before)
+
+-- exactly one number below n passes
+pub record One (p : ℕ → Bool) (n : ℕ) : Type 0 where
+  pub at : ℕ
+  pub below : at < n
+  pub passes : p at ≡ true
+  pub only : (i : ℕ) → i < n → p i ≡ true → i ≡ at

@@ -17,7 +17,7 @@ use Rattle.model.specs.declared.State.{State}
 use Rattle.model.specs.State.{emptySlot, holdingAt}
 use Rattle.model.specs.Changes.{written, dirtied, released}
 use Rattle.model.specs.Inner.Changed.{marked, lostBy}
-use Rattle.model.proofs.StateLaws.{Sized}
+use Rattle.model.specs.Ranges.{Sized}
 
 twice : (x : Slot) → dirtied (dirtied x) ≡ dirtied x
 unfolding dirtied

@@ -10,7 +10,7 @@ use Rattle.model.specs.declared.Cause.{Cause}
 use Rattle.model.specs.declared.State.{State}
 use Rattle.model.specs.State.{freeRow, emptySlot, emptyHolding, holdingAt}
 use Rattle.model.specs.Changes.{written, dirtied, released, killed, killedRow}
-use Rattle.model.proofs.StateLaws.{Sized}
+use Rattle.model.specs.Ranges.{Sized}
 
 pub kill-none : (some : ℕ → Bool) (cause : Cause) (s : State) → Sized s → ((row : ℕ) → row < 32 → some row ≡ false) → killed some cause s ≡ s
 unfolding killed released

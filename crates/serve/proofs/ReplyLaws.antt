@@ -22,7 +22,7 @@ use Rattle.model.specs.declared.State.{State}
 use Rattle.model.specs.State.{emptyHolding}
 use Rattle.model.specs.Changes.{released, killed, cleared}
 use Rattle.model.specs.Inner.Changed.{marked, holdingAfter, bordersAfter, begunAfter, placesAfter, changed, outcomeOf}
-use Rattle.model.proofs.StateLaws.{Sized}
+use Rattle.model.specs.Ranges.{Sized}
 use Rattle.model.proofs.ChangedLaws.{holdings-are, held-at, held-set, changed-none}
 use Rattle.rules.specs.Calls.{waiting, granted, filled}
 use Rattle.serve.specs.Inner.Granted.{heldNow, touchedSlot, grantedRow, grantedAnswer}

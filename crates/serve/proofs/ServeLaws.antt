@@ -21,7 +21,7 @@ use Rattle.model.specs.State.{emptySlot, slotAt}
 use Rattle.model.specs.Words.{dormant, pageSlot, slotOf}
 use Rattle.model.specs.Changes.{released, killed}
 use Rattle.model.specs.Inner.Changed.{marked, outcomeOf}
-use Rattle.model.proofs.StateLaws.{Sized}
+use Rattle.model.specs.Ranges.{Sized}
 use Rattle.rules.specs.Choice.{orElse, stepA, stepB, beforeDormant, inC, inD, inE, inF, beforeHeld, stepHeld, chosen}
 use Rattle.rules.specs.Calls.{waiting, granted, filled, writeBack, intoSlot, served}
 use Rattle.rules.proofs.Leaves.PageLaws.{found-slot}

@@ -25,7 +25,7 @@ use Rattle.model.specs.Words.{isFilled, isHeld, holds, pins, seenHolder, seen, 
 use Rattle.model.specs.Changes.{killed}
 use Rattle.model.specs.Inner.Changed.{marked}
 use Rattle.model.proofs.PriorityLaws.{level-outranks}
-use Rattle.model.proofs.StateLaws.{Sized}
+use Rattle.model.specs.Ranges.{Sized}
 use Rattle.model.proofs.SameRows.{killed-same}
 use Rattle.rules.specs.Calls.{conflicts, mustWait, pinnersKilled}
 use Rattle.choice.specs.Inner.Summary.{noRank, ranksOf}

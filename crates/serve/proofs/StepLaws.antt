@@ -19,7 +19,7 @@ use Rattle.model.specs.State.{slotAt}
 use Rattle.model.specs.Words.{arrivalIn, seen, seesDormant}
 use Rattle.model.specs.Changes.{killed}
 use Rattle.model.specs.Inner.Changed.{marked}
-use Rattle.model.proofs.StateLaws.{Sized}
+use Rattle.model.specs.Ranges.{Sized}
 use Rattle.rules.specs.Calls.{waiting, granted, step1, step2, step3, servedAt}
 use Rattle.choice.specs.Inner.Summary.{ranksOf}
 use Rattle.serve.specs.declared.Kills.the-variants.{Conflicting}

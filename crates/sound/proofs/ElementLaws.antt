@@ -21,7 +21,7 @@ use Rattle.model.specs.Parties.{rowOf, levelOf, classOf, lastClock, isPast}
 use Rattle.model.specs.State.{freeRow, emptyHolding, rowAt, slotAt, holdingAt}
 use Rattle.model.specs.Words.{isFree, isLive, isFilled, pageIn, holds, pins}
 use Rattle.model.specs.Changes.{rowsNotFree}
-use Rattle.model.proofs.StateLaws.{Sized}
+use Rattle.model.specs.Ranges.{Sized}
 use Rattle.rules.specs.Sound.{soundNumbers, arrived, awaits, soundContent, soundSlot, soundCondition, soundRow, soundHolding, soundPins, soundPages, soundBorders, soundPlace, samePlace, soundOrder, sound}
 use Rattle.sound.specs.Inner.Tests.{inRange, contentTest, slotTest, placeTaken, dueIn, arrivedTest, awaitsTest, fetchingTest, waitingTest, conditionTest, rowTest, fitTest, heldTest, holdingTest, bordersTest, placeTest, placedAt, aloneAt, orderTest}
 use Rattle.sound.proofs.PageLaws.{pages-apart}

@@ -7,9 +7,9 @@ use native.Mathlib.Omega.{arith}
 use native.Mathlib.Decide.{ℕ-discrete, decLt}
 use lib.Dec.{leb}
 use borrow.Author.Tests.{leb-true, le-leb, not-true}
-use Rattle.seq.specs.Below.{anyBelow, allBelow, countBelow}
+use Rattle.seq.specs.Below.{anyBelow, allBelow, countBelow, One}
 use Rattle.seq.proofs.Tests.{true-false, same-truth, and-false-right}
-use Rattle.seq.proofs.BelowLaws.{One, any-none, any-hit, count-at-most, count-none, none-count, count-one, one-count, pairs-each, each-pairs}
+use Rattle.seq.proofs.BelowLaws.{any-none, any-hit, count-at-most, count-none, none-count, count-one, one-count, pairs-each, each-pairs}
 use Rattle.model.specs.declared.Pin.{Pin}
 use Rattle.model.specs.declared.Pin.the-variants.{Absent, Unpinned, Read, Write}
 use Rattle.model.specs.declared.State.{State}

@@ -14,9 +14,9 @@ use Rattle.words.proofs.WroteLaws.{wrote-none}
 use Rattle.record.specs.declared.Progress.{Progress}
 use Rattle.record.specs.Record.{recordWidth}
 use Rattle.record.specs.Text.{mostText}
-use Rattle.record.specs.Play.{Played, unplayed, playedOne, andThen, played, firstRecords, recordsOf, firstProgress}
+use Rattle.record.specs.Play.{Played, unplayed, playedOne, andThen, played, firstRecords, recordsOf, firstProgress, AllFull, inputOf}
 use Rattle.record.proofs.PlayLaws.{Came, one-small, cut-over}
-use Rattle.record.proofs.RunLaws.{AllFull, full-more, inputOf, records-input, played-append, played-alone, last-record}
+use Rattle.record.proofs.RunLaws.{full-more, records-input, played-append, played-alone, last-record}
 use Rattle.stream.specs.Left.{firstFrom, LeftBySome}
 
 pub first-from : (t : Progress) (started : Bool) → t ≡ firstProgress → record { started = started; over = t .over; number = t .number } ≡ firstFrom started

@@ -7,7 +7,7 @@ ghost use mathlib.Core.Bool.{cond, _||_};
 ghost use lib.Dec.{eqb, ltb};
 ghost use Prim.Native.Nat.{_+_, _-_, _^_, _<_, _≤_};
 ghost use lib.ListN.{length, take};
-ghost use Rattle.words.specs.Inner.Written.{Wrote};
+ghost use Rattle.words.specs.Bytes.{Wrote};
 ghost use Rattle.record.specs.Record.{longWidth, recordWidth};
 ghost use Rattle.record.specs.Text.{mostText};
 ghost use Rattle.record.specs.Play.{played, recordsOf};

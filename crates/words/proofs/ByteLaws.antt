@@ -8,13 +8,9 @@ use lib.Dec.{lit<}
 use lib.ListN.{length, getD, take, drop, replicate, length-append, length-take, length-drop}
 use lib.Seq.{drop-append-add, drop-append-le, take-append-le, take-at, getD-drop}
 use Rattle.seq.proofs.EachLaws.{replicate-at}
-use Rattle.words.specs.Bytes.{valueOf, bytesOf, part, wordAt, wordBytes}
+use Rattle.words.specs.Bytes.{valueOf, bytesOf, part, AllUnder, wordAt, wordBytes}
 
 -- ---- bounds
-
--- each element is below m; so is 0, which stands for every place past the end
-abbrev pub AllUnder : ℕ → List ℕ → Type 0
-AllUnder m l = (i : ℕ) → getD l i 0 < m
 
 -- the same element by element, for a list that is written out
 abbrev pub EachUnder : ℕ → List ℕ → Type 0

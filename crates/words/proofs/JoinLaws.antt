@@ -7,8 +7,8 @@ use native.Mathlib.Omega.{arith}
 use native.Mathlib.Decide.{ℕ-discrete}
 use lib.ListN.{length, getD, take, drop, length-append, length-drop, take-append-drop}
 use lib.Seq.{take-add, drop-drop, length-take-le, take-append-le, drop-append-le, take-at, drop-at}
-use Rattle.words.specs.Bytes.{part, joined, wordAt, wordBytes}
-use Rattle.words.proofs.ByteLaws.{AllUnder, under-append, length-words, word-in}
+use Rattle.words.specs.Bytes.{part, joined, wordAt, wordBytes, AllUnder}
+use Rattle.words.proofs.ByteLaws.{under-append, length-words, word-in}
 
 -- ---- parts
 

@@ -12,8 +12,8 @@ use lib.Seq.{length-take-le}
 use Rattle.seq.specs.Below.{allBelow}
 use Rattle.seq.proofs.Tests.{true-false, and-true, both-true, same-truth}
 use Rattle.seq.proofs.BelowLaws.{all-each, each-all, all-same}
-use Rattle.words.specs.Bytes.{bytesOf, valueOf, part, joined, wordAt, wordBytes, zeroWords, hasWords, same}
-use Rattle.words.proofs.ByteLaws.{AllUnder, under-part, under-zeros, bytes-value, length-words, word-in}
+use Rattle.words.specs.Bytes.{bytesOf, valueOf, part, joined, wordAt, wordBytes, zeroWords, hasWords, same, AllUnder}
+use Rattle.words.proofs.ByteLaws.{under-part, under-zeros, bytes-value, length-words, word-in}
 use Rattle.words.proofs.JoinLaws.{length-part, part-add, around-part, length-joined}
 
 pub same-true : (x y : List ℕ) → same x y ≡ true → x ≡ y

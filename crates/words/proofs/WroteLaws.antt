@@ -6,8 +6,7 @@ use native.Mathlib.Nat.{add-zero}
 use native.Mathlib.Omega.{arith}
 use lib.ListN.{length, set, length-append}
 use lib.Seq.{sets-eq}
-use Rattle.words.specs.Bytes.{spliced}
-use Rattle.words.specs.Inner.Written.{Wrote}
+use Rattle.words.specs.Bytes.{spliced, Wrote}
 use Rattle.words.proofs.SpliceLaws.{spliced-none, spliced-more}
 
 pub set-spliced : (a : List ℕ) (at b : ℕ) → at < length a → set a at b ≡ spliced a at (b ∷ [])

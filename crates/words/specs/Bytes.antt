@@ -1,7 +1,8 @@
--- Numbers as bytes, the least byte first; words of eight bytes; parts of a list read and written over.
+-- Numbers as bytes, the least byte first; words of eight bytes; parts of a list read and written over; lists of bytes.
+use mathlib.Core.Path.{_≡_}
 use mathlib.Core.Bool.{Bool, true, false, _&&_}
 use mathlib.Core.List.{List, [], _∷_, _++_}
-use Prim.Native.Nat.{ℕ, zero, suc, _+_, _*_, _/_, _%_}
+use Prim.Native.Nat.{ℕ, zero, suc, _+_, _*_, _/_, _%_, _<_}
 use lib.Dec.{eqb}
 use lib.ListN.{length, getD, take, drop, replicate}
 use Rattle.seq.specs.Below.{allBelow}
@@ -29,6 +30,15 @@ module _ {A : Type 0} where
   unfoldable pub joined : ℕ → (ℕ → List A) → List A
   joined zero f = []
   joined (suc n) f = joined n f ++ f n
+
+-- a list was written over a at a place: b is what a became, and n the place past the list
+pub record Wrote (a : List ℕ) (at : ℕ) (xs b : List ℕ) (n : ℕ) : Type 0 where
+  pub ends : n ≡ at + length xs
+  pub holds : b ≡ spliced a at xs
+
+-- each element is below m; so is 0, which stands for every place past the end
+abbrev pub AllUnder : ℕ → List ℕ → Type 0
+AllUnder m l = (i : ℕ) → getD l i 0 < m
 
 -- the word at a place
 unfoldable pub wordAt : List ℕ → ℕ → ℕ

@@ -5,8 +5,7 @@ ghost use lib.Dec.{ltb};
 ghost use Prim.Native.Nat.{_+_, _*_, _<_, _≤_};
 ghost use mathlib.Core.List.{[], _∷_};
 ghost use lib.ListN.{length, replicate};
-ghost use Rattle.words.specs.Bytes.{bytesOf, wordAt, hasWords, wordBytes, spliced, zeroWords};
-ghost use Rattle.words.specs.Inner.Written.{Wrote};
+ghost use Rattle.words.specs.Bytes.{bytesOf, wordAt, hasWords, wordBytes, spliced, zeroWords, Wrote};
 
 // A byte as a word, with its bound.
 fn wide(x: u8) -> u64

@@ -7,8 +7,8 @@ use lib.Dec.{eqb}
 use Rattle.seq.specs.Below.{allBelow}
 use Rattle.seq.specs.Each.{each, eachBelow}
 use Rattle.seq.proofs.EachLaws.{each-below-none}
-use Rattle.words.specs.Bytes.{hasWords}
-use Rattle.words.proofs.ByteLaws.{AllUnder, word-under}
+use Rattle.words.specs.Bytes.{hasWords, AllUnder}
+use Rattle.words.proofs.ByteLaws.{word-under}
 use Rattle.model.specs.State.{emptyHolding, emptyHoldings}
 use Rattle.area.specs.Layout.{versionIn, decoded, holdingFrom, holdingWords}
 use Rattle.area.specs.Inner.Exact.{exactHoldings}

@@ -14,7 +14,7 @@ unfolding requestRefusal
 number c =
     let d = c .before .before .before in
     let k = d .before .before in
-    rw (c .row-refusal .ensures .0, c .before .first2 .ensures, c .before .before .first .ensures, d .busy-refusal .ensures, d .before .access-refusal .ensures, k .may-access .ensures, k .before .class-of .ensures .0, k .before .before .mode-of .ensures, k .before .before .before .condition-at .ensures, k .before .before .before .before .row-of .ensures)
+    rw (c .row-refusal .ensures .0, c .before .first2 .ensures, c .before .before .first .ensures, d .busy-refusal .ensures, d .before .access-refusal .ensures, k .may-access .ensures .0, k .before .class-of .ensures .0, k .before .before .mode-of .ensures, k .before .before .before .condition-at .ensures, k .before .before .before .before .row-of .ensures)
 
 returns : tie.Need-returns
 unfolding requested

@@ -1,5 +1,5 @@
 use Rattle.seq.proofs.Tests.{tests}
-use Rattle.layout32.specs.Inner.Known.{known}
+use Rattle.layout32.specs.Known.{known}
 use borrow.Author.Needs.{needs}
 use Rattle.layout32.proofs.is_known.Statement.{statement}
 use Rattle.layout32.proofs.is_known.Tie as tie

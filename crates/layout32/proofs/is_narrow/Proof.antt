@@ -7,7 +7,7 @@ use borrow.Author.Needs.{needs}
 use Rattle.seq.specs.Below.{allBelow}
 use Rattle.seq.proofs.BelowLaws.{all-turn}
 use Rattle.model.specs.State.{freeRow}
-use Rattle.layout32.specs.Inner.Known.{fits}
+use Rattle.layout32.specs.Known.{fits}
 use Rattle.layout32.proofs.is_narrow.Statement.{statement}
 use Rattle.layout32.proofs.is_narrow.Tie as tie
 

@@ -1,8 +1,6 @@
-use mathlib.Core.Path.{refl}
 use native.Mathlib.Omega.{arith}
-use Rattle.seq.specs.Below.{allBelow}
-use Rattle.model.specs.Parties.{allowed}
-use Rattle.model.proofs.AccessLaws.{right, entry-is, mode-number-small, table-same}
+use Rattle.model.specs.Parties.{accessTable, tableEntry}
+use Rattle.model.proofs.AccessLaws.{mode-number-small, table-same}
 use borrow.Author.Needs.{needs}
 use Rattle.model.proofs.table_verdict.Statement.{statement}
 use Rattle.model.proofs.table_verdict.Tie as tie
@@ -13,12 +11,13 @@ add-at-2 c = omega (arith, mode-number-small (c .before .args .mode), c .mode-nu
 array-read-result : tie.Need-array-read-result
 array-read-result c = omega (arith, mode-number-small (c .before .args .mode), c .mode-number .ensures)
 
--- refl: all entries are right, one test computed over the table
+-- the array of the code is the table
 returns : tie.Need-returns
-unfolding allBelow right allowed
+unfolding accessTable tableEntry
 returns c =
     let a = c .before .args in
-    rw (c .mode-number .ensures, entry-is) (table-same _ refl (a .level) (a .class) (a .mode) (c .before .pre .0) (c .before .pre .1))
+    let e = table-same (a .level) (a .class) (a .mode) (c .before .pre .0) (c .before .pre .1) in
+    (rw (c .mode-number .ensures) e, rw (c .mode-number .ensures))
 
 pub table-verdict-spec : {M : Type 1} → statement M
 table-verdict-spec =

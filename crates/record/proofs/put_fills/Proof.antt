@@ -2,7 +2,7 @@ use mathlib.Core.Path.{_≡_, refl, _∙_}
 use Prim.Native.Nat.{_-_, _≤_}
 use native.Mathlib.Omega.{arith}
 use lib.ListN.{length}
-use Rattle.words.specs.Inner.Written.{Wrote}
+use Rattle.words.specs.Bytes.{Wrote}
 use Rattle.record.proofs.TextLaws.{firstFills, first-most, fills-none, fills-more, fills-end}
 use Rattle.record.proofs.put_fills.Statement.{statement}
 use Rattle.record.proofs.put_fills.Tie as tie

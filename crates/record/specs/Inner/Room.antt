@@ -1,4 +1,4 @@
--- For the code: how many bytes of the list the call of a record is lent.
+-- For the code; the room that `fields` has of the call, and 0 for a bad record: how many bytes of the list the call of a record is lent.
 use Prim.Native.Nat.{ℕ}
 use Rattle.rules.specs.Content.{fields}
 use Rattle.record.specs.declared.Input.{Input}

@@ -17,7 +17,8 @@ use Rattle.model.specs.Parties.{levelOf}
 use Rattle.model.specs.Words.{holds, seen}
 use Rattle.model.proofs.SeenLaws.{not-seen, none-seen, seen-lower, dormant-unheld}
 use Rattle.rules.specs.Choice.{stepA, stepB, holderLevel, heldAbove, highestLevel, inC, inD, stepHeld, chosen}
-use Rattle.rules.proofs.Facts.SoundFacts.{Sound, empty-unheld}
+use Rattle.rules.specs.SoundFacts.{Sound}
+use Rattle.rules.proofs.Facts.SoundFacts.{empty-unheld}
 use Rattle.rules.proofs.Choosing.ChoiceSteps.{Finds, finds, or-finds, neither, step-a, no-step-a, step-b, no-step-b, step-held, c-or-d}
 use Rattle.rules.proofs.Choosing.ChoiceRank.{best-held, best-some, best-level, holder-level}
 

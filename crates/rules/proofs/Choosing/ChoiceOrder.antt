@@ -17,7 +17,8 @@ use Rattle.model.specs.declared.State.{State}
 use Rattle.model.specs.Words.{holds, outranks, bestHolder}
 use Rattle.model.proofs.PriorityLaws.{outranks-strict, outranks-trans}
 use Rattle.rules.specs.Choice.{worse, touchOf, tieOf, beforeHeld}
-use Rattle.rules.proofs.Facts.SoundFacts.{Sound, held-taken, ranks-apart}
+use Rattle.rules.specs.SoundFacts.{Sound}
+use Rattle.rules.proofs.Facts.SoundFacts.{held-taken, ranks-apart}
 use Rattle.rules.proofs.Choosing.ChoiceRank.{best-held, best-some}
 
 module _ (s : State) where

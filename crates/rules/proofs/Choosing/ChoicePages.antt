@@ -19,8 +19,8 @@ use Rattle.model.specs.Words.{isHeld, isPin, holds, pins, seenHolder, seen, out
 use Rattle.model.proofs.PriorityLaws.{outranks-level}
 use Rattle.model.proofs.SeenLaws.{seen-by, seen-held}
 use Rattle.rules.specs.Choice.{holderLevel, heldAbove, pinnedAt, heldAtOwnLevel, seenPin, worse, touchOf, tieOf, beforeHeld}
-use Rattle.rules.proofs.Facts.SoundFacts.{Sound}
-use Rattle.rules.proofs.Same.Alike.{Alike}
+use Rattle.rules.specs.SoundFacts.{Sound}
+use Rattle.rules.specs.Alike.{Alike}
 use Rattle.rules.proofs.Same.SamePages.{same-rank, same-holder, same-seen}
 use Rattle.rules.proofs.Same.SameSlots.{SamePage}
 use Rattle.rules.proofs.Choosing.ChoiceRank.{Best, best-is, is-best, best-some, best-level, holder-level}

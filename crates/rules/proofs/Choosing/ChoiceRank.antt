@@ -12,7 +12,8 @@ use Rattle.model.specs.Parties.{levelOf}
 use Rattle.model.specs.Words.{holds, outranks, bestHolder}
 use Rattle.model.proofs.PriorityLaws.{outranks-strict, outranks-trans, outranks-level}
 use Rattle.rules.specs.Choice.{holderLevel}
-use Rattle.rules.proofs.Facts.SoundFacts.{Sound, held-taken, ranks-apart}
+use Rattle.rules.specs.SoundFacts.{Sound}
+use Rattle.rules.proofs.Facts.SoundFacts.{held-taken, ranks-apart}
 
 -- the row holds the slot and outranks its other holders
 pub record Best (s : State) (i b : ℕ) : Type 0 where

@@ -15,8 +15,8 @@ use Rattle.model.specs.State.{slotAt}
 use Rattle.model.specs.Words.{isFilled, holds, seen, dormant}
 use Rattle.model.proofs.SeenLaws.{seen-by, seen-held}
 use Rattle.rules.specs.Choice.{orElse, stepA, stepB, beforeDormant, holderLevel, heldAbove, highestLevel, pinnedAt, inC, inD, heldAtOwnLevel, inE, inF, beforeHeld, stepHeld, chosen}
-use Rattle.rules.proofs.Facts.SoundFacts.{Sound}
-use Rattle.rules.proofs.Same.Alike.{Alike}
+use Rattle.rules.specs.SoundFacts.{Sound}
+use Rattle.rules.specs.Alike.{Alike}
 use Rattle.rules.proofs.Same.AlikeLaws.{alike-sym}
 use Rattle.rules.proofs.Same.SameSlots.{SamePage, same-page-back, same-page-slot}
 use Rattle.rules.proofs.Choosing.ChoiceOrder.{held-order}

@@ -16,8 +16,8 @@ use Rattle.model.specs.Words.{hasPage, isHeld, pins, slotOf}
 use Rattle.model.specs.Changes.{killed, killedRow}
 use Rattle.model.proofs.ChangeLaws.{killed-row, killed-size, killed-delay, killed-clock, killed-places}
 use Rattle.rules.specs.Calls.{pinnersKilled, writeBack, filled, intoSlot}
-use Rattle.rules.proofs.Facts.SoundFacts.{Sound}
-use Rattle.rules.proofs.Same.Alike.{holdingOn}
+use Rattle.rules.specs.SoundFacts.{Sound}
+use Rattle.rules.specs.Alike.{holdingOn}
 use Rattle.rules.proofs.Leaves.PageLaws.{killed-slot-of, killed-page, killed-on}
 use Rattle.rules.proofs.Leaves.FillLaws.{sized-filled, filled-size, filled-delay, filled-clock, filled-places, filled-row, filled-empty, filled-new, filled-on, Freed, freed}
 use Rattle.rules.proofs.Choosing.IntoGain.{Gains, gains-as}

@@ -17,7 +17,7 @@ use Rattle.model.specs.Parties.{levelOf}
 use Rattle.model.specs.State.{rowAt}
 use Rattle.model.specs.Words.{pinOf}
 use Rattle.rules.specs.Answers.{told}
-use Rattle.rules.proofs.Same.Alike.{holdingOn, Alike, Same}
+use Rattle.rules.specs.Alike.{holdingOn, Alike, Same}
 
 -- the tick when a page not seen arrives
 abbrev pub dueTick : State → ℕ

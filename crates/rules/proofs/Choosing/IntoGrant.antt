@@ -18,13 +18,13 @@ use Rattle.model.specs.Parties.{levelOf}
 use Rattle.model.specs.State.{emptyHolding, rowAt, holdingAt}
 use Rattle.model.specs.Words.{isHeld, pinOf, holds, seen, slotOf}
 use Rattle.model.specs.Changes.{killed, killedRow}
-use Rattle.model.proofs.StateLaws.{Sized}
+use Rattle.model.specs.Ranges.{Sized}
 use Rattle.model.proofs.ChangeLaws.{killed-row, killed-holding, sized-killed, killed-clock, killed-delay, killed-size, killed-places}
 use Rattle.model.proofs.SeenLaws.{not-seen}
 use Rattle.rules.specs.Answers.{told, word, value}
 use Rattle.rules.specs.Calls.{heldWith, granted, conflicts, step3}
-use Rattle.rules.proofs.Facts.SoundFacts.{Sound}
-use Rattle.rules.proofs.Same.Alike.{holdingOn}
+use Rattle.rules.specs.SoundFacts.{Sound}
+use Rattle.rules.specs.Alike.{holdingOn}
 use Rattle.rules.proofs.Leaves.PageLaws.{found-slot, killed-slot-of, killed-on}
 use Rattle.rules.proofs.Leaves.GrantLaws.{grantedHolding, granted-row, granted-on, granted-size, granted-delay, granted-clock, unheld-spared}
 use Rattle.rules.proofs.Choosing.IntoGain.{dueTick, newHolding, Gains, gains-as}

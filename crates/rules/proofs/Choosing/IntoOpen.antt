@@ -17,8 +17,8 @@ use Rattle.model.proofs.PinLaws.{not-pinned}
 use Rattle.model.proofs.SeenLaws.{none-seen, not-seen, seen-lower}
 use Rattle.rules.specs.Choice.{chosen}
 use Rattle.rules.specs.Calls.{intoSlot, unseenAt, servedAt, served}
-use Rattle.rules.proofs.Facts.SoundFacts.{Sound}
-use Rattle.rules.proofs.Same.Alike.{holdingOn}
+use Rattle.rules.specs.SoundFacts.{Sound}
+use Rattle.rules.specs.Alike.{holdingOn}
 use Rattle.rules.proofs.Leaves.PageLaws.{finds, on-slot}
 use Rattle.rules.proofs.Same.SamePages.{no-hit}
 use Rattle.rules.proofs.Choosing.ChoiceOpen.{chosen-open}

@@ -23,8 +23,8 @@ use Rattle.model.proofs.ContentLaws.{has-same}
 use Rattle.model.proofs.SeenLaws.{open-seen}
 use Rattle.rules.specs.Choice.{chosen}
 use Rattle.rules.specs.Calls.{intoSlot, served}
-use Rattle.rules.proofs.Facts.SoundFacts.{Sound}
-use Rattle.rules.proofs.Same.Alike.{holdingOn, Alike, Same}
+use Rattle.rules.specs.SoundFacts.{Sound}
+use Rattle.rules.specs.Alike.{holdingOn, Alike, Same}
 use Rattle.rules.proofs.Same.AlikeLaws.{alike-sym}
 use Rattle.rules.proofs.Leaves.PageLaws.{found-slot}
 use Rattle.rules.proofs.Same.SameSlots.{SamePage, same-open}

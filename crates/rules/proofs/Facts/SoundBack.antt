@@ -20,7 +20,7 @@ use Rattle.model.specs.Words.{isFree, isFilled, pageIn, arrivalIn, lowestIn, ha
 use Rattle.model.specs.Changes.{rowsNotFree}
 use Rattle.model.proofs.ContentLaws.{page-has}
 use Rattle.rules.specs.Sound.{soundNumbers, arrived, awaits, soundContent, soundSlot, samePage, soundPages, inTime, soundCondition, soundRow, soundHolding, soundPins, soundBorders, soundPlace, samePlace, soundOrder, sound}
-use Rattle.rules.proofs.Facts.SoundFacts.{SlotSound, Settled, RowSound, BordersSound, OrderSound, Sound}
+use Rattle.rules.specs.SoundFacts.{SlotSound, Settled, RowSound, BordersSound, OrderSound, Sound}
 
 slot-back : (s : State) (i : ℕ) → SlotSound s i → soundSlot s i ≡ true
 unfolding soundSlot

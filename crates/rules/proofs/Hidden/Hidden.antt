@@ -25,12 +25,13 @@ use Rattle.rules.specs.Answers.{word, isStarted}
 use Rattle.rules.specs.Run.{outcome}
 use Rattle.rules.specs.Secrecy.{isKept}
 use Rattle.rules.specs.Sound.{sound}
-use Rattle.rules.proofs.Facts.SoundFacts.{Sound, facts}
+use Rattle.rules.specs.SoundFacts.{Sound}
+use Rattle.rules.proofs.Facts.SoundFacts.{facts}
 use Rattle.rules.proofs.Leaves.ContentLaws.{asks-above}
 use Rattle.rules.proofs.Leaves.PageLaws.{found-below}
 use Rattle.rules.proofs.Leaves.RefusalFacts.{Named}
 use Rattle.rules.proofs.Leaves.CallEffects.{Effect, unchanged, starts, begins, unpins, ends, ticks, sets, serves, effect}
-use Rattle.rules.proofs.Same.Alike.{holdingOn, Alike}
+use Rattle.rules.specs.Alike.{holdingOn, Alike}
 use Rattle.rules.proofs.Same.AlikeLaws.{alike-refl, alike-trans}
 use Rattle.rules.proofs.Hidden.HiddenChanges.{row-hidden, released-hidden, unpinned-hidden}
 use Rattle.rules.proofs.Hidden.HiddenServed.{served-hidden}

@@ -15,10 +15,11 @@ use Rattle.model.specs.Parties.{levelOf}
 use Rattle.model.specs.State.{emptyHolding, rowAt, holdingAt, putRow}
 use Rattle.model.specs.Words.{slotOf}
 use Rattle.model.specs.Changes.{released, killed, killedRow}
-use Rattle.model.proofs.StateLaws.{Sized, row-put}
+use Rattle.model.specs.Ranges.{Sized}
+use Rattle.model.proofs.StateLaws.{row-put}
 use Rattle.model.proofs.ChangeLaws.{killed-row, killed-holding, killed-clock, killed-delay, killed-size, released-holding}
 use Rattle.rules.specs.Calls.{granted, unpinnedAt}
-use Rattle.rules.proofs.Same.Alike.{Alike}
+use Rattle.rules.specs.Alike.{Alike}
 use Rattle.rules.proofs.Same.AlikeLaws.{alike-still}
 use Rattle.rules.proofs.Leaves.PageLaws.{killed-slot-of, released-slot-of}
 use Rattle.rules.proofs.Leaves.GrantLaws.{grantedHolding, grantedRow, granted-row, granted-holding, granted-size, granted-delay, granted-clock, granted-slot-of}

@@ -14,7 +14,8 @@ use Rattle.model.specs.State.{slotAt}
 use Rattle.model.specs.Words.{isFilled, holds, seenHolder, seen, outranks}
 use Rattle.model.proofs.SeenLaws.{not-seen, dormant-unheld}
 use Rattle.rules.specs.Choice.{heldAbove, heldAtOwnLevel, inE, inF, chosen}
-use Rattle.rules.proofs.Facts.SoundFacts.{Sound, empty-unheld}
+use Rattle.rules.specs.SoundFacts.{Sound}
+use Rattle.rules.proofs.Facts.SoundFacts.{empty-unheld}
 use Rattle.rules.proofs.Choosing.ChoiceSteps.{chosen-is}
 
 -- no row of the level or a lower one holds the slot

@@ -8,9 +8,9 @@ use Rattle.model.specs.Parties.{levelOf}
 use Rattle.model.specs.State.{emptyHolding, slotAt, holdingAt}
 use Rattle.model.specs.Words.{hasPage, slotOf}
 use Rattle.model.specs.Changes.{cleared}
-use Rattle.model.proofs.StateLaws.{Sized}
+use Rattle.model.specs.Ranges.{Sized}
 use Rattle.rules.specs.Calls.{filled}
-use Rattle.rules.proofs.Same.Alike.{holdingOn, Alike}
+use Rattle.rules.specs.Alike.{holdingOn, Alike}
 use Rattle.rules.proofs.Leaves.PageLaws.{OneSlot, on-at}
 use Rattle.rules.proofs.Leaves.FillLaws.{filled-on}
 

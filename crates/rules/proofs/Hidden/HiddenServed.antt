@@ -25,8 +25,8 @@ use Rattle.model.proofs.PriorityLaws.{outranks-level}
 use Rattle.model.proofs.SeenLaws.{not-seen}
 use Rattle.rules.specs.Choice.{chosen}
 use Rattle.rules.specs.Calls.{waiting, granted, conflicts, mustWait, pinnersKilled, writeBack, step2, step3, filled, served}
-use Rattle.rules.proofs.Facts.SoundFacts.{Sound}
-use Rattle.rules.proofs.Same.Alike.{Alike}
+use Rattle.rules.specs.SoundFacts.{Sound}
+use Rattle.rules.specs.Alike.{Alike}
 use Rattle.rules.proofs.Same.AlikeLaws.{alike-trans}
 use Rattle.rules.proofs.Leaves.PageLaws.{found-slot, killed-slot-of}
 use Rattle.rules.proofs.Leaves.GrantLaws.{unheld-spared}

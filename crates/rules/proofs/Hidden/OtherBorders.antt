@@ -25,7 +25,7 @@ use Rattle.rules.specs.Refusals.{conditionAt, pinsPage, beginRefusal, re
 use Rattle.rules.specs.Run.{outcome}
 use Rattle.rules.specs.Secrecy.{isKept}
 use Rattle.rules.specs.Tries.{allTried, ticked}
-use Rattle.rules.proofs.Facts.SoundFacts.{Sound, BordersSound}
+use Rattle.rules.specs.SoundFacts.{Sound, BordersSound}
 use Rattle.rules.proofs.Leaves.RefusalFacts.{request-taken, unpin-taken}
 use Rattle.rules.proofs.Leaves.TryLaws.{none-tried}
 use Rattle.rules.proofs.Stays.StaysBorders.{ticked-borders}

@@ -17,11 +17,12 @@ use Rattle.model.specs.declared.State.{State}
 use Rattle.model.specs.State.{emptyHolding, rowAt, slotAt, holdingAt}
 use Rattle.model.specs.Words.{hasPage, pins, slotOf}
 use Rattle.model.specs.Changes.{killed, cleared}
-use Rattle.model.proofs.StateLaws.{Sized, slot-put, sized-put-slot}
+use Rattle.model.specs.Ranges.{Sized}
+use Rattle.model.proofs.StateLaws.{slot-put, sized-put-slot}
 use Rattle.model.proofs.ChangeLaws.{cleared-holding, sized-cleared, sized-killed, killed-size}
 use Rattle.rules.specs.Calls.{filled}
-use Rattle.rules.proofs.Facts.SoundFacts.{Sound}
-use Rattle.rules.proofs.Same.Alike.{holdingOn}
+use Rattle.rules.specs.SoundFacts.{Sound}
+use Rattle.rules.specs.Alike.{holdingOn}
 use Rattle.rules.proofs.Leaves.PageLaws.{found-has, not-found, finds-only, OneSlot, on-slot, on-nowhere, on-at, one-has, killed-one}
 
 abbrev pub filledSlot : State → ℕ → ℕ → Slot

@@ -18,10 +18,11 @@ use Rattle.model.specs.declared.State.{State}
 use Rattle.model.specs.Parties.{levelOf}
 use Rattle.model.specs.State.{rowAt, slotAt, holdingAt}
 use Rattle.model.specs.Words.{hasPage, dirtyIn, isHeld, pinOf, conflict, holds, slotOf}
-use Rattle.model.proofs.StateLaws.{Sized, row-put, slot-put, holding-put, sized-put-row, sized-put-slot, sized-put-holding}
+use Rattle.model.specs.Ranges.{Sized}
+use Rattle.model.proofs.StateLaws.{row-put, slot-put, holding-put, sized-put-row, sized-put-slot, sized-put-holding}
 use Rattle.model.proofs.PinLaws.{no-pin, not-pinned}
 use Rattle.rules.specs.Calls.{heldWith, withLowest, granted, conflicts}
-use Rattle.rules.proofs.Same.Alike.{holdingOn}
+use Rattle.rules.specs.Alike.{holdingOn}
 use Rattle.rules.proofs.Leaves.PageLaws.{put-on, put-slot-of}
 
 -- the rows with a conflicting pin are not the requester, and hold the slot

@@ -18,11 +18,11 @@ use Rattle.model.specs.declared.State.{State}
 use Rattle.model.specs.State.{emptyHolding, slotAt, holdingAt}
 use Rattle.model.specs.Words.{isFilled, pageIn, hasPage, isHeld, holds, slotOf}
 use Rattle.model.specs.Changes.{released, killed, wroteSlot}
-use Rattle.model.proofs.StateLaws.{Sized}
+use Rattle.model.specs.Ranges.{Sized}
 use Rattle.model.proofs.ChangeLaws.{released-holding, released-slot}
 use Rattle.model.proofs.ContentLaws.{has-page, page-has, dirtied-page}
-use Rattle.rules.proofs.Facts.SoundFacts.{Sound}
-use Rattle.rules.proofs.Same.Alike.{holdingOn}
+use Rattle.rules.specs.SoundFacts.{Sound}
+use Rattle.rules.specs.Alike.{holdingOn}
 
 -- what the search found
 pub found-slot : (s : State) (page i : ℕ) → slotOf s page ≡ At i → (i < s .size) × (isFilled (slotAt s i .content) ≡ true) × (pageIn (slotAt s i .content) ≡ page)

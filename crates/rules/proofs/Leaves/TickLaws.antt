@@ -15,7 +15,7 @@ use Rattle.model.specs.declared.State.{State}
 use Rattle.model.specs.State.{freeRow, emptyHolding, rowAt, slotAt, holdingAt}
 use Rattle.model.specs.Words.{isFree, isLive}
 use Rattle.model.specs.Changes.{dirtied, killedRow, killed, released, wroteSlot}
-use Rattle.model.proofs.StateLaws.{Sized}
+use Rattle.model.specs.Ranges.{Sized}
 use Rattle.model.proofs.ChangeLaws.{killed-row, killed-slot, killed-holding, killed-clock, killed-size}
 use Rattle.rules.specs.Calls.{delivered, deliveredRow, deliveredRows, isLate, lateKilled, advanced}
 use Rattle.rules.specs.Refusals.{isWaiting}

@@ -6,7 +6,8 @@ use mathlib.Core.Logic.{inl, inr}
 use Prim.Native.Nat.{ℕ, _<_}
 use Rattle.seq.proofs.Tests.{true-false}
 use Rattle.seq.proofs.SortOrder.{Has, sorted-has}
-use Rattle.seq.proofs.SortLaws.{Each, each-weaker, sorted-each, none-sorted}
+use Rattle.seq.specs.Order.{Each}
+use Rattle.seq.proofs.SortLaws.{each-weaker, sorted-each, none-sorted}
 use Rattle.model.specs.declared.Condition.{Condition}
 use Rattle.model.specs.declared.Condition.the-variants.{Free, Idle, Fetching, Waiting, Killed}
 use Rattle.model.specs.declared.Mode.{Mode}

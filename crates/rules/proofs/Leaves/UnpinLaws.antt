@@ -11,10 +11,11 @@ use Rattle.model.specs.declared.State.{State}
 use Rattle.model.specs.State.{slotAt, holdingAt}
 use Rattle.model.specs.Words.{slotOf}
 use Rattle.model.specs.Changes.{written, dirtied}
-use Rattle.model.proofs.StateLaws.{Sized, slot-put, holding-put}
+use Rattle.model.specs.Ranges.{Sized}
+use Rattle.model.proofs.StateLaws.{slot-put, holding-put}
 use Rattle.model.proofs.ContentLaws.{dirtied-page}
 use Rattle.rules.specs.Calls.{unpinnedAt}
-use Rattle.rules.proofs.Same.Alike.{holdingOn}
+use Rattle.rules.specs.Alike.{holdingOn}
 use Rattle.rules.proofs.Leaves.PageLaws.{put-on, put-slot-of}
 
 -- the holding and the slot that an unpin puts

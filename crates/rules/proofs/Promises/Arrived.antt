@@ -18,7 +18,7 @@ use Rattle.model.specs.declared.State.{State}
 use Rattle.model.specs.State.{rowAt, holdingAt}
 use Rattle.model.specs.Words.{isHeld, pinOf, strength}
 use Rattle.model.specs.Changes.{killedRow}
-use Rattle.model.proofs.StateLaws.{Sized}
+use Rattle.model.specs.Ranges.{Sized}
 use Rattle.rules.specs.Sound.{sound}
 use Rattle.rules.specs.Refusals.{tickRefusal}
 use Rattle.rules.specs.Calls.{unless, threeSteps}
@@ -28,7 +28,8 @@ use Rattle.model.specs.declared.Call.the-variants.{Tick}
 use Rattle.rules.specs.Run.{outcome}
 use Rattle.rules.specs.Requests.{Asks}
 use Rattle.rules.specs.Arrivals.{AllArrived, PinnedAndArrived}
-use Rattle.rules.proofs.Facts.SoundFacts.{Sound, facts}
+use Rattle.rules.specs.SoundFacts.{Sound}
+use Rattle.rules.proofs.Facts.SoundFacts.{facts}
 use Rattle.rules.proofs.Leaves.RefusalFacts.{tick-taken}
 use Rattle.rules.proofs.Leaves.TickLaws.{ticked-clock, ticked-idle, unwaiting}
 use Rattle.rules.proofs.Leaves.TryLaws.{tried-fixed}

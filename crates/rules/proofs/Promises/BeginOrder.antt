@@ -24,13 +24,14 @@ use Rattle.model.specs.Words.{isFree}
 use Rattle.model.specs.Changes.{released, killed, rowsNotFree, movedUp}
 use Rattle.model.proofs.PlaceLaws.{placed-at, closed-at, moved-far}
 use Rattle.rules.specs.Answers.{word, isStarted, isBegun, isEnded}
-use Rattle.rules.specs.BeginOrder.{placeIn, orderNext}
+use Rattle.rules.specs.BeginOrder.{placeIn, orderNext, Ordered, InOrder}
 use Rattle.rules.specs.Calls.{rowBegun, rowEnded, unpinnedAt, advanced, deliveredRows, lateKilled, threeSteps, served}
 use Rattle.rules.specs.Content.{fields, isBegin, isEnd}
 use Rattle.rules.specs.Run.{outcome}
 use Rattle.rules.specs.Sound.{sound}
 use Rattle.rules.specs.Tries.{allTried}
-use Rattle.rules.proofs.Facts.SoundFacts.{Sound, facts}
+use Rattle.rules.specs.SoundFacts.{Sound}
+use Rattle.rules.proofs.Facts.SoundFacts.{facts}
 use Rattle.rules.proofs.Leaves.CallEffects.{Still, refused, looks, views, counts, Effect, unchanged, starts, begins, unpins, ends, ticks, sets, serves, effect}
 use Rattle.rules.proofs.Leaves.RefusalFacts.{BeginTaken, EndTaken}
 use Rattle.rules.proofs.Leaves.ServeCases.{served-fixed}
@@ -119,11 +120,6 @@ module _ (n : ℕ) where
           (λ u v t. absurd (omega arith))
           (λ u v t. let i = f (omega arith) in place-later k m (rest ms) x (omega arith) ∙ omega arith)))
 
--- numbers of rows, each once
-abbrev pub Ordered : List ℕ → Type 0
-Ordered [] = Unit
-Ordered (m ∷ ms) = (m ≤ 7) × (placeIn m ms ≡ 0) × Ordered ms
-
 -- those behind it move up by one
 rest-behind : (n k : ℕ) (l : List ℕ) → Ordered l → 1 ≤ placeIn n l → placeIn n l < placeIn k l → placeIn k (rest n l) ≡ placeIn k l - 1
 unfolding placeIn
@@ -170,11 +166,6 @@ count-places (m ∷ ms) o =
     ∙ (let h = count-places ms (o .2) in omega arith)
 
 -- ---- the places of a level
-
--- the rows of the level have their places in the list
-pub record InOrder (s : State) (level : ℕ) (l : List ℕ) : Type 0 where
-  pub ordered : Ordered l
-  pub placed : (n : ℕ) → n ≤ 7 → placeAt s (rowOf level n) ≡ placeIn n l
 
 -- after a start
 pub fresh-order : (slots delay level : ℕ) → InOrder (fresh slots delay) level []

@@ -21,29 +21,25 @@ use Rattle.model.specs.Parties.{levelOf}
 use Rattle.model.specs.State.{rowAt, slotAt, holdingAt}
 use Rattle.model.specs.Words.{isLive, arrivalIn, hasPage, holds, pins, seen, seenHolder, outranks, leastArrival, slotOf}
 use Rattle.model.specs.Changes.{killed}
-use Rattle.model.proofs.StateLaws.{Sized}
+use Rattle.model.specs.Ranges.{Sized}
 use Rattle.model.proofs.PutLaws.{row-other}
 use Rattle.model.proofs.ChangeLaws.{killed-row, killed-holding}
 use Rattle.model.proofs.PinLaws.{not-pinned}
 use Rattle.model.proofs.PriorityLaws.{level-outranks, outranks-other}
 use Rattle.model.proofs.SeenLaws.{not-seen, dormant-unheld}
+use Rattle.rules.specs.Slots.{LeftAlone}
 use Rattle.rules.specs.Calls.{waiting, granted, conflicts, mustWait, step2, step3, pinnersKilled, writeBack, filled, served}
 use Rattle.rules.specs.Choice.{heldAbove, heldAtOwnLevel, inE, inF, chosen}
 use Rattle.rules.specs.Sound.{sound}
 use Rattle.rules.proofs.Choosing.ChoiceSteps.{chosen-is}
-use Rattle.rules.proofs.Facts.SoundFacts.{Sound, facts, empty-unheld}
+use Rattle.rules.specs.SoundFacts.{Sound}
+use Rattle.rules.proofs.Facts.SoundFacts.{facts, empty-unheld}
 use Rattle.rules.proofs.Leaves.PageLaws.{found-below, killed-page}
 use Rattle.rules.proofs.Leaves.GrantLaws.{granted-row, granted-slot, granted-holding, lowest-page, unheld-spared}
 use Rattle.rules.proofs.Leaves.FillLaws.{filled-row, filled-holding, filled-other, freed}
 use Rattle.rules.proofs.Leaves.ServeCases.{Step, wait-1, grant-1, grant-2, grant-3, wait-g, fill, step}
 use Rattle.rules.proofs.Promises.Granting.{killed-ground, filled-ground}
 use Rattle.rules.proofs.Stays.StaysChoice.{chosen-free}
-
--- the row and its holdings are as they were, and the slots that it holds have their pages
-pub record LeftAlone (s t : State) (row : ℕ) : Type 0 where
-  pub row-same : rowAt t row ≡ rowAt s row
-  pub holding-same : (slot : ℕ) → slot < 64 → holdingAt t slot row ≡ holdingAt s slot row
-  pub page-same : (slot : ℕ) → slot < 64 → holds s slot row ≡ true → (page : ℕ) → hasPage page (slotAt t slot .content) ≡ hasPage page (slotAt s slot .content)
 
 module _ (s : State) (z : Sound s) (row h : ℕ) (m : h < 32) (o : outranks s h row ≡ true) where
   -- its level is at most the requester's

@@ -25,7 +25,8 @@ use Rattle.model.specs.Parties.{rowOf, levelOf}
 use Rattle.model.specs.State.{freeRow, slotAt, holdingAt, withBorders, withBegun, putRow}
 use Rattle.model.specs.Words.{hasPage, dirtyIn, isWrite, pins, slotOf}
 use Rattle.model.specs.Changes.{released, killed, cleared}
-use Rattle.model.proofs.StateLaws.{Sized, slot-put}
+use Rattle.model.specs.Ranges.{Sized}
+use Rattle.model.proofs.StateLaws.{slot-put}
 use Rattle.model.proofs.ChangeLaws.{released-holding, released-slot, killed-slot, killed-holding, sized-killed, cleared-holding}
 use Rattle.model.proofs.ContentLaws.{page-has}
 use Rattle.model.proofs.PinLaws.{not-written}
@@ -36,7 +37,7 @@ use Rattle.rules.specs.Calls.{rowBegun, unpinnedAt, waiting, granted, pi
 use Rattle.rules.specs.Listed.{Some}
 use Rattle.rules.specs.Tries.{filledBy, allTried}
 use Rattle.model.specs.declared.Call.{Call}
-use Rattle.rules.proofs.Facts.SoundFacts.{Sound, BordersSound}
+use Rattle.rules.specs.SoundFacts.{Sound, BordersSound}
 use Rattle.rules.proofs.Leaves.PageLaws.{found-below}
 use Rattle.rules.proofs.Leaves.CallEffects.{Effect, unchanged, starts, begins, unpins, ends, ticks, sets, serves}
 use Rattle.rules.proofs.Leaves.GrantLaws.{granted-clock}

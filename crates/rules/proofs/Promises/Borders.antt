@@ -1,11 +1,10 @@
 -- What a call's answer says of the borders and of the mark that a row has begun: an accepted start makes them anew, an accepted begin sets the mark,
 -- an accepted call for borders sets those that it names, and nothing else changes either.
 use mathlib.Core.Path.{_≡_, refl}
-use mathlib.Core.Bool.{Bool, false, cond, _||_}
+use mathlib.Core.Bool.{false}
 use Prim.Native.Nat.{ℕ}
 use Rattle.model.specs.declared.Answer.{Answer}
 use Rattle.model.specs.declared.Back.{Back}
-use Rattle.model.specs.declared.Borders.{Borders}
 use Rattle.model.specs.declared.Call.{Call}
 use Rattle.model.specs.declared.Cause.the-variants.{Late, Taken}
 use Rattle.model.specs.declared.Condition.{Condition}
@@ -13,15 +12,13 @@ use Rattle.model.specs.declared.Condition.the-variants.{Free, Idle, Fetching, W
 use Rattle.model.specs.declared.Mode.{Mode}
 use Rattle.model.specs.declared.Outcome.{Outcome}
 use Rattle.model.specs.declared.State.{State}
-use Rattle.model.specs.Parties.{usualBorders}
 use Rattle.model.specs.State.{fresh}
 use Rattle.model.specs.Words.{slotOf}
 use Rattle.model.specs.Changes.{released, killed}
 use Rattle.rules.specs.Answers.{word, isStarted, isBegun, isBordered}
 use Rattle.rules.specs.Calls.{unpinnedAt, advanced, deliveredRows, lateKilled, looked, waiting, granted, served}
-use Rattle.rules.specs.Content.{bordersNamed}
 use Rattle.rules.specs.Refusals.{conditionAt}
-use Rattle.rules.specs.Run.{outcome}
+use Rattle.rules.specs.Run.{outcome, bordersBy, begunBy}
 use Rattle.rules.proofs.Leaves.CallEffects.{Still, refused, looks, views, counts, Effect, unchanged, starts, begins, unpins, ends, ticks, sets, serves, effect}
 use Rattle.rules.proofs.Leaves.SettingLaws.{served-unset, ticked-unset}
 use Rattle.rules.proofs.Promises.CallCases.{viewed-is}
@@ -64,13 +61,6 @@ served-other s row page mode = go (served s row page mode) (serving s row page m
     go o (waits-g e n q) = rw q (refl, refl, refl)
     go o (joins slot arrival some e n q) = rw q (granted-other _ _ _ _ _ _)
     go o (fills slot e n q) = rw q (granted-other _ _ _ _ _ _)
-
--- what stands after a call, by its answer
-abbrev bordersBy : State → Call → Answer → Borders
-bordersBy s c a = cond (isStarted a) usualBorders (cond (isBordered a) (bordersNamed c) (s .borders))
-
-abbrev begunBy : State → Answer → Bool
-begunBy s a = cond (isStarted a) false (isBegun a || s .begun)
 
 module _ (s : State) (c : Call) where
   after : (o : Outcome) → Effect s c o → (o .state .borders ≡ bordersBy s c (o .answer)) × (o .state .begun ≡ begunBy s (o .answer))

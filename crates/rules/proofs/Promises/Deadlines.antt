@@ -19,7 +19,7 @@ use Rattle.model.specs.Parties.{lastClock, isPast}
 use Rattle.model.specs.State.{rowAt}
 use Rattle.model.specs.Words.{isLive}
 use Rattle.model.specs.Changes.{killedRow}
-use Rattle.model.proofs.StateLaws.{Sized}
+use Rattle.model.specs.Ranges.{Sized}
 use Rattle.rules.specs.Sound.{inTime, sound}
 use Rattle.rules.specs.Answers.{word, isToldLate}
 use Rattle.rules.specs.Refusals.{tickRefusal}
@@ -27,7 +27,8 @@ use Rattle.rules.specs.Calls.{delivered, deliveredRow, deliveredRows, is
 use Rattle.rules.specs.Listed.{isIdleOrFetching}
 use Rattle.rules.specs.Tries.{allTried, ticked}
 use Rattle.rules.specs.Run.{outcome, fillsOf}
-use Rattle.rules.proofs.Facts.SoundFacts.{RowSound, facts}
+use Rattle.rules.specs.SoundFacts.{RowSound}
+use Rattle.rules.proofs.Facts.SoundFacts.{facts}
 use Rattle.rules.proofs.Leaves.RefusalFacts.{unless-is, tick-taken}
 use Rattle.rules.proofs.Leaves.TickLaws.{later, delivered-live, later-row, ticked-row}
 use Rattle.rules.proofs.Promises.ServedRows.{SameOrTaken}

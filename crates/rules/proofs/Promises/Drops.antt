@@ -8,7 +8,7 @@ use native.Mathlib.Decide.{ℕ-discrete}
 use borrow.Author.Tests.{eqb-true, eq-eqb, ne-eqb}
 use lib.Dec.{leb, eqb}
 use Rattle.seq.specs.declared.Found.the-variants.{At, Nowhere}
-use Rattle.seq.proofs.SortLaws.{Each}
+use Rattle.seq.specs.Order.{Each}
 use Rattle.seq.proofs.Tests.{true-false, and-true, both-true, not-true-false}
 use Rattle.model.specs.declared.Answer.the-variants.{Ready, Fetch}
 use Rattle.model.specs.declared.Back.{Back}
@@ -25,7 +25,8 @@ use Rattle.model.specs.Parties.{rowOf, levelOf, lastClock}
 use Rattle.model.specs.State.{freeRow, emptyHolding, rowAt, slotAt, holdingAt, putRow}
 use Rattle.model.specs.Words.{isLive, hasPage, isHeld, holds, pins, slotOf}
 use Rattle.model.specs.Changes.{released, killed, cleared}
-use Rattle.model.proofs.StateLaws.{Sized, fresh-row, row-put}
+use Rattle.model.specs.Ranges.{Sized}
+use Rattle.model.proofs.StateLaws.{fresh-row, row-put}
 use Rattle.model.proofs.ChangeLaws.{released-holding, sized-released, killed-row, killed-holding, sized-killed, cleared-holding}
 use Rattle.rules.specs.Choice.{chosen}
 use Rattle.rules.specs.Calls.{unpinnedAt, waiting, granted, pinnersKilled, writeBack, filled, lateKilled, isLate, threeSteps, served}
@@ -37,7 +38,8 @@ use Rattle.rules.specs.Slots.{holdsPage, Refilled}
 use Rattle.rules.specs.Run.{outcome}
 use Rattle.rules.specs.Sound.{sound}
 use Rattle.rules.specs.Tries.{Fill, Tried, filledBy, triedAs, tryRow, tries, waiters, allTried}
-use Rattle.rules.proofs.Facts.SoundFacts.{Sound, facts}
+use Rattle.rules.specs.SoundFacts.{Sound}
+use Rattle.rules.proofs.Facts.SoundFacts.{facts}
 use Rattle.rules.proofs.Leaves.PageLaws.{found-below, killed-page}
 use Rattle.rules.proofs.Leaves.CallEffects.{Effect, unchanged, starts, begins, unpins, ends, ticks, sets, serves}
 use Rattle.rules.proofs.Leaves.FillLaws.{filled-other, freed}

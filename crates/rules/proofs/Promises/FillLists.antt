@@ -1,13 +1,7 @@
 -- Properties of some and of each entry of a list of fills, and of each with every later one.
 use mathlib.Core.List.{List, [], _∷_, _++_}
-<<<<<<< ours
 use mathlib.Core.Logic.{_⊎_, inl, inr}
-use Prim.Native.Nat.{ℕ}
-use Rattle.rules.specs.Listed.{EachFill, Some, InOrder}
-=======
-use mathlib.Core.Logic.{inl, inr}
 use Rattle.rules.specs.Listed.{EachFill, Some, EachLater}
->>>>>>> theirs
 use Rattle.rules.specs.Tries.{Fill}
 
 pub some-left : (P : Fill → Type 0) (xs ys : List Fill) → Some P xs → Some P (xs ++ ys)

@@ -7,8 +7,8 @@ use Prim.Native.Nat.{ℕ, _<_}
 use native.Mathlib.Omega.{arith}
 use native.Mathlib.Decide.{ℕ-discrete}
 use Rattle.seq.proofs.Tests.{true-false, not-false-true}
-use Rattle.seq.proofs.SortLaws.{Each}
-use Rattle.seq.proofs.SortOrder.{Ranked, sorted-ranked}
+use Rattle.seq.specs.Order.{Each, Ranked}
+use Rattle.seq.proofs.SortOrder.{sorted-ranked}
 use Rattle.model.specs.declared.Answer.{Answer}
 use Rattle.model.specs.declared.Condition.the-variants.{Waiting}
 use Rattle.model.specs.declared.Mode.{Mode}
@@ -29,7 +29,8 @@ use Rattle.rules.proofs.Facts.SoundFacts.{facts, live-taken, ranks-apar
 use Rattle.rules.proofs.Leaves.AnswerCases.{by-slot}
 use Rattle.rules.proofs.Leaves.ServeCases.{served-fixed}
 use Rattle.rules.proofs.Leaves.TryLaws.{by-tries, waiters-rows}
-use Rattle.rules.proofs.Promises.BetterSafe.{LeftAlone, better-safe}
+use Rattle.rules.specs.Slots.{LeftAlone}
+use Rattle.rules.proofs.Promises.BetterSafe.{better-safe}
 use Rattle.rules.proofs.Promises.FillLists.{some-right, each-some, each-fill}
 use Rattle.rules.proofs.Promises.ServedRows.{SameOrTaken, Own, own-waits, own-ready, own-fetch, served-others, served-deadline, served-own}
 use Rattle.rules.proofs.Promises.TriedRows.{waits-unmade, waiting-live, live-after, served-after, still-waits, vain-still}

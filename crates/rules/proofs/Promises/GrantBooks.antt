@@ -19,7 +19,7 @@ use Rattle.model.specs.Parties.{levelOf}
 use Rattle.model.specs.State.{slotAt, holdingAt}
 use Rattle.model.specs.Words.{hasPage, dirtyIn, isHeld, isWrite, pinOf, stronger, holds}
 use Rattle.model.specs.Changes.{written}
-use Rattle.model.proofs.StateLaws.{Sized}
+use Rattle.model.specs.Ranges.{Sized}
 use Rattle.model.proofs.ContentLaws.{dirtied-page, dirtied-stays, dirtied-is}
 use Rattle.model.proofs.PinLaws.{write-held, stronger-is, mode-held}
 use Rattle.model.proofs.BookLaws.{Booked}

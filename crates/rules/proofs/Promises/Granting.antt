@@ -23,10 +23,10 @@ use Rattle.model.specs.Parties.{levelOf}
 use Rattle.model.specs.State.{rowAt, slotAt, holdingAt}
 use Rattle.model.specs.Words.{hasPage, isHeld, pinOf, strength, stronger, pins, slotOf}
 use Rattle.model.specs.Changes.{killed}
-use Rattle.model.proofs.StateLaws.{Sized}
+use Rattle.model.specs.Ranges.{Sized}
 use Rattle.model.proofs.ChangeLaws.{killed-clock, sized-killed}
 use Rattle.rules.specs.Calls.{heldWith, waiting, granted, pinnersKilled, writeBack, filled}
-use Rattle.rules.proofs.Facts.SoundFacts.{Sound}
+use Rattle.rules.specs.SoundFacts.{Sound}
 use Rattle.rules.proofs.Leaves.PageLaws.{found-has, killed-page}
 use Rattle.rules.proofs.Leaves.GrantLaws.{grantedRow, grantedHolding, granted-row, granted-holding}
 use Rattle.rules.proofs.Leaves.FillLaws.{sized-filled, filled-clock, filled-has, freed}

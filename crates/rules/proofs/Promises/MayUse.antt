@@ -28,7 +28,8 @@ use Rattle.rules.specs.Run.{outcome}
 use Rattle.rules.specs.Content.{rowNamed}
 use Rattle.rules.specs.Requests.{Names}
 use Rattle.rules.specs.Arrivals.{AllArrived}
-use Rattle.rules.proofs.Facts.SoundFacts.{Sound, RowSound, facts}
+use Rattle.rules.specs.SoundFacts.{Sound, RowSound}
+use Rattle.rules.proofs.Facts.SoundFacts.{facts}
 use Rattle.rules.proofs.Leaves.ContentLaws.{asks-names}
 use Rattle.rules.proofs.Leaves.CallEffects.{refused, looks, views, counts, Effect, unchanged, starts, begins, unpins, ends, ticks, sets, serves, effect}
 use Rattle.rules.proofs.Promises.CallCases.{viewed-is}

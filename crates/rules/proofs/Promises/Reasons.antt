@@ -37,11 +37,13 @@ use Rattle.rules.specs.Choice.{stepA, stepB, heldAbove, heldAtOwnLevel, 
 use Rattle.rules.specs.Sound.{sound}
 use Rattle.rules.specs.Waits.{BetterPins, CannotTake, by-lower, by-better, by-itself, NoSlot, WaitReason}
 use Rattle.rules.proofs.Choosing.ChoiceSteps.{neither, no-step-a, no-step-b, c-or-d}
-use Rattle.rules.proofs.Facts.SoundFacts.{Sound, facts}
+use Rattle.rules.specs.SoundFacts.{Sound}
+use Rattle.rules.proofs.Facts.SoundFacts.{facts}
 use Rattle.rules.proofs.Leaves.PageLaws.{finds, found-slot, found-has, found-below, killed-page}
 use Rattle.rules.proofs.Leaves.PinWords.{conflict-in, in-conflict-is, in-conflict-held}
 use Rattle.rules.proofs.Leaves.ServeCases.{served-fixed}
-use Rattle.rules.proofs.Promises.BetterSafe.{LeftAlone, chosen-unheld, granted-page, better-safe}
+use Rattle.rules.specs.Slots.{LeftAlone}
+use Rattle.rules.proofs.Promises.BetterSafe.{chosen-unheld, granted-page, better-safe}
 use Rattle.rules.proofs.Promises.Granting.{never-waits, killed-ground}
 use Rattle.rules.proofs.Promises.Serving.{Serving, waits, waits-g, joins, fills, serving}
 use Rattle.rules.proofs.Stays.StaysChoice.{chosen-free}

@@ -21,13 +21,14 @@ use Rattle.model.specs.Parties.{levelOf}
 use Rattle.model.specs.State.{rowAt, slotAt, holdingAt}
 use Rattle.model.specs.Words.{isPin, pinOf, strength, pins}
 use Rattle.model.specs.Changes.{killed, killedRow}
-use Rattle.model.proofs.StateLaws.{Sized}
+use Rattle.model.specs.Ranges.{Sized}
 use Rattle.model.proofs.PutLaws.{row-same, row-other}
 use Rattle.model.proofs.ChangeLaws.{killed-row}
 use Rattle.rules.specs.Calls.{waiting, granted, pinnersKilled, writeBack, filled, served}
 use Rattle.rules.specs.Listed.{isIdleOrFetching, PinnedFor}
 use Rattle.rules.specs.Sound.{sound}
-use Rattle.rules.proofs.Facts.SoundFacts.{Sound, facts}
+use Rattle.rules.specs.SoundFacts.{Sound}
+use Rattle.rules.proofs.Facts.SoundFacts.{facts}
 use Rattle.rules.proofs.Leaves.FillLaws.{filled-row, freed}
 use Rattle.rules.proofs.Leaves.GrantLaws.{granted-row}
 use Rattle.rules.proofs.Promises.Serving.{Serving, waits, waits-g, joins, fills, serving}

@@ -8,8 +8,8 @@ use native.Mathlib.Omega.{arith}
 use native.Mathlib.Decide.{ℕ-discrete}
 use borrow.Author.Tests.{ltb-true}
 use Rattle.seq.proofs.Tests.{true-false, parts}
-use Rattle.seq.proofs.SortLaws.{Each}
-use Rattle.seq.proofs.SortOrder.{Has, Ranked, each-has}
+use Rattle.seq.specs.Order.{Each, Ranked}
+use Rattle.seq.proofs.SortOrder.{Has, each-has}
 use Rattle.model.specs.declared.Answer.the-variants.{Clock}
 use Rattle.model.specs.declared.Call.the-variants.{Tick}
 use Rattle.model.specs.declared.Cause.the-variants.{Late, Taken}
@@ -34,7 +34,8 @@ use Rattle.rules.proofs.Facts.SoundFacts.{facts}
 use Rattle.rules.proofs.Leaves.PinWords.{in-conflict-held}
 use Rattle.rules.proofs.Leaves.TickLaws.{later, delivered-waiting, ticked-row, ticked-holding, ticked-clock, ticked-size, ticked-places, ticked-live}
 use Rattle.rules.proofs.Leaves.TryLaws.{by-try, by-tries, waiters-wait, waiters-rows, waiters-have, tried-fixed}
-use Rattle.rules.proofs.Promises.BetterSafe.{LeftAlone, better-safe}
+use Rattle.rules.specs.Slots.{LeftAlone}
+use Rattle.rules.proofs.Promises.BetterSafe.{better-safe}
 use Rattle.rules.proofs.Promises.Deadlines.{ticked-is, stepped, late-is, late-stays}
 use Rattle.rules.proofs.Promises.FillLists.{some-fill, some-each}
 use Rattle.rules.proofs.Promises.Filled.{AreRows, Old, served-old, tries-alone, Outranker, ranked, fills-taken}

@@ -8,7 +8,7 @@ use native.Mathlib.Omega.{arith}
 use native.Mathlib.Decide.{ℕ-discrete}
 use lib.Seq.{set-getD}
 use Rattle.seq.proofs.Tests.{true-false}
-use Rattle.seq.proofs.SortLaws.{Each}
+use Rattle.seq.specs.Order.{Each}
 use Rattle.model.specs.declared.Answer.the-variants.{Wait}
 use Rattle.model.specs.declared.Cause.the-variants.{Taken}
 use Rattle.model.specs.declared.Condition.{Condition}

@@ -6,7 +6,7 @@ use mathlib.Core.Logic.{inl, inr}
 use Prim.Native.Nat.{ℕ, _<_}
 use native.Mathlib.Omega.{arith}
 use Rattle.seq.proofs.Tests.{true-false}
-use Rattle.seq.proofs.SortLaws.{Each}
+use Rattle.seq.specs.Order.{Each}
 use Rattle.model.specs.declared.Answer.the-variants.{Fetch, Wait}
 use Rattle.model.specs.declared.Back.{Back}
 use Rattle.model.specs.declared.Condition.the-variants.{Fetching}

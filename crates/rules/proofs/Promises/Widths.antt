@@ -26,18 +26,21 @@ use Rattle.model.specs.Parties.{rowOf, levelOf, areBorders, lastClock}
 use Rattle.model.specs.State.{freeRow, emptySlot, emptyHolding, fresh, rowAt, slotAt, holdingAt, placeAt}
 use Rattle.model.specs.Words.{holds, pins, isFree, isFilled, arrivalIn}
 use Rattle.model.specs.Changes.{killedRow, released, killed, cleared, rowsNotFree}
-use Rattle.model.proofs.StateLaws.{Sized, row-put, fresh-row}
+use Rattle.model.specs.Ranges.{Sized, ConditionOk, ContentOk, HoldingOk, RowOk, SlotOk, BordersOk, StateOk}
+use Rattle.model.proofs.StateLaws.{row-put, fresh-row}
 use Rattle.model.proofs.ChangeLaws.{killed-row, sized-released, sized-killed}
 use Rattle.model.proofs.BordersLaws.{in-order}
 use Rattle.model.proofs.PinLaws.{pin-held}
-use Rattle.model.proofs.Ranges.{ConditionOk, ContentOk, HoldingOk, RowOk, SlotOk, BordersOk, StateOk}
 use Rattle.rules.specs.Sound.{awaits, sound}
 use Rattle.rules.specs.Calls.{unpinnedAt, deliveredRow, isLate, lateKilled, threeSteps, waiting, granted, pinnersKilled, filled, served}
 use Rattle.model.specs.declared.Call.{Call}
+use Rattle.model.specs.declared.Call.the-variants.{Start, Begin, Request, Unpin, End, Tick, Look, View, Count}
+use Rattle.model.specs.declared.Call.the-variants as Call
 use Rattle.rules.specs.Run.{outcome}
-use Rattle.rules.specs.Content.{Fits}
+use Rattle.rules.specs.Content.{Fits, Narrow, OfC}
 use Rattle.rules.specs.Tries.{allTried}
-use Rattle.rules.proofs.Facts.SoundFacts.{Sound, BordersSound, Awaiting, RowSound, facts, borders-facts}
+use Rattle.rules.specs.SoundFacts.{Sound, BordersSound, Awaiting, RowSound}
+use Rattle.rules.proofs.Facts.SoundFacts.{facts, borders-facts}
 use Rattle.rules.proofs.Leaves.CallEffects.{Effect, unchanged, starts, begins, unpins, ends, ticks, sets, serves, effect}
 use Rattle.rules.proofs.Leaves.GrantLaws.{grantedRow, granted-row}
 use Rattle.rules.proofs.Leaves.TickLaws.{later, sized-later, ticked-row}
@@ -57,10 +60,6 @@ everywhere P l d n e z f i = elim (decLt i n) [
 ]
 
 -- ---- the deadlines
-
--- each row's deadline is an unsigned 64-bit number
-abbrev pub Narrow : State → Type 0
-Narrow s = (row : ℕ) → rowAt s row .deadline < 2 ^ 64
 
 pub fresh-narrow : (slots delay : ℕ) → Narrow (fresh slots delay)
 fresh-narrow slots delay row = rw (fresh-row slots delay row) (omega arith)
@@ -208,3 +207,18 @@ sound-ok s e narrow = record {
     place-fits : (i : ℕ) → i < 32 → (x : Bool) → isFree (rowAt s i .condition) ≡ x → placeAt s i < 2 ^ 64
     place-fits i b true f = omega (arith, z .order .none i b f)
     place-fits i b false f = omega (arith, z .order .most i b f, count-at-most (λ n. not (isFree (rowAt s (rowOf (levelOf i) n) .condition))) 8)
+
+-- ---- the numbers of a call
+
+-- every call that C can make has numbers that fit
+pub c-fits : (c : Call) → OfC c → Fits c
+c-fits (Start slots delay) h = record { level = omega arith; number = omega arith; page = omega arith; mode = omega arith; slots = omega arith; delay = omega arith; deadline = omega arith; first = omega arith; second = omega arith; third = omega arith }
+c-fits (Begin level number deadline) h = record { level = omega arith; number = omega arith; page = omega arith; mode = omega arith; slots = omega arith; delay = omega arith; deadline = omega arith; first = omega arith; second = omega arith; third = omega arith }
+c-fits (Request level number page mode) h = record { level = omega arith; number = omega arith; page = omega arith; mode = omega arith; slots = omega arith; delay = omega arith; deadline = omega arith; first = omega arith; second = omega arith; third = omega arith }
+c-fits (Unpin level number page) h = record { level = omega arith; number = omega arith; page = omega arith; mode = omega arith; slots = omega arith; delay = omega arith; deadline = omega arith; first = omega arith; second = omega arith; third = omega arith }
+c-fits (End level number) h = record { level = omega arith; number = omega arith; page = omega arith; mode = omega arith; slots = omega arith; delay = omega arith; deadline = omega arith; first = omega arith; second = omega arith; third = omega arith }
+c-fits (Tick room) h = record { level = omega arith; number = omega arith; page = omega arith; mode = omega arith; slots = omega arith; delay = omega arith; deadline = omega arith; first = omega arith; second = omega arith; third = omega arith }
+c-fits (Look level number) h = record { level = omega arith; number = omega arith; page = omega arith; mode = omega arith; slots = omega arith; delay = omega arith; deadline = omega arith; first = omega arith; second = omega arith; third = omega arith }
+c-fits (View level page) h = record { level = omega arith; number = omega arith; page = omega arith; mode = omega arith; slots = omega arith; delay = omega arith; deadline = omega arith; first = omega arith; second = omega arith; third = omega arith }
+c-fits (Count level) h = record { level = omega arith; number = omega arith; page = omega arith; mode = omega arith; slots = omega arith; delay = omega arith; deadline = omega arith; first = omega arith; second = omega arith; third = omega arith }
+c-fits (Call.Borders first second third) h = record { level = omega arith; number = omega arith; page = omega arith; mode = omega arith; slots = omega arith; delay = omega arith; deadline = omega arith; first = omega arith; second = omega arith; third = omega arith }

@@ -8,7 +8,7 @@ use Rattle.model.specs.declared.State.{State}
 use Rattle.model.specs.Parties.{levelOf}
 use Rattle.model.specs.State.{emptyHolding, rowAt, holdingAt, placeAt}
 use Rattle.model.specs.Words.{slotOf}
-use Rattle.rules.proofs.Same.Alike.{holdingOn, Alike}
+use Rattle.rules.specs.Alike.{holdingOn, Alike}
 
 pub alike-refl : (L : ℕ) (s : State) → Alike L s s
 alike-refl L s = record { size = refl; delay = refl; clock = refl; row = λ r b l. refl; place = λ r b l. refl; holding = λ page r b l. refl }

@@ -18,14 +18,15 @@ use Rattle.model.specs.Parties.{rowOf, levelOf}
 use Rattle.model.specs.State.{freeRow, rowAt, withBegun, putRow}
 use Rattle.model.specs.Words.{isHeld, seen, isOpen, slotOf}
 use Rattle.model.specs.Changes.{released, closedUp}
-use Rattle.model.proofs.StateLaws.{Sized, sized-begun}
+use Rattle.model.specs.Ranges.{Sized}
+use Rattle.model.proofs.StateLaws.{sized-begun}
 use Rattle.model.proofs.ChangeLaws.{sized-released}
 use Rattle.model.proofs.SeenLaws.{no-dormant, none-seen}
 use Rattle.rules.specs.Answers.{told}
 use Rattle.rules.specs.Calls.{begun, ended, deliveredRows, isLate, lateKilled, advanced, threeSteps, looked, lookedAt, viewedIn, viewed, counted, lastPlace, rowBegun, rowEnded}
 use Rattle.rules.specs.Refusals.{beginRefusal, endRefusal, lookRefusal, viewRefusal, countRefusal}
-use Rattle.rules.proofs.Facts.SoundFacts.{Sound}
-use Rattle.rules.proofs.Same.Alike.{holdingOn, Alike, Same}
+use Rattle.rules.specs.SoundFacts.{Sound}
+use Rattle.rules.specs.Alike.{holdingOn, Alike, Same}
 use Rattle.rules.proofs.Same.AlikeLaws.{alike-sym}
 use Rattle.rules.proofs.Leaves.PageLaws.{on-slot, on-nowhere}
 use Rattle.rules.proofs.Leaves.TickLaws.{later, sized-later, later-row}

@@ -20,11 +20,12 @@ use Rattle.model.specs.Parties.{levelOf, rowOf}
 use Rattle.model.specs.State.{rowAt, putRow, withPlaces}
 use Rattle.model.specs.Words.{slotOf, isFree}
 use Rattle.model.specs.Changes.{released, killed, closedUp}
-use Rattle.model.proofs.StateLaws.{Sized, row-put}
+use Rattle.model.specs.Ranges.{Sized}
+use Rattle.model.proofs.StateLaws.{row-put}
 use Rattle.model.proofs.ChangeLaws.{killed-row}
 use Rattle.rules.specs.Answers.{word, value, told}
 use Rattle.rules.specs.Calls.{unless, waiting, granted, lastPlace}
-use Rattle.rules.proofs.Same.Alike.{holdingOn, Alike, Same}
+use Rattle.rules.specs.Alike.{holdingOn, Alike, Same}
 use Rattle.rules.proofs.Leaves.PageLaws.{killed-on, released-on}
 use Rattle.rules.proofs.Leaves.GrantLaws.{granted-row, granted-on, granted-size, granted-delay, granted-clock}
 use Rattle.rules.proofs.Same.SamePages.{same-holding}

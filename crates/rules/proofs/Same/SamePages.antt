@@ -19,7 +19,7 @@ use Rattle.model.specs.Words.{holds, strength, seenHolder, seen, outranks, stro
 use Rattle.model.proofs.PriorityLaws.{outranks-same}
 use Rattle.model.proofs.SeenLaws.{no-dormant}
 use Rattle.rules.specs.Calls.{conflicts, mustWait, hitsDormant}
-use Rattle.rules.proofs.Same.Alike.{Alike}
+use Rattle.rules.specs.Alike.{Alike}
 use Rattle.rules.proofs.Leaves.PageLaws.{on-slot}
 
 -- a row up to level 2 hits no dormant page

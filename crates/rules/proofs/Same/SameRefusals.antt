@@ -15,8 +15,8 @@ use Rattle.model.specs.Parties.{rowOf}
 use Rattle.model.specs.State.{emptyHolding, rowAt, holdingAt}
 use Rattle.model.specs.Words.{isPin, pins, slotOf}
 use Rattle.rules.specs.Refusals.{conditionAt, pinsPage, beginRefusal, requestRefusal, unpinRefusal, endRefusal, tickRefusal}
-use Rattle.rules.proofs.Facts.SoundFacts.{BordersSound}
-use Rattle.rules.proofs.Same.Alike.{holdingOn, Alike}
+use Rattle.rules.specs.SoundFacts.{BordersSound}
+use Rattle.rules.specs.Alike.{holdingOn, Alike}
 
 pub pins-on : (s : State) (row page : ℕ) → pinsPage s row page ≡ isPin (holdingOn s page row .pin)
 unfolding pinsPage holdingOn

@@ -12,8 +12,8 @@ use Rattle.model.specs.declared.State.{State}
 use Rattle.model.specs.Parties.{levelOf}
 use Rattle.model.specs.Words.{isHeld}
 use Rattle.rules.specs.Calls.{served}
-use Rattle.rules.proofs.Facts.SoundFacts.{Sound}
-use Rattle.rules.proofs.Same.Alike.{holdingOn, Alike, Same}
+use Rattle.rules.specs.SoundFacts.{Sound}
+use Rattle.rules.specs.Alike.{holdingOn, Alike, Same}
 use Rattle.rules.proofs.Choosing.IntoSame.{into-same}
 use Rattle.rules.proofs.Same.SameServed.{same-served}
 

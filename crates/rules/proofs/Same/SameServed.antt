@@ -14,8 +14,8 @@ use Rattle.model.specs.Words.{isHeld, seen, leastArrival, slotOf}
 use Rattle.model.specs.Changes.{killed}
 use Rattle.model.proofs.ChangeLaws.{sized-killed}
 use Rattle.rules.specs.Calls.{conflicts, mustWait, waiting, granted, step1, step3, unseenAt, servedAt, served}
-use Rattle.rules.proofs.Facts.SoundFacts.{Sound}
-use Rattle.rules.proofs.Same.Alike.{holdingOn, Alike, Same}
+use Rattle.rules.specs.SoundFacts.{Sound}
+use Rattle.rules.specs.Alike.{holdingOn, Alike, Same}
 use Rattle.rules.proofs.Leaves.PageLaws.{found-slot, killed-slot-of, on-held}
 use Rattle.rules.proofs.Same.SamePages.{no-hit, same-conflicts, same-seen, same-least, same-must-wait, same-holding}
 use Rattle.rules.proofs.Same.SameChanges.{same-waiting, same-granted, same-killed}

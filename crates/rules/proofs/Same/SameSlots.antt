@@ -12,8 +12,8 @@ use Rattle.model.specs.Parties.{levelOf}
 use Rattle.model.specs.State.{slotAt, holdingAt}
 use Rattle.model.specs.Words.{isFilled, pageIn, isHeld, holds, seen, isOpen, slotOf}
 use Rattle.model.proofs.SeenLaws.{seen-by, by-seen}
-use Rattle.rules.proofs.Facts.SoundFacts.{Sound, Held}
-use Rattle.rules.proofs.Same.Alike.{Alike}
+use Rattle.rules.specs.SoundFacts.{Sound, Held}
+use Rattle.rules.specs.Alike.{Alike}
 use Rattle.rules.proofs.Same.AlikeLaws.{alike-sym}
 use Rattle.rules.proofs.Leaves.PageLaws.{found-slot, finds, on-slot, on-held}
 

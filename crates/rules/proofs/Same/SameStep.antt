@@ -15,8 +15,9 @@ use Rattle.rules.specs.Run.{outcome}
 use Rattle.rules.specs.Secrecy.{isKept}
 use Rattle.rules.specs.Sound.{sound}
 use Rattle.rules.specs.Tries.{ticked}
-use Rattle.rules.proofs.Facts.SoundFacts.{Sound, BordersSound, facts, borders-facts}
-use Rattle.rules.proofs.Same.Alike.{Alike, Same}
+use Rattle.rules.specs.SoundFacts.{Sound, BordersSound}
+use Rattle.rules.proofs.Facts.SoundFacts.{facts, borders-facts}
+use Rattle.rules.specs.Alike.{Alike, Same}
 use Rattle.rules.proofs.Leaves.RefusalFacts.{request-taken, tick-taken}
 use Rattle.rules.proofs.Same.SameSlots.{same-open-count}
 use Rattle.rules.proofs.Same.SameChanges.{same-unless}

@@ -8,7 +8,8 @@ use borrow.Author.Tests.{leb-true, leb-false, not-true}
 use lib.Dec.{leb}
 use Rattle.seq.specs.Below.{sortedBelow}
 use Rattle.seq.proofs.Tests.{and-right, not-true-false}
-use Rattle.seq.proofs.SortLaws.{Each, each-weaker, sorted-each, sorted-same}
+use Rattle.seq.specs.Order.{Each}
+use Rattle.seq.proofs.SortLaws.{each-weaker, sorted-each, sorted-same}
 use Rattle.seq.proofs.SortOrder.{sorted-apart}
 use Rattle.model.specs.declared.Condition.{Condition}
 use Rattle.model.specs.declared.Condition.the-variants.{Free, Idle, Fetching, Waiting, Killed}
@@ -23,7 +24,7 @@ use Rattle.rules.specs.Sound.{sound}
 use Rattle.rules.specs.Tries.{tryRow, tries, waiters, allTried}
 use Rattle.rules.proofs.Facts.SoundFacts.{facts}
 use Rattle.rules.proofs.Leaves.TryLaws.{by-tries, tries-joined}
-use Rattle.rules.proofs.Same.Alike.{Alike}
+use Rattle.rules.specs.Alike.{Alike}
 use Rattle.rules.proofs.Same.AlikeLaws.{alike-refl, alike-sym, alike-trans}
 use Rattle.rules.proofs.Same.SamePages.{same-rank}
 use Rattle.rules.proofs.Same.SameRequest.{same-request}

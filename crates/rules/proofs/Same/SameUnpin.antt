@@ -12,8 +12,8 @@ use Rattle.model.specs.Words.{isHeld, slotOf}
 use Rattle.model.proofs.PinLaws.{pin-held}
 use Rattle.rules.specs.Calls.{unpinnedAt, unpinned}
 use Rattle.rules.specs.Refusals.{unpinRefusal}
-use Rattle.rules.proofs.Facts.SoundFacts.{Sound}
-use Rattle.rules.proofs.Same.Alike.{holdingOn, Alike, Same}
+use Rattle.rules.specs.SoundFacts.{Sound}
+use Rattle.rules.specs.Alike.{holdingOn, Alike, Same}
 use Rattle.rules.proofs.Leaves.PageLaws.{found-slot, on-held}
 use Rattle.rules.proofs.Leaves.UnpinLaws.{unpinned-on}
 use Rattle.rules.proofs.Leaves.RefusalFacts.{UnpinTaken, unpin-taken}

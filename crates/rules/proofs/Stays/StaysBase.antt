@@ -18,7 +18,7 @@ use Rattle.model.specs.Changes.{dirtied, dirtiedContent}
 use Rattle.model.proofs.PinLaws.{no-pin}
 use Rattle.rules.specs.Sound.{pinAllowed}
 use Rattle.rules.specs.Calls.{withLowest}
-use Rattle.rules.proofs.Facts.SoundFacts.{Sound, Facts, RowsSound, OrderSound}
+use Rattle.rules.specs.SoundFacts.{Sound, Facts, RowsSound, OrderSound}
 
 -- what sound says but for the rows and the begin orders
 abbrev pub Base : State → Type 0

@@ -6,7 +6,7 @@ use Rattle.seq.proofs.Tests.{true-false}
 use Rattle.model.specs.declared.State.{State}
 use Rattle.model.specs.State.{rowAt}
 use Rattle.model.specs.Words.{isFree}
-use Rattle.rules.proofs.Facts.SoundFacts.{BordersSound}
+use Rattle.rules.specs.SoundFacts.{BordersSound}
 use Rattle.rules.proofs.Leaves.SettingLaws.{Unset}
 
 module _ (s : State) (h : BordersSound s) where

@@ -16,7 +16,7 @@ use Rattle.model.proofs.StateLaws.{row-put}
 use Rattle.model.proofs.ChangeLaws.{released-slot, sized-released}
 use Rattle.rules.specs.Calls.{rowEnded, unpinnedAt, deliveredRow, deliveredRows, advanced, isLate, lateKilled, threeSteps, served}
 use Rattle.rules.specs.Run.{outcome}
-use Rattle.rules.proofs.Facts.SoundFacts.{Sound, BordersSound}
+use Rattle.rules.specs.SoundFacts.{Sound, BordersSound}
 use Rattle.rules.proofs.Leaves.CallEffects.{Effect, unchanged, starts, begins, unpins, ends, ticks, sets, serves, effect}
 use Rattle.rules.proofs.Leaves.SettingLaws.{served-unset}
 use Rattle.rules.proofs.Leaves.TickLaws.{later, later-row, ticked-row, ticked-slot}

@@ -8,9 +8,9 @@ use Rattle.model.specs.declared.State.{State}
 use Rattle.model.specs.Parties.{levelOf, classOf, lastClock}
 use Rattle.model.specs.State.{emptyHolding, rowAt, slotAt, holdingAt}
 use Rattle.model.specs.Words.{isLive, isFilled, pageIn, holds, conflict}
-use Rattle.model.proofs.StateLaws.{Sized}
+use Rattle.model.specs.Ranges.{Sized}
 use Rattle.model.proofs.PinLaws.{conflict-comm}
-use Rattle.rules.proofs.Facts.SoundFacts.{SlotSound, Held}
+use Rattle.rules.specs.SoundFacts.{SlotSound, Held}
 use Rattle.rules.proofs.Stays.StaysBase.{Base, SlotStays, HoldingStays, still-held, not-held, no-conflict-stays}
 
 -- a new slot has no holder, and its page is in no other slot

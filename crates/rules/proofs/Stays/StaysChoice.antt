@@ -16,7 +16,8 @@ use Rattle.model.specs.Words.{pins, seen}
 use Rattle.model.proofs.PinLaws.{not-pinned}
 use Rattle.model.proofs.SeenLaws.{not-seen, dormant-unheld}
 use Rattle.rules.specs.Choice.{heldAbove, seenPin, inE, inF, chosen}
-use Rattle.rules.proofs.Facts.SoundFacts.{Sound, empty-unheld}
+use Rattle.rules.specs.SoundFacts.{Sound}
+use Rattle.rules.proofs.Facts.SoundFacts.{empty-unheld}
 use Rattle.rules.proofs.Choosing.ChoiceSteps.{chosen-is}
 
 module _ (s : State) (row : ℕ) (b : row < 32) (h : Sound s) where

@@ -12,11 +12,12 @@ use Rattle.model.specs.declared.State.{State}
 use Rattle.model.specs.State.{freeRow, emptyHolding, rowAt, slotAt, holdingAt, putRow}
 use Rattle.model.specs.Words.{isFree, isLive, holds}
 use Rattle.model.specs.Changes.{dirtied, released, killed, killedRow, wroteSlot}
-use Rattle.model.proofs.StateLaws.{Sized, row-put, sized-put-row}
+use Rattle.model.specs.Ranges.{Sized}
+use Rattle.model.proofs.StateLaws.{row-put, sized-put-row}
 use Rattle.model.proofs.PlaceLaws.{closed-long}
 use Rattle.model.proofs.ChangeLaws.{released-holding, released-slot, sized-released, killed-row, killed-slot, killed-holding, sized-killed, killed-clock, killed-delay, killed-size, killed-borders}
 use Rattle.rules.specs.Calls.{rowEnded}
-use Rattle.rules.proofs.Facts.SoundFacts.{RowSound, OrderSound, Sound}
+use Rattle.rules.specs.SoundFacts.{RowSound, OrderSound, Sound}
 use Rattle.rules.proofs.Stays.StaysBase.{Base, base, whole, SlotStays, slot-marked, marked-touch, HoldingStays, same, gone}
 use Rattle.rules.proofs.Stays.StaysChange.{old-slot, old-holding, base-change}
 use Rattle.rules.proofs.Stays.StaysOrder.{order-stays, order-ended}

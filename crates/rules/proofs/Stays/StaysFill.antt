@@ -11,7 +11,7 @@ use Rattle.model.specs.State.{emptyHolding, rowAt, slotAt, holdingAt}
 use Rattle.model.specs.Words.{isFilled, pageIn, pins}
 use Rattle.model.specs.Changes.{cleared}
 use Rattle.rules.specs.Calls.{filled}
-use Rattle.rules.proofs.Facts.SoundFacts.{Sound}
+use Rattle.rules.specs.SoundFacts.{Sound}
 use Rattle.rules.proofs.Leaves.FillLaws.{filledSlot, sized-filled, filled-slot, filled-at, filled-holding, filled-empty}
 use Rattle.rules.proofs.Stays.StaysBase.{base, whole, slot-stays, HoldingStays, same, gone}
 use Rattle.rules.proofs.Stays.StaysOrder.{order-stays}

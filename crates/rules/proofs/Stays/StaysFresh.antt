@@ -12,7 +12,7 @@ use Rattle.model.specs.State.{fresh, slotAt}
 use Rattle.model.specs.Words.{isFilled, conflict}
 use Rattle.model.proofs.StateLaws.{fresh-row, fresh-slot, fresh-holding, fresh-sized}
 use Rattle.rules.specs.Sound.{sound}
-use Rattle.rules.proofs.Facts.SoundFacts.{Sound, BordersSound}
+use Rattle.rules.specs.SoundFacts.{Sound, BordersSound}
 use Rattle.rules.proofs.Facts.SoundBack.{back}
 
 module _ (slots delay : ℕ) where

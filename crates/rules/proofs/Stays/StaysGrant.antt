@@ -16,12 +16,14 @@ use Rattle.model.specs.declared.State.{State}
 use Rattle.model.specs.Parties.{levelOf}
 use Rattle.model.specs.State.{rowAt, slotAt, holdingAt, putHolding}
 use Rattle.model.specs.Words.{isLive, holds, pins}
-use Rattle.model.proofs.StateLaws.{Sized, sized-put-slot, sized-put-holding}
+use Rattle.model.specs.Ranges.{Sized}
+use Rattle.model.proofs.StateLaws.{sized-put-slot, sized-put-holding}
 use Rattle.model.proofs.PutLaws.{row-same, row-other, slot-same, slot-other, holding-same, holding-other-slot, holding-other-row}
 use Rattle.model.proofs.PinLaws.{pin-held}
 use Rattle.rules.specs.Sound.{awaits}
 use Rattle.rules.specs.Calls.{touched, granted}
-use Rattle.rules.proofs.Facts.SoundFacts.{RowSound, Held, Sound, live-taken}
+use Rattle.rules.specs.SoundFacts.{RowSound, Held, Sound}
+use Rattle.rules.proofs.Facts.SoundFacts.{live-taken}
 use Rattle.rules.proofs.Leaves.GrantLaws.{grantedHolding, grantedSlot, grantedRow}
 use Rattle.rules.proofs.Stays.StaysBase.{Base, base, SlotStays, slot-stays, slot-touched, same}
 use Rattle.rules.proofs.Stays.StaysChange.{old-slot, HoldingChange, old-holding, new-holding, base-change}

@@ -16,7 +16,7 @@ use Rattle.model.specs.Words.{isLive, isFilled, pageIn, arrivalIn, lowestIn, is
 use Rattle.model.proofs.PinLaws.{mode-held, mode-pin, stronger-is}
 use Rattle.rules.specs.Sound.{pinAllowed}
 use Rattle.rules.specs.Calls.{heldWith, withLowest}
-use Rattle.rules.proofs.Facts.SoundFacts.{Settled, Sound}
+use Rattle.rules.specs.SoundFacts.{Settled, Sound}
 use Rattle.rules.proofs.Leaves.GrantLaws.{grantedHolding}
 
 -- a row that may ask for a page: idle or waiting

@@ -15,10 +15,10 @@ use Rattle.model.specs.Parties.{rowOf, levelOf, numberOf}
 use Rattle.model.specs.State.{rowAt, placeAt}
 use Rattle.model.specs.Words.{isFree}
 use Rattle.model.specs.Changes.{rowsNotFree, movedUp, closedUp}
-use Rattle.model.proofs.StateLaws.{Sized}
+use Rattle.model.specs.Ranges.{Sized}
 use Rattle.model.proofs.PlaceLaws.{closed-at, moved-far, not-free-same}
 use Rattle.rules.specs.Calls.{lastPlace}
-use Rattle.rules.proofs.Facts.SoundFacts.{OrderSound}
+use Rattle.rules.specs.SoundFacts.{OrderSound}
 
 -- the row is free
 abbrev free : State → ℕ → Bool

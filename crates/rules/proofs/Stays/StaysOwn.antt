@@ -16,10 +16,12 @@ use Rattle.model.specs.Parties.{levelOf, mayAccess, isPast}
 use Rattle.model.specs.State.{rowAt, slotAt, holdingAt, withBegun, withPlaces, putRow, putSlot, putHolding}
 use Rattle.model.specs.Words.{isFree, isLive, holds}
 use Rattle.model.specs.Changes.{written}
-use Rattle.model.proofs.StateLaws.{Sized, sized-put-row, sized-put-slot, sized-put-holding}
+use Rattle.model.specs.Ranges.{Sized}
+use Rattle.model.proofs.StateLaws.{sized-put-row, sized-put-slot, sized-put-holding}
 use Rattle.model.proofs.PutLaws.{row-same, row-other, slot-same, slot-other, holding-same, holding-other-slot, holding-other-row}
 use Rattle.rules.specs.Calls.{lastPlace, rowBegun, unpinnedAt, waiting}
-use Rattle.rules.proofs.Facts.SoundFacts.{Settled, RowSound, OrderSound, Sound, live-taken}
+use Rattle.rules.specs.SoundFacts.{Settled, RowSound, OrderSound, Sound}
+use Rattle.rules.proofs.Facts.SoundFacts.{live-taken}
 use Rattle.rules.proofs.Leaves.UnpinLaws.{unpinnedHolding, unpinnedSlot}
 use Rattle.rules.proofs.Stays.StaysBase.{Base, base, base-places, whole, SlotStays, slot-stays, slot-marked, marked-touch, HoldingStays, same, loose}
 use Rattle.rules.proofs.Stays.StaysChange.{old-slot, old-holding, base-change}

@@ -12,7 +12,7 @@ use Rattle.model.specs.declared.State.{State}
 use Rattle.model.specs.State.{rowAt, holdingAt}
 use Rattle.model.specs.Words.{isLive, isPin, pins}
 use Rattle.rules.specs.Sound.{awaits, inTime}
-use Rattle.rules.proofs.Facts.SoundFacts.{Settled, Awaiting, RowSound}
+use Rattle.rules.specs.SoundFacts.{Settled, Awaiting, RowSound}
 use Rattle.rules.proofs.Stays.StaysBase.{HoldingStays, same, gone, loose, still-held}
 
 -- a holding that is not pinned is not pinned after

@@ -22,7 +22,8 @@ use Rattle.model.proofs.SeenLaws.{dormant-unheld, not-seen}
 use Rattle.model.proofs.ArrivalLaws.{least-is, least-first}
 use Rattle.rules.specs.Calls.{waiting, granted, conflicts, step2, step3, pinnersKilled, writeBack, filled, unseenAt, hitsDormant, served}
 use Rattle.rules.specs.Choice.{chosen}
-use Rattle.rules.proofs.Facts.SoundFacts.{Sound, held-taken}
+use Rattle.rules.specs.SoundFacts.{Sound}
+use Rattle.rules.proofs.Facts.SoundFacts.{held-taken}
 use Rattle.rules.proofs.Leaves.PageLaws.{found-slot, not-found}
 use Rattle.rules.proofs.Leaves.FillLaws.{filled-at, filled-empty}
 use Rattle.rules.proofs.Leaves.ServeCases.{Step, wait-1, grant-1, grant-2, grant-3, wait-g, fill, step}

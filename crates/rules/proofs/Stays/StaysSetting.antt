@@ -8,7 +8,7 @@ use Rattle.model.specs.declared.Borders.{Borders}
 use Rattle.model.specs.declared.State.{State}
 use Rattle.model.specs.State.{rowAt, slotAt, withBorders}
 use Rattle.model.specs.Words.{isLive}
-use Rattle.rules.proofs.Facts.SoundFacts.{Sound, BordersSound}
+use Rattle.rules.specs.SoundFacts.{Sound, BordersSound}
 use Rattle.rules.proofs.Stays.StaysBase.{base, whole, slot-stays, same}
 use Rattle.rules.proofs.Stays.StaysOrder.{order-stays}
 use Rattle.rules.proofs.Stays.StaysChange.{old-slot, old-holding, base-change}

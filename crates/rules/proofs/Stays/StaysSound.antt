@@ -12,7 +12,8 @@ use Rattle.model.proofs.PinLaws.{pin-held}
 use Rattle.rules.specs.Calls.{threeSteps}
 use Rattle.rules.specs.Run.{outcome, after}
 use Rattle.rules.specs.Sound.{sound}
-use Rattle.rules.proofs.Facts.SoundFacts.{Sound, BordersSound, facts, borders-facts}
+use Rattle.rules.specs.SoundFacts.{Sound, BordersSound}
+use Rattle.rules.proofs.Facts.SoundFacts.{facts, borders-facts}
 use Rattle.rules.proofs.Facts.SoundBack.{back}
 use Rattle.rules.proofs.Leaves.PageLaws.{found-below}
 use Rattle.rules.proofs.Leaves.CallEffects.{Effect, unchanged, starts, begins, unpins, ends, ticks, sets, serves, effect}

@@ -17,7 +17,8 @@ use Rattle.model.specs.Changes.{killed, wroteSlot}
 use Rattle.model.proofs.ChangeLaws.{killed-row, killed-slot, killed-holding, killed-clock, killed-delay, killed-borders}
 use Rattle.model.proofs.PinLaws.{no-pin}
 use Rattle.rules.specs.Calls.{granted, conflicts}
-use Rattle.rules.proofs.Facts.SoundFacts.{Sound, held-taken}
+use Rattle.rules.specs.SoundFacts.{Sound}
+use Rattle.rules.proofs.Facts.SoundFacts.{held-taken}
 use Rattle.rules.proofs.Leaves.GrantLaws.{own-spared, unheld-spared}
 use Rattle.rules.proofs.Stays.StaysBase.{slot-marked, same}
 use Rattle.rules.proofs.Stays.StaysRows.{settled-stays}

@@ -15,7 +15,8 @@ use Rattle.model.specs.State.{rowAt, slotAt, holdingAt}
 use Rattle.model.specs.Words.{isLive, holds, pins}
 use Rattle.rules.specs.Sound.{awaits, inTime}
 use Rattle.rules.specs.Calls.{delivered, deliveredRow, deliveredRows, isLate, lateKilled, advanced}
-use Rattle.rules.proofs.Facts.SoundFacts.{RowSound, OrderSound, Sound, live-taken}
+use Rattle.rules.specs.SoundFacts.{RowSound, OrderSound, Sound}
+use Rattle.rules.proofs.Facts.SoundFacts.{live-taken}
 use Rattle.rules.proofs.Leaves.TickLaws.{later, delivered-live, delivered-free, sized-later, later-row}
 use Rattle.rules.proofs.Stays.StaysBase.{Base, base, slot-stays, same}
 use Rattle.rules.proofs.Stays.StaysChange.{old-slot, old-holding, base-change}

@@ -5,7 +5,7 @@ use mathlib.Core.List.{List, []}
 use Prim.Native.Nat.{ℕ, _+_, _<_, _≤_}
 use native.Mathlib.Omega.{arith}
 use lib.Dec.{leb}
-use Rattle.seq.proofs.SortLaws.{Each}
+use Rattle.seq.specs.Order.{Each}
 use Rattle.model.specs.declared.Answer.the-variants.{Ready, Fetch}
 use Rattle.model.specs.declared.Back.{Back}
 use Rattle.model.specs.declared.Back.the-variants.{Nothing}
@@ -25,7 +25,8 @@ use Rattle.rules.specs.Answers.{pageBack, slotTold, backTold}
 use Rattle.rules.specs.Calls.{waiting, granted, pinnersKilled, writeBack, filled, served}
 use Rattle.rules.specs.Sound.{sound}
 use Rattle.rules.specs.Tries.{Tried, triedAs, tryRow, tries, waiters, allTried}
-use Rattle.rules.proofs.Facts.SoundFacts.{Sound, BordersSound, facts, borders-facts, held-taken}
+use Rattle.rules.specs.SoundFacts.{Sound, BordersSound}
+use Rattle.rules.proofs.Facts.SoundFacts.{facts, borders-facts, held-taken}
 use Rattle.rules.proofs.Facts.SoundBack.{back}
 use Rattle.rules.proofs.Leaves.PageLaws.{found-below}
 use Rattle.rules.proofs.Leaves.SettingLaws.{served-unset}

@@ -10,7 +10,7 @@ returns c = simp (c .if1 .taken)
 
 returns-2 : tie.Need-returns-2
 unfolding waitingTest
-returns-2 c = simp (tests, ← c .before .class-of .ensures .0, ← c .may-access .ensures, c .before .before .if3 .taken, c .before .before .before .if2 .taken, c .before .before .before .before .if1 .left)
+returns-2 c = simp (tests, ← c .before .class-of .ensures .0, ← c .may-access .ensures .0, c .before .before .if3 .taken, c .before .before .before .if2 .taken, c .before .before .before .before .if1 .left)
 
 returns-3 : tie.Need-returns-3
 unfolding waitingTest
