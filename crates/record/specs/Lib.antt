@@ -2,5 +2,6 @@ pub mod Record
 pub mod Text
 pub mod Play
 pub mod ShortRecord
+pub mod OldPlay
 -- for the code
 pub mod Inner

@@ -15,6 +15,7 @@ pub mod Drops
 pub mod FillLists
 pub mod Booking
 pub mod LetsGo
+pub mod EarlierClock
 pub mod Widths
 pub mod Deadlines
 pub mod TickFills

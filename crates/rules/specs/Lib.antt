@@ -4,6 +4,7 @@ pub mod Tries
 pub mod Listed
 pub mod Content
 pub mod Run
+pub mod EarlierClock
 pub mod BeginOrder
 pub mod Requests
 pub mod Arrivals
