@@ -2,7 +2,7 @@
 use mathlib.Core.Path.{_≡_, refl, sym, _∙_, ap}
 use mathlib.Core.Bool.{Bool, true, false, not, _||_}
 use mathlib.Core.List.{List, [], _∷_, _++_}
-use Prim.Native.Nat.{ℕ, zero, suc, _≤_}
+use Prim.Native.Nat.{ℕ, zero, suc, _≤_, _^_}
 use native.Mathlib.Omega.{arith}
 use borrow.Author.Tests.{le-ltb, le-leb, not-true}
 use lib.Dec.{lit<}
@@ -135,7 +135,7 @@ module _ (a : List ℕ) (c : Call) (z : fitArea a ≡ true) (f : Fits c) where
   changed-area e r =
       let s = fit-area a z .sound-state in
       let t = stays-sound (decoded a) c s in
-      accepted-area a c e r (sound-ok (outcome (decoded a) c .state) t (stays-narrow (decoded a) c s f (λ row. fit-ok a z .row row .deadline))) t
+      accepted-area a c e r (sound-ok (outcome (decoded a) c .state) t (stays-narrow (2 ^ 64) (lit< tt) (decoded a) c s (f .deadline) (λ row. fit-ok a z .row row .deadline))) t
 
   pub step-on : (answerOn a c ≡ outcome (decoded a) c .answer) × (decoded (areaAfter a c) ≡ outcome (decoded a) c .state) × (fitArea (areaAfter a c) ≡ true)
   step-on = let x = go (isRefused (answerOn a c)) (isReading c) refl refl in (answered, x .0, x .1)
@@ -184,7 +184,7 @@ start-on a slots delay n h i j k =
     let o : outcome (decoded a) (Start slots delay) ≡ record { state = fresh slots delay; answer = Started } = rw r in
     let w : answerOn a (Start slots delay) ≡ Started = fit-answer a (Start slots delay) (unfit-start a slots delay ∙ le-ltb (length a) 65536 n) ∙ rw o in
     let z = fresh-sound slots delay h i j k in
-    let x = accepted-area a (Start slots delay) (rw w) refl (rw o (sound-ok (fresh slots delay) z (fresh-narrow slots delay))) (rw o z) in
+    let x = accepted-area a (Start slots delay) (rw w) refl (rw o (sound-ok (fresh slots delay) z (fresh-narrow (2 ^ 64) (lit< tt) slots delay))) (rw o z) in
     (w, x .0 ∙ rw o, x .1)
 
 -- its bytes are those of the fresh state, whatever the area held before

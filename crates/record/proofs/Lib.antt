@@ -5,3 +5,4 @@ pub mod DecimalLaws
 pub mod PlayLaws
 pub mod RunLaws
 pub mod ShortRecords
+pub mod OldPlay

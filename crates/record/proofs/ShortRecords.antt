@@ -21,7 +21,7 @@ big-under x m [] u h = rw pow-zero (omega arith)
 big-under x m (b ∷ bs) u h = rw (pow-succ', ← mul-assoc) (big-under (x * 256 + b) (m * 256) bs (under-tail 256 b bs u) (omega (arith, u 0)))
 
 -- four bytes make a 32-bit number
-four-under : (r : List ℕ) (at : ℕ) → AllUnder 256 r → field r at 4 < 4294967296
+pub four-under : (r : List ℕ) (at : ℕ) → AllUnder 256 r → field r at 4 < 4294967296
 unfolding field
 four-under r at u =
     let bs = part r at 4 in

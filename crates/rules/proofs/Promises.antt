@@ -18,6 +18,7 @@ pub mod FillLists
 pub mod Booking
 pub mod LetsGo
 pub mod WasDirty
+pub mod EarlierClock
 pub mod Widths
 pub mod Deadlines
 pub mod TickFills

@@ -124,6 +124,6 @@ OfC (View level page) = U32 level × U32 page
 OfC (Count level) = U32 level
 OfC (Call.Borders first second third) = U32 first × U32 second × U32 third
 
--- each row's deadline is an unsigned 64-bit number
-abbrev pub Narrow : State → Type 0
-Narrow s = (row : ℕ) → rowAt s row .deadline < 2 ^ 64
+-- each row's deadline is below a bound
+abbrev pub Narrow : ℕ → State → Type 0
+Narrow n s = (row : ℕ) → rowAt s row .deadline < n

@@ -6,6 +6,7 @@ pub mod Listed
 pub mod ListRead
 pub mod Content
 pub mod Run
+pub mod EarlierClock
 pub mod BeginOrder
 pub mod Requests
 pub mod Taken

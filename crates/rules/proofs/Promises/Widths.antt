@@ -37,7 +37,7 @@ use Rattle.model.specs.declared.Call.{Call}
 use Rattle.model.specs.declared.Call.the-variants.{Start, Begin, Request, Unpin, End, Tick, Look, View, Count}
 use Rattle.model.specs.declared.Call.the-variants as Call
 use Rattle.rules.specs.Run.{outcome}
-use Rattle.rules.specs.Content.{Fits, Narrow, OfC}
+use Rattle.rules.specs.Content.{fields, Fits, Narrow, OfC}
 use Rattle.rules.specs.Tries.{allTried}
 use Rattle.rules.specs.SoundFacts.{Sound, BordersSound, Awaiting, RowSound}
 use Rattle.rules.proofs.Facts.SoundFacts.{facts, borders-facts}
@@ -61,71 +61,72 @@ everywhere P l d n e z f i = elim (decLt i n) [
 
 -- ---- the deadlines
 
-pub fresh-narrow : (slots delay : ℕ) → Narrow (fresh slots delay)
-fresh-narrow slots delay row = rw (fresh-row slots delay row) (omega arith)
+module _ (bound : ℕ) (positive : 0 < bound) where
+  pub fresh-narrow : (slots delay : ℕ) → Narrow bound (fresh slots delay)
+  fresh-narrow slots delay row = rw (fresh-row slots delay row) (omega arith)
 
-either : (b : Bool) (x y : Row) → x .deadline < 2 ^ 64 → y .deadline < 2 ^ 64 → cond b x y .deadline < 2 ^ 64
-either true x y h k = h
-either false x y h k = k
+  either : (b : Bool) (x y : Row) → x .deadline < bound → y .deadline < bound → cond b x y .deadline < bound
+  either true x y h k = h
+  either false x y h k = k
 
-module _ (s : State) (z : Sound s) (narrow : Narrow s) (q : ℕ) (b : q < 32) where
-  killed-narrow : (some : ℕ → Bool) (cause : Cause) (r : ℕ) → r < 32 → rowAt (killed some cause s) r .deadline < 2 ^ 64
-  killed-narrow some cause r h = rw (killed-row some s (z .sized) cause r h) (either (some r) (killedRow cause) (rowAt s r) (omega arith) (narrow r))
+  module _ (s : State) (z : Sound s) (narrow : Narrow bound s) (q : ℕ) (b : q < 32) where
+    killed-narrow : (some : ℕ → Bool) (cause : Cause) (r : ℕ) → r < 32 → rowAt (killed some cause s) r .deadline < bound
+    killed-narrow some cause r h = rw (killed-row some s (z .sized) cause r h) (either (some r) (killedRow cause) (rowAt s r) (omega arith) (narrow r))
 
-  -- a grant on a state with the rows that a kill left
-  granted-narrow : (some : ℕ → Bool) (u : State) → Sized u → ((r : ℕ) → rowAt u r ≡ rowAt (killed some Taken s) r)
-      → (row slot : ℕ) → row < 32 → slot < 64 → (mode : Mode) (arrival : ℕ) (back : Back) → rowAt (granted u row slot mode arrival back .state) q .deadline < 2 ^ 64
-  granted-narrow some u y same row slot r i mode arrival back =
-      rw (granted-row u y row slot r i mode arrival back q)
-      (either (eqb q row) (grantedRow u row arrival) (rowAt u q) (rw (same row) (killed-narrow some Taken row r)) (rw (same q) (killed-narrow some Taken q b)))
+    -- a grant on a state with the rows that a kill left
+    granted-narrow : (some : ℕ → Bool) (u : State) → Sized u → ((r : ℕ) → rowAt u r ≡ rowAt (killed some Taken s) r)
+        → (row slot : ℕ) → row < 32 → slot < 64 → (mode : Mode) (arrival : ℕ) (back : Back) → rowAt (granted u row slot mode arrival back .state) q .deadline < bound
+    granted-narrow some u y same row slot r i mode arrival back =
+        rw (granted-row u y row slot r i mode arrival back q)
+        (either (eqb q row) (grantedRow u row arrival) (rowAt u q) (rw (same row) (killed-narrow some Taken row r)) (rw (same q) (killed-narrow some Taken q b)))
 
-  served-narrow : (row page : ℕ) (mode : Mode) → row < 32 → (o : Outcome) → Serving s row page mode o → rowAt (o .state) q .deadline < 2 ^ 64
-  unfolding waiting filled cleared pinnersKilled
-  served-narrow row page mode r o (waits slot e v w k) = rw (k, row-put s (z .sized) row _ q r) (either (eqb q row) _ (rowAt s q) (narrow row) (narrow q))
-  served-narrow row page mode r o (waits-g e n k) = rw (k, row-put s (z .sized) row _ q r) (either (eqb q row) _ (rowAt s q) (narrow row) (narrow q))
-  served-narrow row page mode r o (joins slot arrival some e n k) =
-      let g = killed-ground s z some page slot e in
-      rw k (granted-narrow some _ (g .sized) (λ _. refl) row slot r (g .slot-is) mode arrival _)
-  served-narrow row page mode r o (fills slot e n k) =
-      let g = filled-ground s z page slot (levelOf row) (chosen-free s row r z slot n .0) in
-      rw k (granted-narrow _ _ (g .sized) (λ _. refl) row slot r (g .slot-is) mode _ _)
+    served-narrow : (row page : ℕ) (mode : Mode) → row < 32 → (o : Outcome) → Serving s row page mode o → rowAt (o .state) q .deadline < bound
+    unfolding waiting filled cleared pinnersKilled
+    served-narrow row page mode r o (waits slot e v w k) = rw (k, row-put s (z .sized) row _ q r) (either (eqb q row) _ (rowAt s q) (narrow row) (narrow q))
+    served-narrow row page mode r o (waits-g e n k) = rw (k, row-put s (z .sized) row _ q r) (either (eqb q row) _ (rowAt s q) (narrow row) (narrow q))
+    served-narrow row page mode r o (joins slot arrival some e n k) =
+        let g = killed-ground s z some page slot e in
+        rw k (granted-narrow some _ (g .sized) (λ _. refl) row slot r (g .slot-is) mode arrival _)
+    served-narrow row page mode r o (fills slot e n k) =
+        let g = filled-ground s z page slot (levelOf row) (chosen-free s row r z slot n .0) in
+        rw k (granted-narrow _ _ (g .sized) (λ _. refl) row slot r (g .slot-is) mode _ _)
 
-all-narrow : (s : State) → Sized s → ((q : ℕ) → q < 32 → rowAt s q .deadline < 2 ^ 64) → Narrow s
-all-narrow s z = everywhere (λ x. x .deadline < 2 ^ 64) (s .rows) freeRow 32 (z .rows) (omega arith)
+  all-narrow : (s : State) → Sized s → ((q : ℕ) → q < 32 → rowAt s q .deadline < bound) → Narrow bound s
+  all-narrow s z = everywhere (λ x. x .deadline < bound) (s .rows) freeRow 32 (z .rows) (omega arith)
 
--- a request that is served
-pub narrow-served : (s : State) → Sound s → Narrow s → (row page : ℕ) (mode : Mode) → row < 32 → Sized (served s row page mode .state) → Narrow (served s row page mode .state)
-narrow-served s z narrow row page mode b k =
-    all-narrow (served s row page mode .state) k (λ q r. served-narrow s z narrow q r row page mode b (served s row page mode) (serving s row page mode))
+  -- a request that is served
+  pub narrow-served : (s : State) → Sound s → Narrow bound s → (row page : ℕ) (mode : Mode) → row < 32 → Sized (served s row page mode .state) → Narrow bound (served s row page mode .state)
+  narrow-served s z narrow row page mode b k =
+      all-narrow (served s row page mode .state) k (λ q r. served-narrow s z narrow q r row page mode b (served s row page mode) (serving s row page mode))
 
--- the three steps of a tick, and each of its tries
-tried-narrow : (s : State) → Sound s → BordersSound s → Narrow s → Narrow (allTried s .state)
-tried-narrow = by-all-tried (λ s y. Narrow s → Narrow (y .state)) (λ s n. n)
-    (λ s row page mode y z b w next more n. more (narrow-served s z n row page mode b (next .sized)))
+  -- the three steps of a tick, and each of its tries
+  tried-narrow : (s : State) → Sound s → BordersSound s → Narrow bound s → Narrow bound (allTried s .state)
+  tried-narrow = by-all-tried (λ s y. Narrow bound s → Narrow bound (y .state)) (λ s n. n)
+      (λ s row page mode y z b w next more n. more (narrow-served s z n row page mode b (next .sized)))
 
-steps-narrow : (s : State) → Sound s → Narrow s → Narrow (threeSteps s)
-unfolding deliveredRow lateKilled
-steps-narrow s z narrow = all-narrow (threeSteps s) (sized-killed (isLate (later s)) (later s) (sized-later s (z .sized)) Late) (λ q b.
-    rw (ticked-row s (z .sized) q b) (either (isLate (later s) q) (killedRow Late) (deliveredRow (s .clock + 1) (rowAt s q)) (omega arith) (narrow q)))
+  steps-narrow : (s : State) → Sound s → Narrow bound s → Narrow bound (threeSteps s)
+  unfolding deliveredRow lateKilled
+  steps-narrow s z narrow = all-narrow (threeSteps s) (sized-killed (isLate (later s)) (later s) (sized-later s (z .sized)) Late) (λ q b.
+      rw (ticked-row s (z .sized) q b) (either (isLate (later s) q) (killedRow Late) (deliveredRow (s .clock + 1) (rowAt s q)) (omega arith) (narrow q)))
 
-module _ (s : State) (z : Sound s) (y : BordersSound s) (narrow : Narrow s) (q : ℕ) (b : q < 32) where
-  call-narrow : (c : Call) → Fits c → (o : Outcome) → Effect s c o → rowAt (o .state) q .deadline < 2 ^ 64
-  unfolding unpinnedAt released
-  call-narrow c f o (unchanged a x e) = rw e (narrow q)
-  call-narrow c f o (starts slots delay k x e) = rw e (fresh-narrow slots delay q)
-  call-narrow c f o (begins level number deadline k t e) =
-      rw (e, row-put s (z .sized) (rowOf level number) _ q (t .names .row-is)) (either (eqb q (rowOf level number)) _ (rowAt s q) ((rw k at f) .deadline) (narrow q))
-  call-narrow c f o (unpins level number page slot k t i p e) = rw e (narrow q)
-  call-narrow c f o (ends level number k n e) =
-      let row = rowOf level number in
-      rw (e, row-put (released (eqb row) s) (sized-released (eqb row) s (z .sized)) row freeRow q (n .names .row-is)) (either (eqb q row) freeRow (rowAt s q) (omega arith) (narrow q))
-  call-narrow c f o (ticks room k w x e) = rw e (tried-narrow (threeSteps s) (ticked-sound s z x) (ticked-borders s z y) (steps-narrow s z narrow) q)
-  call-narrow c f o (sets b k t e) = rw e (narrow q)
-  call-narrow c f o (serves row page mode r a x e) = served-narrow s z narrow q b row page mode r o (rw (← e) at (serving s row page mode))
+  module _ (s : State) (z : Sound s) (y : BordersSound s) (narrow : Narrow bound s) (q : ℕ) (b : q < 32) where
+    call-narrow : (c : Call) → fields c .deadline < bound → (o : Outcome) → Effect s c o → rowAt (o .state) q .deadline < bound
+    unfolding unpinnedAt released
+    call-narrow c f o (unchanged a x e) = rw e (narrow q)
+    call-narrow c f o (starts slots delay k x e) = rw e (fresh-narrow slots delay q)
+    call-narrow c f o (begins level number deadline k t e) =
+        rw (e, row-put s (z .sized) (rowOf level number) _ q (t .names .row-is)) (either (eqb q (rowOf level number)) _ (rowAt s q) (rw k at f) (narrow q))
+    call-narrow c f o (unpins level number page slot k t i p e) = rw e (narrow q)
+    call-narrow c f o (ends level number k n e) =
+        let row = rowOf level number in
+        rw (e, row-put (released (eqb row) s) (sized-released (eqb row) s (z .sized)) row freeRow q (n .names .row-is)) (either (eqb q row) freeRow (rowAt s q) (omega arith) (narrow q))
+    call-narrow c f o (ticks room k w x e) = rw e (tried-narrow (threeSteps s) (ticked-sound s z x) (ticked-borders s z y) (steps-narrow s z narrow) q)
+    call-narrow c f o (sets b k t e) = rw e (narrow q)
+    call-narrow c f o (serves row page mode r a x e) = served-narrow s z narrow q b row page mode r o (rw (← e) at (serving s row page mode))
 
-pub stays-narrow : (s : State) (c : Call) → sound s ≡ true → Fits c → Narrow s → Narrow (outcome s c .state)
-stays-narrow s c z f narrow =
-    all-narrow (outcome s c .state) (facts (outcome s c .state) (stays-sound s c z) .sized) (λ row b. call-narrow s (facts s z) (borders-facts s z) narrow row b c f (outcome s c) (effect s c))
+  pub stays-narrow : (s : State) (c : Call) → sound s ≡ true → fields c .deadline < bound → Narrow bound s → Narrow bound (outcome s c .state)
+  stays-narrow s c z f narrow =
+      all-narrow (outcome s c .state) (facts (outcome s c .state) (stays-sound s c z) .sized) (λ row b. call-narrow s (facts s z) (borders-facts s z) narrow row b c f (outcome s c) (effect s c))
 
 -- ---- the other numbers
 
@@ -184,7 +185,7 @@ borders-fit b e =
     record { first = omega (arith, x .first, x .second, x .third); second = omega (arith, x .second, x .third); third = omega (arith, x .third) }
 
 -- every number of the state fits its word
-pub sound-ok : (s : State) → sound s ≡ true → Narrow s → StateOk s
+pub sound-ok : (s : State) → sound s ≡ true → Narrow (2 ^ 64) s → StateOk s
 unfolding rowsNotFree
 sound-ok s e narrow = record {
   size = omega (arith, z .size-most);
