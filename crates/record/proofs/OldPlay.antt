@@ -10,17 +10,18 @@ use lib.Dec.{eqb, ltb, lit<}
 use lib.ListN.{length, getD, take, drop}
 use lib.Seq.{take-take}
 use Rattle.seq.proofs.Tests.{true-false, and-false-right, cond-same}
-use Rattle.words.proofs.ByteLaws.{AllUnder, under-take, under-drop}
+use Rattle.words.specs.Bytes.{AllUnder}
+use Rattle.words.proofs.ByteLaws.{under-take, under-drop}
 use Rattle.model.specs.declared.Answer.the-variants.{Refused, Started}
 use Rattle.model.specs.declared.Call.{Call}
 use Rattle.model.specs.declared.Call.the-variants.{Start}
 use Rattle.model.specs.declared.Outcome.{Outcome}
 use Rattle.model.specs.declared.State.{State}
 use Rattle.model.specs.State.{fresh}
-use Rattle.model.proofs.Ranges.{StateOk}
+use Rattle.model.specs.Ranges.{StateOk}
 use Rattle.rules.specs.Answers.{word, isClock}
 use Rattle.rules.specs.Calls.{unless, started, threeSteps}
-use Rattle.rules.specs.Content.{fields, isStart, isReading}
+use Rattle.rules.specs.Content.{fields, isStart, isReading, Narrow}
 use Rattle.rules.specs.EarlierClock.{outcomeUntil, MadeBefore}
 use Rattle.rules.specs.Refusals.{startRefusal}
 use Rattle.rules.specs.Run.{outcome, fillsOf}
@@ -30,7 +31,7 @@ use Rattle.rules.proofs.Leaves.CallEffects.{reading-still}
 use Rattle.rules.proofs.Leaves.ContentLaws.{start-is}
 use Rattle.rules.proofs.Leaves.RefusalFacts.{start-taken}
 use Rattle.rules.proofs.Promises.EarlierClock.{same-until, clock-below}
-use Rattle.rules.proofs.Promises.Widths.{Narrow, fresh-narrow, stays-narrow, sound-ok}
+use Rattle.rules.proofs.Promises.Widths.{fresh-narrow, stays-narrow, sound-ok}
 use Rattle.rules.proofs.Stays.StaysFresh.{fresh-sound}
 use Rattle.rules.proofs.Stays.StaysSound.{stays-sound}
 use Rattle.area.specs.Layout.{version, encoded, decoded}

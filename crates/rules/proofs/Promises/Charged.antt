@@ -25,7 +25,8 @@ use Rattle.model.proofs.SeenLaws.{not-seen}
 use Rattle.rules.specs.Arrivals.{Charged, waits, fetches}
 use Rattle.rules.specs.Calls.{waiting, granted, conflicts, step3, pinnersKilled, writeBack, filled, hitsDormant, served, viewedIn}
 use Rattle.rules.specs.Sound.{sound}
-use Rattle.rules.proofs.Facts.SoundFacts.{Sound, facts}
+use Rattle.rules.specs.SoundFacts.{Sound}
+use Rattle.rules.proofs.Facts.SoundFacts.{facts}
 use Rattle.rules.proofs.Leaves.FillLaws.{filled-empty, freed}
 use Rattle.rules.proofs.Leaves.GrantLaws.{own-spared}
 use Rattle.rules.proofs.Leaves.PageLaws.{found-has, found-below}

@@ -10,7 +10,7 @@ use borrow.Author.Tests.{ne-eqb}
 use lib.Dec.{leb, eqb}
 use Rattle.seq.specs.declared.Found.the-variants.{At}
 use Rattle.seq.proofs.Tests.{true-false, and-right, not-false-true}
-use Rattle.seq.proofs.SortLaws.{Each}
+use Rattle.seq.specs.Order.{Each}
 use Rattle.model.specs.declared.Back.{Back}
 use Rattle.model.specs.declared.Back.the-variants.{Nothing}
 use Rattle.model.specs.declared.Call.{Call}
@@ -25,7 +25,8 @@ use Rattle.model.specs.Parties.{rowOf, levelOf}
 use Rattle.model.specs.State.{freeRow, rowAt, slotAt, holdingAt}
 use Rattle.model.specs.Words.{arrivalIn, pinOf, conflict, pins, leastArrival, slotOf}
 use Rattle.model.specs.Changes.{released, killed, killedRow}
-use Rattle.model.proofs.StateLaws.{Sized, fresh-row, row-put}
+use Rattle.model.specs.Ranges.{Sized}
+use Rattle.model.proofs.StateLaws.{fresh-row, row-put}
 use Rattle.model.proofs.PutLaws.{row-other}
 use Rattle.rules.specs.Calls.{waiting, granted, conflicts, step2, step3, pinnersKilled, writeBack, filled, delivered, deliveredRow, isLate, unpinnedAt, threeSteps, served}
 use Rattle.rules.specs.Listed.{isIdleOrFetching}
@@ -35,7 +36,8 @@ use Rattle.rules.specs.Run.{outcome}
 use Rattle.rules.specs.Sound.{sound}
 use Rattle.rules.specs.Taken.{Takes, in-conflict, on-chosen, TakenBy}
 use Rattle.rules.specs.Tries.{Tried, tryRow, tries, waiters, allTried}
-use Rattle.rules.proofs.Facts.SoundFacts.{Sound, facts}
+use Rattle.rules.specs.SoundFacts.{Sound}
+use Rattle.rules.proofs.Facts.SoundFacts.{facts}
 use Rattle.rules.proofs.Leaves.CallEffects.{Effect, unchanged, starts, begins, unpins, ends, ticks, sets, serves, effect}
 use Rattle.rules.proofs.Leaves.FillLaws.{filled-row, freed}
 use Rattle.rules.proofs.Leaves.GrantLaws.{granted-row}

@@ -10,7 +10,7 @@ use lib.Dec.{leb}
 use Rattle.seq.specs.declared.Found.the-variants.{At}
 use Rattle.seq.proofs.Tests.{true-false, parts}
 use Rattle.seq.proofs.BelowLaws.{any-hit}
-use Rattle.seq.proofs.SortLaws.{Each}
+use Rattle.seq.specs.Order.{Each}
 use Rattle.model.specs.declared.Answer.{Answer}
 use Rattle.model.specs.declared.Answer.the-variants.{Clock}
 use Rattle.model.specs.declared.Back.{Back}
@@ -43,7 +43,8 @@ use Rattle.rules.specs.Run.{outcome, fillsOf}
 use Rattle.rules.specs.Slots.{WriterTaken, WasDirty, Reported}
 use Rattle.rules.specs.Sound.{sound}
 use Rattle.rules.specs.Tries.{Fill, Tried, filledBy, triedAs, tries, waiters, allTried}
-use Rattle.rules.proofs.Facts.SoundFacts.{Sound, facts}
+use Rattle.rules.specs.SoundFacts.{Sound}
+use Rattle.rules.proofs.Facts.SoundFacts.{facts}
 use Rattle.rules.proofs.Leaves.AnswerCases.{by-slot}
 use Rattle.rules.proofs.Leaves.CallEffects.{Effect, unchanged, starts, begins, unpins, ends, ticks, sets, serves, effect}
 use Rattle.rules.proofs.Leaves.FillLaws.{filled-row, freed}
