@@ -16,7 +16,7 @@ use Rattle.model.specs.declared.State.{State}
 use Rattle.model.specs.State.{rowAt}
 use Rattle.model.specs.Words.{outranks}
 use Rattle.rules.specs.Answers.{word, isClock}
-use Rattle.rules.specs.Listed.{isIdleOrFetching, Listed, GrantedFor, WaitedFor, EachFill, HasRow, OnceEach, InOrder}
+use Rattle.rules.specs.Listed.{isIdleOrFetching, Listed, GrantedFor, WaitedFor, EachFill, HasRow, OnceEach, RankedFills}
 use Rattle.rules.specs.ListRead.{fillsIn}
 use Rattle.rules.specs.Refusals.{isWaiting}
 use Rattle.rules.specs.Calls.{threeSteps}
@@ -74,7 +74,7 @@ module _ (a : List ℕ) (room clock : ℕ) (e : answerOn a (Tick room) ≡ Clock
   list-says list = rw (list-left list) (list-read (fillsOf (decoded a) (Tick room)) (drop 256 list) (fills-most (decoded a) (Tick room)))
 
   -- the row of every entry had better priority before the tick than the row of each later one
-  pub listed-in-order : InOrder (outranks (decoded a)) (fillsOf (decoded a) (Tick room))
+  pub listed-in-order : RankedFills (outranks (decoded a)) (fillsOf (decoded a) (Tick room))
   listed-in-order = let x = tick-on a room clock e in States.listed-in-order (decoded a) (x .sound-state) room clock (x .answer)
 
   -- after the tick each entry's row is idle or fetching and pins the slot that the entry names, which has the entry's page

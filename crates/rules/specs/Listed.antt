@@ -65,5 +65,5 @@ EachLater R [] = Unit {0}
 EachLater R (f ∷ fs) = EachFill (R f) fs × EachLater R fs
 
 -- the row of every entry comes before the row of each later one
-abbrev pub InOrder : (ℕ → ℕ → Bool) → List Fill → Type 0
-InOrder before = EachLater (λ f g. before (f .row) (g .row) ≡ true)
+abbrev pub RankedFills : (ℕ → ℕ → Bool) → List Fill → Type 0
+RankedFills before = EachLater (λ f g. before (f .row) (g .row) ≡ true)

@@ -21,7 +21,7 @@ use Rattle.model.specs.Words.{isLive, isHeld, isPin, outranks}
 use Rattle.model.proofs.PinLaws.{pin-held}
 use Rattle.model.proofs.PriorityLaws.{outranks-trans, outranks-kept}
 use Rattle.rules.specs.Calls.{served}
-use Rattle.rules.specs.Listed.{isIdleOrFetching, Listed, PinnedFor, GrantedFor, WaitedFor, EachFill, Some, HasRow, OnceEach, InOrder}
+use Rattle.rules.specs.Listed.{isIdleOrFetching, Listed, PinnedFor, GrantedFor, WaitedFor, EachFill, Some, HasRow, OnceEach, RankedFills}
 use Rattle.rules.specs.Refusals.{isWaiting}
 use Rattle.rules.specs.Sound.{sound}
 use Rattle.rules.specs.Tries.{Fill, Tried, filledBy, tries, waiters, allTried}
@@ -56,7 +56,7 @@ by-answer P row page x none one =
 -- the entries stand in the order in which their rows were tried
 module _ (before : ℕ → ℕ → Bool) where
   abbrev InTurn : List ℕ → State → Tried → Type 0
-  InTurn rows s y = ((r : ℕ) → Each (λ q. before r q ≡ true) rows → EachFill (λ f. before r (f .row) ≡ true) (y .fills)) × (Ranked before rows → InOrder before (y .fills))
+  InTurn rows s y = ((r : ℕ) → Each (λ q. before r q ≡ true) rows → EachFill (λ f. before r (f .row) ≡ true) (y .fills)) × (Ranked before rows → RankedFills before (y .fills))
 
   tries-in-order : (rows : List ℕ) (s : State) → InTurn rows s (tries rows s)
   tries-in-order = by-tries InTurn
@@ -66,7 +66,7 @@ module _ (before : ℕ → ℕ → Bool) where
         (λ r h.
             by-answer (λ xs. EachFill (λ f. before r (f .row) ≡ true) (xs ++ y .fills)) row page (served s row page mode .answer) (more .0 r (h .1))
             (λ f e. (rw e (h .0), more .0 r (h .1)))),
-        (λ k. by-answer (λ xs. InOrder before (xs ++ y .fills)) row page (served s row page mode .answer) (more .1 (k .1)) (λ f e. (rw e (more .0 row (k .0)), more .1 (k .1)))),
+        (λ k. by-answer (λ xs. RankedFills before (xs ++ y .fills)) row page (served s row page mode .answer) (more .1 (k .1)) (λ f e. (rw e (more .0 row (k .0)), more .1 (k .1)))),
       ))
 
 -- ---- which rows have entries
@@ -256,7 +256,7 @@ module _ (u : State) (z : sound u ≡ true) where
   fills-hold = each-fill (GrantedFor u (allTried u .state)) (Listed (allTried u .state)) (λ f k. k .2 .0) (allTried u .fills) fills-granted
 
   -- the row of each entry outranks that of every later one
-  pub fills-in-order : InOrder (outranks u) (allTried u .fills)
+  pub fills-in-order : RankedFills (outranks u) (allTried u .fills)
   unfolding allTried
   fills-in-order = tries-in-order (outranks u) (waiters u) u .1 (ranked u z)
 

@@ -18,7 +18,7 @@ use Rattle.model.specs.Changes.{killedRow}
 use Rattle.model.proofs.PriorityLaws.{outranks-kept}
 use Rattle.rules.specs.Answers.{word}
 use Rattle.rules.specs.Calls.{delivered, deliveredRow, isLate, threeSteps}
-use Rattle.rules.specs.Listed.{isIdleOrFetching, Listed, GrantedFor, WaitedFor, EachFill, HasRow, OnceEach, InOrder}
+use Rattle.rules.specs.Listed.{isIdleOrFetching, Listed, GrantedFor, WaitedFor, EachFill, HasRow, OnceEach, RankedFills}
 use Rattle.rules.specs.Refusals.{isWaiting}
 use Rattle.rules.specs.Run.{outcome, fillsOf}
 use Rattle.rules.specs.Sound.{sound}
@@ -93,7 +93,7 @@ module _ (s : State) (z : sound s ≡ true) (room clock : ℕ) (accepted : outco
   listed-waited = each-fill (GrantedFor s (outcome s (Tick room) .state)) (WaitedFor s) (λ f h. (h .0, h .1)) (fillsOf s (Tick room)) listed-granted
 
   -- the row of every entry had better priority before the tick than the row of each later one
-  pub listed-in-order : InOrder (outranks s) (fillsOf s (Tick room))
+  pub listed-in-order : RankedFills (outranks s) (fillsOf s (Tick room))
   listed-in-order = rw listed
       (each-later (GrantedFor u (allTried u .state)) (λ f g. outranks u (f .row) (g .row) ≡ true) (λ f g. outranks s (f .row) (g .row) ≡ true)
       (λ f g h k o. outranks-kept s u (f .row) (g .row) (sym (ticked-places s (facts s z .sized))) (deadline f h) (deadline g k) ∙ o)
