@@ -2,10 +2,10 @@
 use mathlib.Core.Path.{_≡_, refl, sym, _∙_, ap, subst}
 use mathlib.Core.Bool.{Bool, true, false, cond, not, _||_}
 use mathlib.Core.List.{List, [], _∷_, _++_}
-use Prim.Native.Nat.{ℕ, zero, suc, _<_, _≤_, _^_}
+use Prim.Native.Nat.{ℕ, zero, suc, _+_, _<_, _≤_, _^_}
 use native.Mathlib.Decide.{ℕ-discrete}
 use native.Mathlib.Omega.{arith}
-use borrow.Author.Tests.{le-ltb}
+use borrow.Author.Tests.{le-ltb, eqb-true}
 use lib.Dec.{eqb, ltb, lit<}
 use lib.ListN.{length, getD, take, drop}
 use lib.Seq.{take-take}
@@ -21,7 +21,7 @@ use Rattle.model.specs.State.{fresh}
 use Rattle.model.specs.Ranges.{StateOk}
 use Rattle.rules.specs.Answers.{word, isClock}
 use Rattle.rules.specs.Calls.{unless, started, threeSteps}
-use Rattle.rules.specs.Content.{fields, isStart, isReading, Narrow}
+use Rattle.rules.specs.Content.{fields, isStart, isTick, isReading, Narrow}
 use Rattle.rules.specs.EarlierClock.{outcomeUntil, MadeBefore}
 use Rattle.rules.specs.Refusals.{startRefusal}
 use Rattle.rules.specs.Run.{outcome, fillsOf}
@@ -45,7 +45,7 @@ use Rattle.record.specs.declared.Input.{Input}
 use Rattle.record.specs.declared.Input.the-variants.{Bad, Good}
 use Rattle.record.specs.declared.Progress.{Progress}
 use Rattle.record.specs.Record.{bigEndian, field, longMark, shortMark, shortWidth, recordWidth, recordOf}
-use Rattle.record.specs.ShortRecord.{shortKinds, shortIsWhole, shortRecordOf, shortFirst, shortRecordsOf}
+use Rattle.record.specs.ShortRecord.{shortKinds, shortIsWhole, shortRecordOf, shortFirst, shortRecordsOf, NoneLong}
 use Rattle.record.specs.Text.{header}
 use Rattle.record.specs.Play.{admitted, answerTo, areaWith, zeroList, listWith, Played, nextProgress, playedRecord, unplayed, playedOne, andThen, played, firstRecords, recordsOf, firstProgress, printed}
 use Rattle.record.specs.OldPlay.{oldOutcome, oldUnfit, oldAnswerOn, oldAreaAfter, oldListAfter, oldAnswerTo, oldAreaWith, oldListWith, oldPlayedRecord, oldPlayedOne, oldPlayed, oldPrinted, IsOld, AllOld, OldInput}
@@ -55,23 +55,32 @@ use Rattle.record.proofs.ShortRecords.{four-under, short-record}
 
 -- ---- two areas that name one state, each in its layout
 
-record Same (a b : List ℕ) : Type 0 where
+record Same (last : ℕ) (a b : List ℕ) : Type 0 where
   new : soundArea a ≡ true
   old : soundArea32 b ≡ true
   named : decoded a ≡ Old.decoded b
-  early : decoded a .clock ≤ lastClock32
+  early : decoded a .clock ≤ last
   narrow : Narrow (2 ^ 32) (decoded a)
 
 -- before an accepted start the areas are one, and after it they name one state
-abbrev Alike : Bool → List ℕ → List ℕ → Type 0
-Alike false a b = a ≡ b
-Alike true a b = Same a b
+abbrev Alike : ℕ → Bool → List ℕ → List ℕ → Type 0
+Alike last false a b = a ≡ b
+Alike last true a b = Same last a b
+
+wider : (k m : ℕ) (a b : List ℕ) → k ≤ m → Same k a b → Same m a b
+wider k m a b h x = record { new = x .new; old = x .old; named = x .named; early = omega (arith, x .early); narrow = x .narrow }
+
+-- a clock that is at most k, and before the old last tick, is at most m after a tick
+record Rises (k m : ℕ) : Type 0 where
+  least : k ≤ m
+  most : m ≤ lastClock32
+  before : (n : ℕ) → n ≤ k → n < lastClock32 → n < m
 
 -- a state that both layouts can have, in both
-made : (s : State) → sound s ≡ true → s .clock ≤ lastClock32 → Narrow (2 ^ 32) s → (r q : List ℕ) → Same (encoded s ++ r) (Old.encoded s ++ q)
-made s z early narrow r q =
+made : (last : ℕ) → last ≤ lastClock32 → (s : State) → sound s ≡ true → s .clock ≤ last → Narrow (2 ^ 32) s → (r q : List ℕ) → Same last (encoded s ++ r) (Old.encoded s ++ q)
+made last most s z early narrow r q =
     let ok : StateOk s = sound-ok s z (λ row. omega (arith, narrow row)) in
-    let o = old-made s z early narrow q in
+    let o = old-made s z (omega arith) narrow q in
     let n : decoded (encoded s ++ r) ≡ s = decode-encode version (lit< tt) s ok r in
     record { new = encode-sound s ok r z; old = o .0; named = n ∙ sym (o .1); early = rw n early; narrow = rw n narrow }
 
@@ -79,7 +88,7 @@ made s z early narrow r q =
 taken : (start fit : Bool) (n : ℕ) → 65536 ≤ n → fit ≡ true → cond start (ltb n 65536) (not fit) ≡ false
 taken start fit n h e = rw (le-ltb n 65536 h, e) (cond-same start false)
 
-module _ (a b : List ℕ) (x : Same a b) (c : Call) (early : MadeBefore lastClock32 (decoded a) c) where
+module _ (k : ℕ) (a b : List ℕ) (x : Same k a b) (c : Call) (early : MadeBefore lastClock32 (decoded a) c) where
   abbrev s : State
   s = decoded a
 
@@ -103,9 +112,9 @@ module _ (a b : List ℕ) (x : Same a b) (c : Call) (early : MadeBefore lastCloc
       go false = refl
 
   -- with a deadline of 32 bits the areas that it leaves name one state again
-  next-same : fields c .deadline < 2 ^ 32 → Same (areaAfter a c) (oldAreaAfter b c)
+  next-same : (m : ℕ) → Rises k m → fields c .deadline < 2 ^ 32 → Same m (areaAfter a c) (oldAreaAfter b c)
   unfolding areaAfter oldAreaAfter
-  next-same f = rw (answered, old-answered, same-outcome) (go (isRefused (outcome s c .answer)) (isReading c) refl)
+  next-same m v f = rw (answered, old-answered, same-outcome) (go (isRefused (outcome s c .answer)) (isReading c) refl)
     where
       z : sound s ≡ true
       z = sound-area a (x .new) .sound-state
@@ -116,94 +125,94 @@ module _ (a b : List ℕ) (x : Same a b) (c : Call) (early : MadeBefore lastCloc
       sound-next : sound t ≡ true
       sound-next = stays-sound s c z
 
-      early-next : t .clock ≤ lastClock32
-      early-next = clock-below lastClock32 s c z (x .early) early
+      early-next : t .clock ≤ m
+      early-next = clock-below m s c z (omega (arith, x .early, v .least)) (λ e. v .before (s .clock) (x .early) (early e))
 
       narrow-next : Narrow (2 ^ 32) t
       narrow-next = stays-narrow (2 ^ 32) (lit< tt) s c z f (x .narrow)
 
-      go : (refused reading : Bool) → isReading c ≡ reading → Same (cond (refused || reading) a (encoded t ++ drop 65536 a)) (cond refused b (Old.encoded t ++ drop 65536 b))
-      go true reading e = x
+      go : (refused reading : Bool) → isReading c ≡ reading → Same m (cond (refused || reading) a (encoded t ++ drop 65536 a)) (cond refused b (Old.encoded t ++ drop 65536 b))
+      go true reading e = wider k m a b (v .least) x
       go false true e =
-          let o = old-made t sound-next early-next narrow-next (drop 65536 b) in
-          record { new = x .new; old = o .0; named = sym (reading-still s c e) ∙ sym (o .1); early = x .early; narrow = x .narrow }
-      go false false e = made t sound-next early-next narrow-next (drop 65536 a) (drop 65536 b)
+          let o = old-made t sound-next (omega (arith, early-next, v .most)) narrow-next (drop 65536 b) in
+          record { new = x .new; old = o .0; named = sym (reading-still s c e) ∙ sym (o .1); early = omega (arith, x .early, v .least); narrow = x .narrow }
+      go false false e = made m (v .most) t sound-next early-next narrow-next (drop 65536 a) (drop 65536 b)
 
 -- ---- a start on any area
 
-fresh-early : (slots delay : ℕ) → fresh slots delay .clock ≤ lastClock32
+fresh-early : (last slots delay : ℕ) → fresh slots delay .clock ≤ last
 unfolding fresh
-fresh-early slots delay = omega arith
+fresh-early last slots delay = omega arith
 
-fresh-same : (slots delay : ℕ) → startRefusal slots delay ≡ 0 → (r q : List ℕ) → Same (encoded (fresh slots delay) ++ r) (Old.encoded (fresh slots delay) ++ q)
-fresh-same slots delay e =
+fresh-same : (last : ℕ) → last ≤ lastClock32 → (slots delay : ℕ) → startRefusal slots delay ≡ 0 → (r q : List ℕ) → Same last (encoded (fresh slots delay) ++ r) (Old.encoded (fresh slots delay) ++ q)
+fresh-same last most slots delay e =
     let t = start-taken slots delay e in
-    made (fresh slots delay) (fresh-sound slots delay (t .slots-least) (t .slots-most) (t .delay-least) (t .delay-most)) (fresh-early slots delay) (fresh-narrow (2 ^ 32) (lit< tt) slots delay)
+    made last most (fresh slots delay) (fresh-sound slots delay (t .slots-least) (t .slots-most) (t .delay-least) (t .delay-most)) (fresh-early last slots delay) (fresh-narrow (2 ^ 32) (lit< tt) slots delay)
 
-module _ (a : List ℕ) (slots delay : ℕ) where
+module _ (last : ℕ) (most : last ≤ lastClock32) (a : List ℕ) (slots delay : ℕ) where
   abbrev anew : Outcome
   anew = record { state = fresh slots delay; answer = Started }
 
   start-same : (answerOn a (Start slots delay) ≡ oldAnswerOn a (Start slots delay))
-      × Alike (not (isRefused (answerOn a (Start slots delay)))) (areaAfter a (Start slots delay)) (oldAreaAfter a (Start slots delay))
+      × Alike last (not (isRefused (answerOn a (Start slots delay)))) (areaAfter a (Start slots delay)) (oldAreaAfter a (Start slots delay))
   unfolding answerOn oldAnswerOn unfit oldUnfit areaAfter oldAreaAfter outcomeUntil outcome started word
   start-same = go (ltb (length a) 65536) (startRefusal slots delay) refl
     where
       go : (short : Bool) (n : ℕ) → startRefusal slots delay ≡ n
           → let v = cond short (Refused 1) (unless n (decoded a) anew .answer) in
           let w = cond short (Refused 1) (unless n (Old.decoded a) anew .answer) in
-          (v ≡ w) × Alike (not (isRefused v)) (cond (isRefused v || false) a (encoded (unless n (decoded a) anew .state) ++ drop 65536 a))
+          (v ≡ w) × Alike last (not (isRefused v)) (cond (isRefused v || false) a (encoded (unless n (decoded a) anew .state) ++ drop 65536 a))
           (cond (isRefused w) a (Old.encoded (unless n (Old.decoded a) anew .state) ++ drop 65536 a))
       go true n e = (refl, refl)
-      go false zero e = (refl, fresh-same slots delay e (drop 65536 a) (drop 65536 a))
+      go false zero e = (refl, fresh-same last most slots delay e (drop 65536 a) (drop 65536 a))
       go false (suc n) e = (refl, refl)
 
 -- ---- a record
 
 -- what both print, where both stand, and the areas that both leave while the run goes on
-record OneSame (p q : Played) : Type 0 where
+record OneSame (last : ℕ) (p q : Played) : Type 0 where
   text : p .text ≡ q .text
   progress : p .progress ≡ q .progress
-  areas : p .progress .over ≡ false → Alike (p .progress .started) (p .area) (q .area)
+  areas : p .progress .over ≡ false → Alike last (p .progress .started) (p .area) (q .area)
 
 -- a deadline of 32 bits
 abbrev Small : Input → Type 0
 Small Bad = Unit {0}
 Small (Good c) = fields c .deadline < 2 ^ 32
 
-module _ (over : Bool) (number : ℕ) where
+module _ (k m : ℕ) (v : Rises k m) (over : Bool) (number : ℕ) where
   abbrev at : Bool → Progress
   at started = record { started = started; over = over; number = number }
 
-  bad-same : (started : Bool) (a b : List ℕ) → OneSame (playedRecord (at started) a Bad) (oldPlayedRecord (at started) b Bad)
+  bad-same : (started : Bool) (a b : List ℕ) → OneSame m (playedRecord (at started) a Bad) (oldPlayedRecord (at started) b Bad)
   unfolding playedRecord oldPlayedRecord answerTo oldAnswerTo areaWith oldAreaWith listWith oldListWith nextProgress
   bad-same started a b = record { text = refl; progress = refl; areas = λ e. true-false e }
 
-  call-same : (a b : List ℕ) → Same a b → (c : Call) → Small (Good c) → MadeBefore lastClock32 (decoded a) c
-      → OneSame (playedRecord (at true) a (Good c)) (oldPlayedRecord (at true) b (Good c))
+  call-same : (a b : List ℕ) → Same k a b → (c : Call) → Small (Good c) → MadeBefore lastClock32 (decoded a) c
+      → OneSame m (playedRecord (at true) a (Good c)) (oldPlayedRecord (at true) b (Good c))
   unfolding playedRecord oldPlayedRecord answerTo oldAnswerTo areaWith oldAreaWith listWith oldListWith nextProgress
   call-same a b x c small early =
-      let e : answerOn a c ≡ oldAnswerOn b c = answered a b x c early ∙ sym (old-answered a b x c early) in
-      record { text = rw (e, same-list a b x c early zeroList); progress = refl; areas = λ _. next-same a b x c early small }
+      let e : answerOn a c ≡ oldAnswerOn b c = answered k a b x c early ∙ sym (old-answered k a b x c early) in
+      record { text = rw (e, same-list k a b x c early zeroList); progress = refl; areas = λ _. next-same k a b x c early m v small }
 
-  start-played : (a : List ℕ) (slots delay : ℕ) → OneSame (playedRecord (at false) a (Good (Start slots delay))) (oldPlayedRecord (at false) a (Good (Start slots delay)))
+  start-played : (a : List ℕ) (slots delay : ℕ) → OneSame m (playedRecord (at false) a (Good (Start slots delay))) (oldPlayedRecord (at false) a (Good (Start slots delay)))
   unfolding playedRecord oldPlayedRecord answerTo oldAnswerTo areaWith oldAreaWith listWith oldListWith nextProgress
   start-played a slots delay =
-      let x = start-same a slots delay in
+      let x = start-same m (v .most) a slots delay in
       record { text = rw (x .0); progress = rw (x .0); areas = λ _. x .1 }
 
-  admitted-same : (started : Bool) (a b r : List ℕ) (i : Input) → Alike started a b → Small i → IsOld a r (admitted started i)
-      → OneSame (playedRecord (at started) a (admitted started i)) (oldPlayedRecord (at started) b (admitted started i))
+  admitted-same : (started : Bool) (a b r : List ℕ) (i : Input) → Alike k started a b → Small i → IsOld a r (admitted started i)
+      → OneSame m (playedRecord (at started) a (admitted started i)) (oldPlayedRecord (at started) b (admitted started i))
   unfolding admitted
-  admitted-same true a b r Bad x small k = bad-same true a b
-  admitted-same true a b r (Good c) x small k = call-same a b x c small (k .1)
-  admitted-same false a b r Bad x small k = bad-same false a b
-  admitted-same false a b r (Good c) x small k = go (isStart c) refl
+  admitted-same true a b r Bad x small h = bad-same true a b
+  admitted-same true a b r (Good c) x small h = call-same a b x c small (h .1)
+  admitted-same false a b r Bad x small h = bad-same false a b
+  admitted-same false a b r (Good c) x small h = go (isStart c) refl
     where
-      go : (start : Bool) → isStart c ≡ start → OneSame (playedRecord (at false) a (cond start (Good c) Bad)) (oldPlayedRecord (at false) b (cond start (Good c) Bad))
+      go : (start : Bool) → isStart c ≡ start → OneSame m (playedRecord (at false) a (cond start (Good c) Bad)) (oldPlayedRecord (at false) b (cond start (Good c) Bad))
       go true e =
-          subst (λ (d : List ℕ). OneSame (playedRecord (at false) a (Good c)) (oldPlayedRecord (at false) d (Good c))) x
-          (subst (λ (d : Call). OneSame (playedRecord (at false) a (Good d)) (oldPlayedRecord (at false) a (Good d))) (sym (start-is c e)) (start-played a (fields c .slots) (fields c .delay)))
+          subst (λ (d : List ℕ). OneSame m (playedRecord (at false) a (Good c)) (oldPlayedRecord (at false) d (Good c))) x
+          (subst (λ (d : Call). OneSame m (playedRecord (at false) a (Good d)) (oldPlayedRecord (at false) a (Good d))) (sym (start-is c e)) (start-played a (fields c .slots) (fields c .delay)))
       go false e = bad-same false a b
 
 -- ---- the bytes of a record
@@ -231,15 +240,19 @@ short-small r u = go (shortIsWhole r)
     go false = tt
 
 -- a record without the mark C3 5B
-one-same : (t : Progress) (a b : List ℕ) → (t .over ≡ false → Alike (t .started) a b) → (r : List ℕ) → AllUnder 256 r → (field r 0 2 ≡ longMark → ⊥)
-    → (t .over ≡ false → IsOld a r (admitted (t .started) (recordOf r))) → OneSame (playedOne t a r) (oldPlayedOne t b r)
+one-same : (k m : ℕ) → Rises k m → (t : Progress) (a b : List ℕ) → (t .over ≡ false → Alike k (t .started) a b) → (r : List ℕ) → AllUnder 256 r → (field r 0 2 ≡ longMark → ⊥)
+    → (t .over ≡ false → IsOld a r (admitted (t .started) (recordOf r))) → OneSame m (playedOne t a r) (oldPlayedOne t b r)
 unfolding playedOne oldPlayedOne
-one-same t a b x r u m k = rw (short-record r u m) (go (t .over) x (rw (short-record r u m) at k))
+one-same k m v t a b x r u e h = rw (short-record r u e) (go (t .over) x (rw (short-record r u e) at h))
   where
-    go : (over : Bool) → (over ≡ false → Alike (t .started) a b) → (over ≡ false → IsOld a r (admitted (t .started) (shortRecordOf r)))
-        → OneSame (cond over (unplayed t a) (playedRecord t a (admitted (t .started) (shortRecordOf r)))) (cond over (unplayed t b) (oldPlayedRecord t b (admitted (t .started) (shortRecordOf r))))
-    go true y o = record { text = refl; progress = refl; areas = x }
-    go false y o = admitted-same (t .over) (t .number) (t .started) a b r (shortRecordOf r) (y refl) (short-small r u) (o refl)
+    still : (started : Bool) → Alike k started a b → Alike m started a b
+    still false y = y
+    still true y = wider k m a b (v .least) y
+
+    go : (over : Bool) → (over ≡ false → Alike k (t .started) a b) → (over ≡ false → IsOld a r (admitted (t .started) (shortRecordOf r)))
+        → OneSame m (cond over (unplayed t a) (playedRecord t a (admitted (t .started) (shortRecordOf r)))) (cond over (unplayed t b) (oldPlayedRecord t b (admitted (t .started) (shortRecordOf r))))
+    go true y o = record { text = refl; progress = refl; areas = λ e. still (t .started) (x e) }
+    go false y o = admitted-same k m v (t .over) (t .number) (t .started) a b r (shortRecordOf r) (y refl) (short-small r u) (o refl)
 
 -- one with it is bad in both readings, or no old one
 bad-admitted : (started : Bool) → admitted started Bad ≡ Bad
@@ -283,7 +296,11 @@ front : (w : ℕ) (l : List ℕ) → 2 ≤ w → field (take w l) 0 2 ≡ field 
 unfolding field
 front w l h = ap (bigEndian 0) (take-take 2 w l h)
 
-plays : (n : ℕ) (bytes : List ℕ) → AllUnder 256 bytes → (t : Progress) (a b : List ℕ) → (t .over ≡ false → Alike (t .started) a b) → AllOld t a (firstRecords n bytes)
+-- the old last tick itself
+until : Rises lastClock32 lastClock32
+until = record { least = omega arith; most = omega arith; before = λ n _ h. h }
+
+plays : (n : ℕ) (bytes : List ℕ) → AllUnder 256 bytes → (t : Progress) (a b : List ℕ) → (t .over ≡ false → Alike lastClock32 (t .started) a b) → AllOld t a (firstRecords n bytes)
     → played t a (firstRecords n bytes) .text ≡ oldPlayed t b (shortFirst n bytes) .text
 unfolding played oldPlayed firstRecords shortFirst
 plays zero bytes u t a b x k = refl
@@ -303,7 +320,7 @@ plays (suc n) (d ∷ ds) u t a b x k = elim (ℕ-discrete (field (d ∷ ds) 0 2)
       let w : shortWidth ≡ recordWidth l = short-width l (field l 0 2) refl e in
       let r = take shortWidth l in
       let h = rw (← w) at k in
-      let y = one-same t a b x r (under-take 256 shortWidth l u) (λ z. e (sym (front shortWidth l (omega arith)) ∙ z)) (h .0) in
+      let y = one-same lastClock32 lastClock32 until t a b x r (under-take 256 shortWidth l u) (λ z. e (sym (front shortWidth l (omega arith)) ∙ z)) (h .0) in
       let p = playedOne t a r in
       let o = oldPlayedOne t b r in
       let rest = plays n (drop shortWidth l) (under-drop 256 shortWidth l u) (p .progress) (p .area) (o .area) (y .areas) (h .1) in
@@ -315,3 +332,39 @@ plays (suc n) (d ∷ ds) u t a b x k = elim (ℕ-discrete (field (d ∷ ds) 0 2)
 pub old-records-play : (a input : List ℕ) → AllUnder 256 input → OldInput a input → printed a input ≡ oldPrinted a input
 unfolding printed oldPrinted recordsOf shortRecordsOf firstProgress
 old-records-play a input u h = ap (λ (l : List ℕ). header ++ l) (plays (length input) input u firstProgress a a (λ _. refl) h)
+
+-- ---- no record of 16 bytes, and no more records than the clock had ticks
+
+start-no-tick : (c : Call) → isStart c ≡ true → isTick c ≡ true → ⊥
+start-no-tick c e f = omega (arith, eqb-true (fields c .kind) 0 e, eqb-true (fields c .kind) 6 f)
+
+one-old : (k : ℕ) → k < lastClock32 → (started : Bool) (a b r : List ℕ) → Alike k started a b → (field r 0 2 ≡ longMark → ⊥) → (i : Input) → IsOld a r (admitted started i)
+unfolding admitted
+one-old k h true a b r x e Bad = tt
+one-old k h true a b r x e (Good c) = (e, λ _. omega (arith, x .early))
+one-old k h false a b r x e Bad = tt
+one-old k h false a b r x e (Good c) = go (isStart c) refl
+  where
+    go : (start : Bool) → isStart c ≡ start → IsOld a r (cond start (Good c) Bad)
+    go true s = (e, λ f. absurd (start-no-tick c s f))
+    go false s = tt
+
+few : (n : ℕ) (bytes : List ℕ) → AllUnder 256 bytes → NoneLong (shortFirst n bytes) → (k : ℕ) → k + length (shortFirst n bytes) ≤ lastClock32
+    → (t : Progress) (a b : List ℕ) → (t .over ≡ false → Alike k (t .started) a b) → AllOld t a (firstRecords n bytes)
+unfolding firstRecords shortFirst
+few zero bytes u h k l t a b x = tt
+few (suc n) [] u h k l t a b x = tt
+few (suc n) (d ∷ ds) u h k l t a b x =
+    let bytes = d ∷ ds in
+    let r = take shortWidth bytes in
+    let w : shortWidth ≡ recordWidth bytes = short-width bytes (field bytes 0 2) refl (λ e. h .0 (front shortWidth bytes (omega arith) ∙ e)) in
+    let rises : Rises k (k + 1) = record { least = omega arith; most = omega (arith, l); before = λ n e _. omega arith } in
+    let old : t .over ≡ false → IsOld a r (admitted (t .started) (recordOf r)) = λ e. one-old k (omega (arith, l)) (t .started) a b r (x e) (h .0) (recordOf r) in
+    let y = one-same k (k + 1) rises t a b x r (under-take 256 shortWidth bytes u) (h .0) old in
+    let rest = few n (drop shortWidth bytes) (under-drop 256 shortWidth bytes u) (h .1) (k + 1) (omega (arith, l)) (playedOne t a r .progress) (playedOne t a r .area) (oldPlayedOne t b r .area) (y .areas) in
+    rw (← w) (old, rest)
+
+-- so an input that has no part of 12 bytes with the mark C3 5B, and at most 4,000,000,000 parts, prints what it printed
+pub short-input-plays : (a input : List ℕ) → AllUnder 256 input → NoneLong (shortRecordsOf input) → length (shortRecordsOf input) ≤ lastClock32 → printed a input ≡ oldPrinted a input
+unfolding recordsOf shortRecordsOf firstProgress
+short-input-plays a input u h l = old-records-play a input u (few (length input) input u h 0 (omega (arith, l)) firstProgress a a (λ _. refl))

@@ -1,4 +1,4 @@
--- The player before document 02, T-07, definition by definition as it was: areas of the last 32-bit layout, an earlier last tick of the clock, and records of 12 bytes. OldPlay of proofs compares what it prints with what is printed now.
+-- The player before document 02, T-07: areas of the last 32-bit layout, an earlier last tick of the clock, and records of 12 bytes; and the inputs that it played as they are played now. What T-07 left as it was, the other calls and the text of a line, is taken from where it stands.
 use mathlib.Core.Path.{_≡_}
 use mathlib.Core.Bool.{Bool, false, cond, not}
 use mathlib.Core.List.{List, [], _∷_, _++_}
@@ -80,7 +80,7 @@ oldPlayed t a (r ∷ rs) = let p = oldPlayedOne t a r in andThen p (oldPlayed (p
 unfoldable pub oldPrinted : List ℕ → List ℕ → List ℕ
 oldPrinted a input = header ++ oldPlayed firstProgress a (shortRecordsOf input) .text
 
--- ---- the inputs that are compared
+-- ---- the inputs that play now as they did
 
 -- a record that is good does not begin with the mark C3 5B, and if it is a tick, the clock before it is below 4,000,000,000; one that is bad may be any
 abbrev pub IsOld : (area bytes : List ℕ) → Input → Type 0
