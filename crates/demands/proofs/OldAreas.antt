@@ -59,31 +59,31 @@ other-refused a c s n o = unsound-refused a c s (rw (n, o))
 
 -- ---- two areas that name one state, of whichever layout
 
-record Alike (a b : List ℕ) : Type 0 where
+record SameNamed (a b : List ℕ) : Type 0 where
   first : fitArea a ≡ true
   second : fitArea b ≡ true
   same : decoded a ≡ decoded b
 
-module _ (a b : List ℕ) (x : Alike a b) where
+module _ (a b : List ℕ) (x : SameNamed a b) where
   alike-answer : (c : Call) → answerOn a c ≡ answerOn b c
   alike-answer c = sound-answer a c (x .first) ∙ ap (λ s. outcome s c .answer) (x .same) ∙ sym (sound-answer b c (x .second))
 
-  alike-next : (c : Call) → Fits c → Alike (areaAfter a c) (areaAfter b c)
+  alike-next : (c : Call) → Fits c → SameNamed (areaAfter a c) (areaAfter b c)
   alike-next c f =
       let p = step-on a c (x .first) f in
       let q = step-on b c (x .second) f in
       record { first = p .2; second = q .2; same = p .1 ∙ ap (λ s. outcome s c .state) (x .same) ∙ sym (q .1) }
 
-alike-last : (cs : List Call) (a b : List ℕ) → Alike a b → AllFit cs → Alike (areaAfterAll a cs) (areaAfterAll b cs)
+alike-last : (cs : List Call) (a b : List ℕ) → SameNamed a b → AllFit cs → SameNamed (areaAfterAll a cs) (areaAfterAll b cs)
 unfolding areaAfterAll lastOf
 alike-last [] a b x f = x
 alike-last (c ∷ cs) a b x f = alike-last cs (areaAfter a c) (areaAfter b c) (alike-next a b x c (f .0)) (f .1)
 
 -- what is noted of runs of the same calls on them
 module _ {E : Type 0} (mark : List ℕ → Call → Bool) (entry : List ℕ → Call → E)
-    (same-mark : (a b : List ℕ) → Alike a b → (c : Call) → Fits c → mark a c ≡ mark b c)
-    (same-entry : (a b : List ℕ) → Alike a b → (c : Call) → Fits c → entry a c ≡ entry b c) where
-  alike-noted : (cs : List Call) (a b : List ℕ) → Alike a b → AllFit cs → noted areaAfter mark entry a cs ≡ noted areaAfter mark entry b cs
+    (same-mark : (a b : List ℕ) → SameNamed a b → (c : Call) → Fits c → mark a c ≡ mark b c)
+    (same-entry : (a b : List ℕ) → SameNamed a b → (c : Call) → Fits c → entry a c ≡ entry b c) where
+  alike-noted : (cs : List Call) (a b : List ℕ) → SameNamed a b → AllFit cs → noted areaAfter mark entry a cs ≡ noted areaAfter mark entry b cs
   unfolding noted
   alike-noted [] a b x f = refl
   alike-noted (c ∷ cs) a b x f =
@@ -106,16 +106,16 @@ module _ {E : Type 0} (mark : List ℕ → Call → Bool) (entry : List ℕ → 
       go true l k j e = ap (λ (z : List E). entry a c ∷ z) e
       go false l k j e = e
 
-same-delivery : (level number : ℕ) (a b : List ℕ) → Alike a b → (c : Call) → Fits c → isDeliveryOn a c level number ≡ isDeliveryOn b c level number
+same-delivery : (level number : ℕ) (a b : List ℕ) → SameNamed a b → (c : Call) → Fits c → isDeliveryOn a c level number ≡ isDeliveryOn b c level number
 unfolding isDeliveryOn
 same-delivery level number a b x c f =
     rw (alike-answer a b x c, alike-answer a b x (Look level number), alike-answer (areaAfter a c) (areaAfter b c) (alike-next a b x c f) (Look level number))
 
-same-clock : (a b : List ℕ) → Alike a b → (c : Call) → Fits c → decoded (areaAfter a c) .clock ≡ decoded (areaAfter b c) .clock
+same-clock : (a b : List ℕ) → SameNamed a b → (c : Call) → Fits c → decoded (areaAfter a c) .clock ≡ decoded (areaAfter b c) .clock
 same-clock a b x c f = ap (λ (s : State). s .clock) (alike-next a b x c f .same)
 
 -- so they tell a clearance the same, and deliver at the same ticks
-module _ (cs : List Call) (a b : List ℕ) (x : Alike a b) (f : AllFit cs) where
+module _ (cs : List Call) (a b : List ℕ) (x : SameNamed a b) (f : AllFit cs) where
   alike-answers : (L : ℕ) → keptAnswersOn L a cs ≡ keptAnswersOn L b cs
   unfolding keptAnswersOn
   alike-answers L = alike-noted (λ _ c. isKept L c) (λ d c. told (answerOn d c)) (λ d e y c _. refl) (λ d e y c _. ap told (alike-answer d e y c)) cs a b x f
@@ -134,14 +134,14 @@ module _ (r : Run) (f : FromFreshStart r) (h : HandedOver r) where
   fits : AllFit (h .before) × AllFit (h .after)
   fits = fit-parts (h .before) (h .after) (rw (h .all) at (f .fit))
 
-  handed-alike : Alike (h .area) (areaThere r h)
+  handed-alike : SameNamed (h .area) (areaThere r h)
   handed-alike = record {
     first = old-fit (h .area) (h .sound-old);
     second = run-fit-on (h .before) (startedArea r) (started-fit r f) (fits .0);
     same = amounts-kept (h .area) (h .sound-old) ∙ h .same-state;
   }
 
-  handed-last : Alike (handedArea r h) (areaAfterAll (startedArea r) (r .calls))
+  handed-last : SameNamed (handedArea r h) (areaAfterAll (startedArea r) (r .calls))
   handed-last = rw (h .all, last-parts (h .before) (h .after) (startedArea r)) (alike-last (h .after) (h .area) (areaThere r h) handed-alike (fits .1))
 
   -- a place after the hand-over, in the run that was not
@@ -155,7 +155,7 @@ module _ (r : Run) (f : FromFreshStart r) (h : HandedOver r) where
     from-fits : AllFit (x .done) × AllFit (x .rest)
     from-fits = fit-parts (x .done) (x .rest) (rw (x .parts) at (fits .1))
 
-    from-alike : Alike (areaFrom r h x) (areaAfterAll (startedArea r) up-to)
+    from-alike : SameNamed (areaFrom r h x) (areaAfterAll (startedArea r) up-to)
     from-alike = rw (last-parts (h .before) (x .done) (startedArea r)) (alike-last (x .done) (h .area) (areaThere r h) handed-alike (from-fits .0))
 
 -- a run can be handed over after any of its calls, if the clock and the deadlines fit then
@@ -168,24 +168,21 @@ can-hand-over r f before after e early narrow =
     let o = old-made s (fit-area (areaAfterAll (startedArea r) before) z .sound-state) early narrow [] in
     record { before = before; after = after; all = e; area = Old.encoded s ++ []; sound-old = o .0; same-state = o .1 }
 
--- its calls are answered, one after another, as in the run that was not
+-- any call after it is answered as in the run that was not
 pub handed-as-in-run : (r : Run) → FromFreshStart r → (h : HandedOver r) → AsInRun r h
-handed-as-in-run r f h =
-    let x = handed-alike r f h in
-    let fit = fits r f h .1 in
-    record {
-      answers = alike-answers (h .after) (h .area) (areaThere r h) x fit;
-      delivered = alike-deliveries (h .after) (h .area) (areaThere r h) x fit;
-      afterwards = alike-answer (handedArea r h) (areaAfterAll (startedArea r) (r .calls)) (handed-last r f h);
-    }
+handed-as-in-run r f h = record {
+  answers = λ x. alike-answer (areaFrom r h x) (areaAfterAll (startedArea r) (h .before ++ x .done)) (from-alike r f h x);
+  delivered = alike-deliveries (h .after) (h .area) (areaThere r h) (handed-alike r f h) (fits r f h .1);
+}
+
+handed-afterwards : (r : Run) → FromFreshStart r → (h : HandedOver r) → (c : Call) → answerOn (handedArea r h) c ≡ answerOn (areaAfterAll (startedArea r) (r .calls)) c
+handed-afterwards r f h = alike-answer (handedArea r h) (areaAfterAll (startedArea r) (r .calls)) (handed-last r f h)
 
 -- demand 3 for runs that were handed over
 pub blind-handed-over : Demand3HandedOver
 blind-handed-over L r q e h k =
     let f = e .first in
     let g = e .second in
-    let p = handed-as-in-run r f h in
-    let s = handed-as-in-run q g k in
     record {
       answers = λ x y w.
           let b = between-from x y w in
@@ -199,7 +196,7 @@ blind-handed-over L r q e h k =
           ∙ b .first .delivered level number l
           ∙ sym (b .second .delivered level number l)
           ∙ sym (alike-deliveries (y .rest) _ _ (from-alike q g k y) (from-fits q g k y .1) level number);
-      afterwards = λ c y. ap told (p .afterwards c) ∙ blind L r q e .afterwards c y ∙ sym (ap told (s .afterwards c));
+      afterwards = λ c y. ap told (handed-afterwards r f h c) ∙ blind L r q e .afterwards c y ∙ sym (ap told (handed-afterwards q g k c));
     }
   where
     between-from : (x : From r h) (y : From q k) → keptCalls L (x .rest) ≡ keptCalls L (y .rest) → Between L r q e (h .before ++ x .done) (x .rest) (k .before ++ y .done) (y .rest)
@@ -211,7 +208,7 @@ module _ (r : Run) (f : FromFreshStart r) (h : HandedOver r) where
   whole-answers : (L : ℕ) → keptAnswersOn L (startedArea r) (h .before) ++ keptAnswersOn L (h .area) (h .after) ≡ keptAnswersOn L (startedArea r) (r .calls)
   unfolding keptAnswersOn
   whole-answers L =
-      ap (λ l. keptAnswersOn L (startedArea r) (h .before) ++ l) (handed-as-in-run r f h .answers L)
+      ap (λ l. keptAnswersOn L (startedArea r) (h .before) ++ l) (alike-answers (h .after) (h .area) (areaThere r h) (handed-alike r f h) (fits r f h .1) L)
       ∙ sym (noted-parts (λ _ c. isKept L c) (λ a c. told (answerOn a c)) (h .before) (h .after) (startedArea r))
       ∙ ap (keptAnswersOn L (startedArea r)) (sym (h .all))
 

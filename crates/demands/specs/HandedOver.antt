@@ -37,12 +37,6 @@ module _ (r : Run) (h : HandedOver r) where
   abbrev pub handedArea : List ℕ
   handedArea = areaAfterAll (h .area) (h .after)
 
--- the calls after the hand-over are answered, call after call, as in the run that was not handed over, and the deliveries come at the same ticks; so it is with any call afterwards
-pub record AsInRun (r : Run) (h : HandedOver r) : Type 0 where
-  pub answers : (L : ℕ) → keptAnswersOn L (h .area) (h .after) ≡ keptAnswersOn L (areaThere r h) (h .after)
-  pub delivered : (level number : ℕ) → deliveriesOn (h .area) (h .after) level number ≡ deliveriesOn (areaThere r h) (h .after) level number
-  pub afterwards : (c : Call) → answerOn (handedArea r h) c ≡ answerOn (areaAfterAll (startedArea r) (r .calls)) c
-
 -- a place among the calls after the hand-over: those up to it and those from it on
 pub record From (r : Run) (h : HandedOver r) : Type 0 where
   pub done : List Call
@@ -52,6 +46,11 @@ pub record From (r : Run) (h : HandedOver r) : Type 0 where
 -- the area there
 abbrev pub areaFrom : (r : Run) (h : HandedOver r) → From r h → List ℕ
 areaFrom r h x = areaAfterAll (h .area) (x .done)
+
+-- at each place after the hand-over any call is answered as in the run that was not handed over, so the next call of the run is, and any afterwards; and the deliveries come at the same ticks
+pub record AsInRun (r : Run) (h : HandedOver r) : Type 0 where
+  pub answers : (x : From r h) (c : Call) → answerOn (areaFrom r h x) c ≡ answerOn (areaAfterAll (startedArea r) (h .before ++ x .done)) c
+  pub delivered : (level number : ℕ) → deliveriesOn (h .area) (h .after) level number ≡ deliveriesOn (areaThere r h) (h .after) level number
 
 -- demand 3 for two runs that were handed over, each at its own time: from any two places on after the hand-overs from which the kept calls agree,
 -- these have the same answers and each row of L or below the same deliveries; and each question afterwards is answered alike

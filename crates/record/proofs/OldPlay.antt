@@ -55,7 +55,7 @@ use Rattle.record.proofs.ShortRecords.{four-under, short-record}
 
 -- ---- two areas that name one state, each in its layout
 
-record Same (last : ℕ) (a b : List ℕ) : Type 0 where
+record OneState (last : ℕ) (a b : List ℕ) : Type 0 where
   new : soundArea a ≡ true
   old : soundArea32 b ≡ true
   named : decoded a ≡ Old.decoded b
@@ -63,11 +63,11 @@ record Same (last : ℕ) (a b : List ℕ) : Type 0 where
   narrow : Narrow (2 ^ 32) (decoded a)
 
 -- before an accepted start the areas are one, and after it they name one state
-abbrev Alike : ℕ → Bool → List ℕ → List ℕ → Type 0
-Alike last false a b = a ≡ b
-Alike last true a b = Same last a b
+abbrev Paired : ℕ → Bool → List ℕ → List ℕ → Type 0
+Paired last false a b = a ≡ b
+Paired last true a b = OneState last a b
 
-wider : (k m : ℕ) (a b : List ℕ) → k ≤ m → Same k a b → Same m a b
+wider : (k m : ℕ) (a b : List ℕ) → k ≤ m → OneState k a b → OneState m a b
 wider k m a b h x = record { new = x .new; old = x .old; named = x .named; early = omega (arith, x .early); narrow = x .narrow }
 
 -- a clock that is at most k, and before the old last tick, is at most m after a tick
@@ -77,7 +77,7 @@ record Rises (k m : ℕ) : Type 0 where
   before : (n : ℕ) → n ≤ k → n < lastClock32 → n < m
 
 -- a state that both layouts can have, in both
-made : (last : ℕ) → last ≤ lastClock32 → (s : State) → sound s ≡ true → s .clock ≤ last → Narrow (2 ^ 32) s → (r q : List ℕ) → Same last (encoded s ++ r) (Old.encoded s ++ q)
+made : (last : ℕ) → last ≤ lastClock32 → (s : State) → sound s ≡ true → s .clock ≤ last → Narrow (2 ^ 32) s → (r q : List ℕ) → OneState last (encoded s ++ r) (Old.encoded s ++ q)
 made last most s z early narrow r q =
     let ok : StateOk s = sound-ok s z (λ row. omega (arith, narrow row)) in
     let o = old-made s z (omega arith) narrow q in
@@ -88,7 +88,7 @@ made last most s z early narrow r q =
 taken : (start fit : Bool) (n : ℕ) → 65536 ≤ n → fit ≡ true → cond start (ltb n 65536) (not fit) ≡ false
 taken start fit n h e = rw (le-ltb n 65536 h, e) (cond-same start false)
 
-module _ (k : ℕ) (a b : List ℕ) (x : Same k a b) (c : Call) (early : MadeBefore lastClock32 (decoded a) c) where
+module _ (k : ℕ) (a b : List ℕ) (x : OneState k a b) (c : Call) (early : MadeBefore lastClock32 (decoded a) c) where
   abbrev s : State
   s = decoded a
 
@@ -112,7 +112,7 @@ module _ (k : ℕ) (a b : List ℕ) (x : Same k a b) (c : Call) (early : MadeBef
       go false = refl
 
   -- with a deadline of 32 bits the areas that it leaves name one state again
-  next-same : (m : ℕ) → Rises k m → fields c .deadline < 2 ^ 32 → Same m (areaAfter a c) (oldAreaAfter b c)
+  next-same : (m : ℕ) → Rises k m → fields c .deadline < 2 ^ 32 → OneState m (areaAfter a c) (oldAreaAfter b c)
   unfolding areaAfter oldAreaAfter
   next-same m v f = rw (answered, old-answered, same-outcome) (go (isRefused (outcome s c .answer)) (isReading c) refl)
     where
@@ -131,7 +131,7 @@ module _ (k : ℕ) (a b : List ℕ) (x : Same k a b) (c : Call) (early : MadeBef
       narrow-next : Narrow (2 ^ 32) t
       narrow-next = stays-narrow (2 ^ 32) (lit< tt) s c z f (x .narrow)
 
-      go : (refused reading : Bool) → isReading c ≡ reading → Same m (cond (refused || reading) a (encoded t ++ drop 65536 a)) (cond refused b (Old.encoded t ++ drop 65536 b))
+      go : (refused reading : Bool) → isReading c ≡ reading → OneState m (cond (refused || reading) a (encoded t ++ drop 65536 a)) (cond refused b (Old.encoded t ++ drop 65536 b))
       go true reading e = wider k m a b (v .least) x
       go false true e =
           let o = old-made t sound-next (omega (arith, early-next, v .most)) narrow-next (drop 65536 b) in
@@ -144,7 +144,7 @@ fresh-early : (last slots delay : ℕ) → fresh slots delay .clock ≤ last
 unfolding fresh
 fresh-early last slots delay = omega arith
 
-fresh-same : (last : ℕ) → last ≤ lastClock32 → (slots delay : ℕ) → startRefusal slots delay ≡ 0 → (r q : List ℕ) → Same last (encoded (fresh slots delay) ++ r) (Old.encoded (fresh slots delay) ++ q)
+fresh-same : (last : ℕ) → last ≤ lastClock32 → (slots delay : ℕ) → startRefusal slots delay ≡ 0 → (r q : List ℕ) → OneState last (encoded (fresh slots delay) ++ r) (Old.encoded (fresh slots delay) ++ q)
 fresh-same last most slots delay e =
     let t = start-taken slots delay e in
     made last most (fresh slots delay) (fresh-sound slots delay (t .slots-least) (t .slots-most) (t .delay-least) (t .delay-most)) (fresh-early last slots delay) (fresh-narrow (2 ^ 32) (lit< tt) slots delay)
@@ -154,14 +154,14 @@ module _ (last : ℕ) (most : last ≤ lastClock32) (a : List ℕ) (slots delay 
   anew = record { state = fresh slots delay; answer = Started }
 
   start-same : (answerOn a (Start slots delay) ≡ oldAnswerOn a (Start slots delay))
-      × Alike last (not (isRefused (answerOn a (Start slots delay)))) (areaAfter a (Start slots delay)) (oldAreaAfter a (Start slots delay))
+      × Paired last (not (isRefused (answerOn a (Start slots delay)))) (areaAfter a (Start slots delay)) (oldAreaAfter a (Start slots delay))
   unfolding answerOn oldAnswerOn unfit oldUnfit areaAfter oldAreaAfter outcomeUntil outcome started word
   start-same = go (ltb (length a) 65536) (startRefusal slots delay) refl
     where
       go : (short : Bool) (n : ℕ) → startRefusal slots delay ≡ n
           → let v = cond short (Refused 1) (unless n (decoded a) anew .answer) in
           let w = cond short (Refused 1) (unless n (Old.decoded a) anew .answer) in
-          (v ≡ w) × Alike last (not (isRefused v)) (cond (isRefused v || false) a (encoded (unless n (decoded a) anew .state) ++ drop 65536 a))
+          (v ≡ w) × Paired last (not (isRefused v)) (cond (isRefused v || false) a (encoded (unless n (decoded a) anew .state) ++ drop 65536 a))
           (cond (isRefused w) a (Old.encoded (unless n (Old.decoded a) anew .state) ++ drop 65536 a))
       go true n e = (refl, refl)
       go false zero e = (refl, fresh-same last most slots delay e (drop 65536 a) (drop 65536 a))
@@ -173,7 +173,7 @@ module _ (last : ℕ) (most : last ≤ lastClock32) (a : List ℕ) (slots delay 
 record OneSame (last : ℕ) (p q : Played) : Type 0 where
   text : p .text ≡ q .text
   progress : p .progress ≡ q .progress
-  areas : p .progress .over ≡ false → Alike last (p .progress .started) (p .area) (q .area)
+  areas : p .progress .over ≡ false → Paired last (p .progress .started) (p .area) (q .area)
 
 -- a deadline of 32 bits
 abbrev Small : Input → Type 0
@@ -188,7 +188,7 @@ module _ (k m : ℕ) (v : Rises k m) (over : Bool) (number : ℕ) where
   unfolding playedRecord oldPlayedRecord answerTo oldAnswerTo areaWith oldAreaWith listWith oldListWith nextProgress
   bad-same started a b = record { text = refl; progress = refl; areas = λ e. true-false e }
 
-  call-same : (a b : List ℕ) → Same k a b → (c : Call) → Small (Good c) → MadeBefore lastClock32 (decoded a) c
+  call-same : (a b : List ℕ) → OneState k a b → (c : Call) → Small (Good c) → MadeBefore lastClock32 (decoded a) c
       → OneSame m (playedRecord (at true) a (Good c)) (oldPlayedRecord (at true) b (Good c))
   unfolding playedRecord oldPlayedRecord answerTo oldAnswerTo areaWith oldAreaWith listWith oldListWith nextProgress
   call-same a b x c small early =
@@ -201,7 +201,7 @@ module _ (k m : ℕ) (v : Rises k m) (over : Bool) (number : ℕ) where
       let x = start-same m (v .most) a slots delay in
       record { text = rw (x .0); progress = rw (x .0); areas = λ _. x .1 }
 
-  admitted-same : (started : Bool) (a b r : List ℕ) (i : Input) → Alike k started a b → Small i → IsOld a r (admitted started i)
+  admitted-same : (started : Bool) (a b r : List ℕ) (i : Input) → Paired k started a b → Small i → IsOld a r (admitted started i)
       → OneSame m (playedRecord (at started) a (admitted started i)) (oldPlayedRecord (at started) b (admitted started i))
   unfolding admitted
   admitted-same true a b r Bad x small h = bad-same true a b
@@ -240,16 +240,16 @@ short-small r u = go (shortIsWhole r)
     go false = tt
 
 -- a record without the mark C3 5B
-one-same : (k m : ℕ) → Rises k m → (t : Progress) (a b : List ℕ) → (t .over ≡ false → Alike k (t .started) a b) → (r : List ℕ) → AllUnder 256 r → (field r 0 2 ≡ longMark → ⊥)
+one-same : (k m : ℕ) → Rises k m → (t : Progress) (a b : List ℕ) → (t .over ≡ false → Paired k (t .started) a b) → (r : List ℕ) → AllUnder 256 r → (field r 0 2 ≡ longMark → ⊥)
     → (t .over ≡ false → IsOld a r (admitted (t .started) (recordOf r))) → OneSame m (playedOne t a r) (oldPlayedOne t b r)
 unfolding playedOne oldPlayedOne
 one-same k m v t a b x r u e h = rw (short-record r u e) (go (t .over) x (rw (short-record r u e) at h))
   where
-    still : (started : Bool) → Alike k started a b → Alike m started a b
+    still : (started : Bool) → Paired k started a b → Paired m started a b
     still false y = y
     still true y = wider k m a b (v .least) y
 
-    go : (over : Bool) → (over ≡ false → Alike k (t .started) a b) → (over ≡ false → IsOld a r (admitted (t .started) (shortRecordOf r)))
+    go : (over : Bool) → (over ≡ false → Paired k (t .started) a b) → (over ≡ false → IsOld a r (admitted (t .started) (shortRecordOf r)))
         → OneSame m (cond over (unplayed t a) (playedRecord t a (admitted (t .started) (shortRecordOf r)))) (cond over (unplayed t b) (oldPlayedRecord t b (admitted (t .started) (shortRecordOf r))))
     go true y o = record { text = refl; progress = refl; areas = λ e. still (t .started) (x e) }
     go false y o = admitted-same k m v (t .over) (t .number) (t .started) a b r (shortRecordOf r) (y refl) (short-small r u) (o refl)
@@ -300,7 +300,7 @@ front w l h = ap (bigEndian 0) (take-take 2 w l h)
 until : Rises lastClock32 lastClock32
 until = record { least = omega arith; most = omega arith; before = λ n _ h. h }
 
-plays : (n : ℕ) (bytes : List ℕ) → AllUnder 256 bytes → (t : Progress) (a b : List ℕ) → (t .over ≡ false → Alike lastClock32 (t .started) a b) → AllOld t a (firstRecords n bytes)
+plays : (n : ℕ) (bytes : List ℕ) → AllUnder 256 bytes → (t : Progress) (a b : List ℕ) → (t .over ≡ false → Paired lastClock32 (t .started) a b) → AllOld t a (firstRecords n bytes)
     → played t a (firstRecords n bytes) .text ≡ oldPlayed t b (shortFirst n bytes) .text
 unfolding played oldPlayed firstRecords shortFirst
 plays zero bytes u t a b x k = refl
@@ -338,7 +338,7 @@ old-records-play a input u h = ap (λ (l : List ℕ). header ++ l) (plays (lengt
 start-no-tick : (c : Call) → isStart c ≡ true → isTick c ≡ true → ⊥
 start-no-tick c e f = omega (arith, eqb-true (fields c .kind) 0 e, eqb-true (fields c .kind) 6 f)
 
-one-old : (k : ℕ) → k < lastClock32 → (started : Bool) (a b r : List ℕ) → Alike k started a b → (field r 0 2 ≡ longMark → ⊥) → (i : Input) → IsOld a r (admitted started i)
+one-old : (k : ℕ) → k < lastClock32 → (started : Bool) (a b r : List ℕ) → Paired k started a b → (field r 0 2 ≡ longMark → ⊥) → (i : Input) → IsOld a r (admitted started i)
 unfolding admitted
 one-old k h true a b r x e Bad = tt
 one-old k h true a b r x e (Good c) = (e, λ _. omega (arith, x .early))
@@ -350,7 +350,7 @@ one-old k h false a b r x e (Good c) = go (isStart c) refl
     go false s = tt
 
 few : (n : ℕ) (bytes : List ℕ) → AllUnder 256 bytes → NoneLong (shortFirst n bytes) → (k : ℕ) → k + length (shortFirst n bytes) ≤ lastClock32
-    → (t : Progress) (a b : List ℕ) → (t .over ≡ false → Alike k (t .started) a b) → AllOld t a (firstRecords n bytes)
+    → (t : Progress) (a b : List ℕ) → (t .over ≡ false → Paired k (t .started) a b) → AllOld t a (firstRecords n bytes)
 unfolding firstRecords shortFirst
 few zero bytes u h k l t a b x = tt
 few (suc n) [] u h k l t a b x = tt

@@ -15,7 +15,7 @@ use Rattle.record.specs.Play.{Played, isBad, admitted, answerTo, areaWit
 use Rattle.words.specs.Bytes.{Wrote}
 use Rattle.words.proofs.WroteLaws.{wrote-none, wrote-more}
 use Rattle.record.proofs.RecordLaws.{cut}
-use Rattle.record.proofs.TextLaws.{line-most, fills-most}
+use Rattle.record.proofs.TextLaws.{line-most, fill-lines-most}
 
 -- a run came to what p says: its progress, the area, and the text written over out from a place on
 abbrev pub Came : Played → Progress → (b out : List ℕ) (at : ℕ) (out' : List ℕ) (end : ℕ) → Type 0
@@ -51,7 +51,7 @@ one-small t a bytes = go (t .over)
     go : (b : Bool) → let p = cond b (unplayed t a) (playedRecord t a r) in (length (p .text) ≤ mostText) × (p .progress .number ≤ t .number + 1)
     go true = (omega arith, omega arith)
     go false =
-        (rw length-append (omega (arith, line-most (t .number) (answerNumbers (answerTo a r)), fills-most (t .number) (listWith a zeroList r))), omega arith)
+        (rw length-append (omega (arith, line-most (t .number) (answerNumbers (answerTo a r)), fill-lines-most (t .number) (listWith a zeroList r))), omega arith)
 
 -- after a cut record the run is over
 pub cut-over : (t : Progress) (a r : List ℕ) → (length r ≡ recordWidth r → ⊥) → playedOne t a r .progress .over ≡ true

@@ -163,9 +163,9 @@ module _ (number : ℕ) (list : List ℕ) where
   pub first-most : (i : ℕ) → length (firstFills i) ≤ i * 95
   first-most i = joined-most 95 (fillLine number list) fill-most i
 
-  pub fills-most : length (fillLines number list) ≤ 32 * 95
+  pub fill-lines-most : length (fillLines number list) ≤ 32 * 95
   unfolding fillLines
-  fills-most = first-most 32
+  fill-lines-most = first-most 32
 
   pub no-fill : (a : List ℕ) (at i flag : ℕ) → flag ≡ field list (i * 8 + 3) 1 → flag ≡ 0 → Wrote a at (fillLine number list i) a at
   unfolding fillLine

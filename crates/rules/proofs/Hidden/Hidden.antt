@@ -50,7 +50,7 @@ unfolding holdingOn slotOf
 begun-hidden L s = record { size = refl; delay = refl; clock = refl; row = λ _ _ _. refl; place = λ _ _ _. refl; holding = λ _ _ _ _. refl }
 
 -- places that stay up to L
-places-hidden : (L : ℕ) (s : State) (places : List ℕ) → ((r : ℕ) → r < 32 → levelOf r ≤ L → getD places r 0 ≡ placeAt s r) → Alike L s (withPlaces s places)
+pub places-hidden : (L : ℕ) (s : State) (places : List ℕ) → ((r : ℕ) → r < 32 → levelOf r ≤ L → getD places r 0 ≡ placeAt s r) → Alike L s (withPlaces s places)
 unfolding holdingOn slotOf
 places-hidden L s places e = record { size = refl; delay = refl; clock = refl; row = λ _ _ _. refl; place = λ r b l. sym (e r b l); holding = λ _ _ _ _. refl }
 

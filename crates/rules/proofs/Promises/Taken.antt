@@ -1,11 +1,9 @@
 -- A row that a call newly makes taken had a pin against a request that was served in the call's course.
 use mathlib.Core.Path.{_≡_, refl, sym, _∙_, ap}
 use mathlib.Core.Bool.{Bool, true, false, cond, not}
-use mathlib.Core.List.{List, [], _∷_}
+use mathlib.Core.List.{List, _∷_}
 use mathlib.Core.Logic.{inl, inr}
 use Prim.Native.Nat.{ℕ, _+_, _<_}
-use native.Mathlib.Omega.{arith}
-use native.Mathlib.Decide.{ℕ-discrete}
 use borrow.Author.Tests.{ne-eqb}
 use lib.Dec.{leb, eqb}
 use Rattle.seq.specs.declared.Found.the-variants.{At}
@@ -35,7 +33,7 @@ use Rattle.rules.specs.Requests.{TriedOn, own, stored}
 use Rattle.rules.specs.Run.{outcome}
 use Rattle.rules.specs.Sound.{sound}
 use Rattle.rules.specs.Taken.{Takes, in-conflict, on-chosen, TakenBy}
-use Rattle.rules.specs.Tries.{Tried, tryRow, tries, waiters, allTried}
+use Rattle.rules.specs.Tries.{tryRow, tries, waiters, allTried}
 use Rattle.rules.specs.SoundFacts.{Sound}
 use Rattle.rules.proofs.Facts.SoundFacts.{facts}
 use Rattle.rules.proofs.Leaves.CallEffects.{Effect, unchanged, starts, begins, unpins, ends, ticks, sets, serves, effect}

@@ -1,6 +1,6 @@
 -- What an answer wait or fetch says: wait comes by steps 1 and g, for the reasons of T-05; a fetch is due after the clock, and its row is fetching until then.
 use mathlib.Core.Path.{_≡_, sym, _∙_, ap}
-use mathlib.Core.Bool.{true, not}
+use mathlib.Core.Bool.{true}
 use mathlib.Core.List.{List, [], _∷_}
 use mathlib.Core.Logic.{inl, inr}
 use Prim.Native.Nat.{ℕ, _<_}
@@ -27,7 +27,7 @@ use Rattle.rules.proofs.Leaves.RefusalFacts.{tick-taken}
 use Rattle.rules.proofs.Leaves.TryLaws.{waiters-rows}
 use Rattle.rules.proofs.Stays.StaysSound.{steps-sound}
 use Rattle.rules.proofs.Stays.StaysTries.{try-sound}
-use Rattle.rules.proofs.Promises.Serving.{waits, serving}
+use Rattle.rules.proofs.Promises.Serving.{serving}
 use Rattle.rules.proofs.Promises.CallCases.{isServed, still-unserved}
 use Rattle.rules.proofs.Promises.Granting.{Grant, grant, grant-fetch}
 use Rattle.rules.proofs.Promises.Reasons.{waits-by, reason-waits}

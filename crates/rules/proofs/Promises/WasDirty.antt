@@ -1,9 +1,9 @@
 -- A page that a call reports for write-back stood in its slot on a state of the call's course, dirty, or written by a row that the call took.
 use mathlib.Core.Path.{_≡_, refl, sym, _∙_, ap}
 use mathlib.Core.Bool.{Bool, true, false, cond, _&&_}
-use mathlib.Core.List.{List, [], _∷_, _++_}
+use mathlib.Core.List.{List, [], _∷_}
 use mathlib.Core.Logic.{_⊎_, inl, inr}
-use Prim.Native.Nat.{ℕ, _+_, _<_, _≤_}
+use Prim.Native.Nat.{ℕ, _+_, _<_}
 use native.Mathlib.Omega.{arith}
 use borrow.Author.Tests.{leb-true}
 use lib.Dec.{leb}
@@ -29,7 +29,7 @@ use Rattle.model.specs.declared.Slot.{Slot}
 use Rattle.model.specs.declared.State.{State}
 use Rattle.model.specs.Parties.{levelOf}
 use Rattle.model.specs.State.{rowAt, slotAt, holdingAt}
-use Rattle.model.specs.Words.{isFilled, pageIn, dirtyIn, hasPage, isWrite, pins}
+use Rattle.model.specs.Words.{pageIn, dirtyIn, hasPage, isWrite, pins}
 use Rattle.model.specs.Changes.{written, dirtiedContent, dirtied, wroteSlot, killed}
 use Rattle.model.proofs.ChangeLaws.{killed-slot}
 use Rattle.model.proofs.ContentLaws.{has-page}

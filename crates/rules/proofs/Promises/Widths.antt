@@ -213,13 +213,13 @@ sound-ok s e narrow = record {
 
 -- every call that C can make has numbers that fit
 pub c-fits : (c : Call) → OfC c → Fits c
-c-fits (Start slots delay) h = record { level = omega arith; number = omega arith; page = omega arith; mode = omega arith; slots = omega arith; delay = omega arith; deadline = omega arith; first = omega arith; second = omega arith; third = omega arith }
-c-fits (Begin level number deadline) h = record { level = omega arith; number = omega arith; page = omega arith; mode = omega arith; slots = omega arith; delay = omega arith; deadline = omega arith; first = omega arith; second = omega arith; third = omega arith }
-c-fits (Request level number page mode) h = record { level = omega arith; number = omega arith; page = omega arith; mode = omega arith; slots = omega arith; delay = omega arith; deadline = omega arith; first = omega arith; second = omega arith; third = omega arith }
-c-fits (Unpin level number page) h = record { level = omega arith; number = omega arith; page = omega arith; mode = omega arith; slots = omega arith; delay = omega arith; deadline = omega arith; first = omega arith; second = omega arith; third = omega arith }
-c-fits (End level number) h = record { level = omega arith; number = omega arith; page = omega arith; mode = omega arith; slots = omega arith; delay = omega arith; deadline = omega arith; first = omega arith; second = omega arith; third = omega arith }
-c-fits (Tick room) h = record { level = omega arith; number = omega arith; page = omega arith; mode = omega arith; slots = omega arith; delay = omega arith; deadline = omega arith; first = omega arith; second = omega arith; third = omega arith }
-c-fits (Look level number) h = record { level = omega arith; number = omega arith; page = omega arith; mode = omega arith; slots = omega arith; delay = omega arith; deadline = omega arith; first = omega arith; second = omega arith; third = omega arith }
-c-fits (View level page) h = record { level = omega arith; number = omega arith; page = omega arith; mode = omega arith; slots = omega arith; delay = omega arith; deadline = omega arith; first = omega arith; second = omega arith; third = omega arith }
-c-fits (Count level) h = record { level = omega arith; number = omega arith; page = omega arith; mode = omega arith; slots = omega arith; delay = omega arith; deadline = omega arith; first = omega arith; second = omega arith; third = omega arith }
-c-fits (Call.Borders first second third) h = record { level = omega arith; number = omega arith; page = omega arith; mode = omega arith; slots = omega arith; delay = omega arith; deadline = omega arith; first = omega arith; second = omega arith; third = omega arith }
+c-fits (Start slots delay) h = omega arith
+c-fits (Begin level number deadline) h = omega arith
+c-fits (Request level number page mode) h = omega arith
+c-fits (Unpin level number page) h = omega arith
+c-fits (End level number) h = omega arith
+c-fits (Tick room) h = omega arith
+c-fits (Look level number) h = omega arith
+c-fits (View level page) h = omega arith
+c-fits (Count level) h = omega arith
+c-fits (Call.Borders first second third) h = omega arith
