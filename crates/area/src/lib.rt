@@ -1,4 +1,6 @@
 // A state as the bytes of a lent area, and back: docs/LAYOUT.md.
+#![tactic(auto)]
+
 ghost use Rattle.std.specs.Prelude.{◌≡◌, true, ◌&&◌, [], ◌∷◌, ◌++◌, ◌+◌, ◌*◌, ◌<◌, ◌≤◌, length, get_or, drop, replicate};
 ghost use Rattle.words.specs.Bytes.{has_words, spliced, joined, word_bytes};
 ghost use Rattle.model.specs.Parties.{mode_of};
@@ -13,19 +15,19 @@ use model::{
 };
 
 // The rows, the slots and a holding that an area names, and whether its bytes there are exactly theirs.
-#[derive(Drop)]
+#[derive(Clone, Copy)]
 struct Rows {
     rows: [Row; 32],
     exact: bool,
 }
 
-#[derive(Drop)]
+#[derive(Clone, Copy)]
 struct Slots {
     slots: [Slot; 64],
     exact: bool,
 }
 
-#[derive(Drop)]
+#[derive(Clone, Copy)]
 struct Held {
     holding: Holding,
     exact: bool,

@@ -1,4 +1,6 @@
 // The search for a page and the choice of a slot, steps a to g of document 01, on a state by value.
+#![tactic(auto)]
+
 ghost use Rattle.std.specs.Prelude.{◌≡◌, ◌<◌, ◌≤◌, max};
 ghost use Rattle.seq.specs.Below.{considered, at_found};
 ghost use Rattle.model.specs.Words.{page_in, dirty_in, lowest_in, has_page, page_slot};
@@ -55,7 +57,7 @@ pub fn find_page(slots: [Slot; 64], size: usize, page: u32) -> Found
 
 // The holders of a slot: whether there is one; the best of them and its rank; the latest touch by holders of its level; whether a row of that level
 // pins the slot.
-#[derive(Drop)]
+#[derive(Clone, Copy)]
 pub struct Holders {
     pub best: usize,
     pub rank: Rank,
@@ -65,7 +67,7 @@ pub struct Holders {
 }
 
 // What the choice asks for a requester: its rank, the holders of each slot, and whether the requester pins it.
-#[derive(Drop)]
+#[derive(Clone, Copy)]
 pub struct Survey {
     pub requester: Rank,
     pub holders: [Holders; 64],
@@ -74,7 +76,7 @@ pub struct Survey {
 
 // What steps c to f ask of a slot. above: it is held only above the requester's level; beside: its seen holders are all of that level, none better
 // than the requester; own: the requester pins it.
-#[derive(Drop)]
+#[derive(Clone, Copy)]
 pub struct Summary {
     pub holders: Holders,
     pub page: u32,
@@ -84,7 +86,7 @@ pub struct Summary {
 }
 
 // What a search over the held slots is for: a step, or M, the level of steps c and d.
-#[derive(Drop)]
+#[derive(Clone, Copy)]
 pub enum Step {
     M,
     C,

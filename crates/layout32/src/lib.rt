@@ -1,4 +1,6 @@
 // Which areas are taken besides those of the layout that is written: those of the last 32-bit layout, docs/LAYOUT.md.
+#![tactic(auto)]
+
 ghost use Rattle.std.specs.Prelude.{◌≡◌};
 ghost use Rattle.layout32.specs.Known.{fits, known};
 

@@ -1,13 +1,12 @@
 -- What stands at a row, a slot and a holding after an elementary change.
 use mathlib.Core.Path.{◌≡◌, refl, ◌∙◌, ap}
-use mathlib.Core.Bool.{Bool, cond, ◌&&◌}
+use mathlib.Core.Bool.{Bool, cond}
 use Prim.Native.Nat.{ℕ, ◌+◌, ◌*◌, ◌/◌, ◌%◌, ◌<◌}
 use lib.Dec.{eqb}
-use Rattle.seq.specs.Below.{any_below}
 use Rattle.seq.proofs.Tests.{cond_same}
 use Rattle.seq.proofs.EachLaws.{each_at, each_length, each_any}
 use Rattle.model.specs.State.{free_row, empty_slot, empty_holding, row_at, slot_at, holding_at}
-use Rattle.model.specs.Changes.{written, dirtied, wrote_slot, released, killed, killed_row, cleared}
+use Rattle.model.specs.Changes.{dirtied, wrote_slot, released, killed, killed_row, cleared}
 use Rattle.model.specs.declared.Cause.{Cause}
 use Rattle.model.specs.declared.State.{State}
 use Rattle.model.specs.Ranges.{Sized}

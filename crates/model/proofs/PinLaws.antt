@@ -4,7 +4,6 @@ use mathlib.Core.Bool.{Bool, true, false, cond, ◌&&◌, ◌||◌, and_comm, or
 use lib.Dec.{ltb}
 use Rattle.seq.proofs.Tests.{true_false, not_true_false, not_false_true}
 use Rattle.model.specs.declared.Mode.{Mode}
-use Rattle.model.specs.declared.Mode.TheVariants as Mode
 use Rattle.model.specs.declared.Pin.{Pin}
 use Rattle.model.specs.declared.Pin.TheVariants.{Absent, Unpinned, Read, Write}
 use Rattle.model.specs.Words.{is_held, is_pin, is_write, pin_of, conflict, strength, stronger}

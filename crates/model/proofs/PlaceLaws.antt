@@ -1,5 +1,5 @@
 -- Places in the begin orders: once a row has taken one, and once a row has ended and its level's order is closed up; and how many rows of a level are not free.
-use mathlib.Core.Path.{◌≡◌, refl, ◌∙◌, sym, ap}
+use mathlib.Core.Path.{◌≡◌, ap}
 use mathlib.Core.Bool.{cond, not}
 use mathlib.Core.List.{List}
 use Prim.Native.Nat.{ℕ, ◌<◌}

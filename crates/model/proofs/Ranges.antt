@@ -1,14 +1,14 @@
 -- What a value's type says of it, as `.good` and `.ok` have it, read as ranges.
-use mathlib.Core.Path.{sym, ◌∙◌}
-use mathlib.Core.List.{List, [], ◌∷◌, map}
+use mathlib.Core.List.{List, [], ◌∷◌}
 use Prim.Native.Nat.{ℕ, zero, suc, ◌<◌, ◌^◌}
 use lib.Dec.{lit<}
-use lib.ListN.{get_or, length-map}
+use lib.ListN.{get_or}
 use mir.Val.{Val}
 use denote.Laws.{Is}
 use denote.Array.{each}
 use denote.Shadow.{shadow}
-use denote.Struct.Field.{Field, usize-field}
+use denote.RattleType.{RattleType}
+use denote.Builtin as builtin
 use Rattle.model.specs.Ranges.{ConditionOk, ContentOk, HoldingOk, RowOk, SlotOk, BordersOk, StateOk}
 use Rattle.model.specs.State.{free_row, empty_slot, empty_holding}
 use Rattle.model.specs.declared.Condition as Condition'
@@ -29,8 +29,8 @@ use Rattle.model.specs.contracts.Borders
 use Rattle.model.specs.contracts.State
 
 -- what holds of each element by its type, holds of the element at an index, or of the default
-module _ (F : Field) (P : F.Value → Type 0) (ok : (x : F.Value) (u : Val) → Is F.row (F.into x) (u ∷ []) → P x) (d : F.Value) (pd : P d) where
-  pub element_ok : (xs : List F.Value) (us : List Val) (i : ℕ) → shadow (each F.row.Denot F.row.own_val (map F.into xs) us) → P (get_or xs i d)
+module _ (R : RattleType) (P : R.Denot → Type 0) (ok : (x : R.Denot) (u : Val) → Is R x (u ∷ []) → P x) (d : R.Denot) (pd : P d) where
+  pub element_ok : (xs : List R.Denot) (us : List Val) (i : ℕ) → shadow (each R.Denot R.own_val xs us) → P (get_or xs i d)
   element_ok [] us i h = pd
   element_ok (x ∷ xs) [] i h = absurd h
   element_ok (x ∷ xs) (u ∷ us) zero h = ok x u h.0
@@ -65,14 +65,14 @@ state_ok s vs p = record {
   delay = p.1.1.1.0.1;
   clock = p.1.1.1.1.0.1;
   sized = record {
-    rows = sym (length-map s.rows _) ∙ p.1.1.1.1.1.0.1.0.1;
-    slots = sym (length-map s.slots _) ∙ p.1.1.1.1.1.1.1.0.1.0.1;
-    holdings = sym (length-map s.holdings _) ∙ p.1.1.1.1.1.1.1.1.0.1.0.1;
-    places = sym (length-map s.places _) ∙ p.1.1.1.1.1.1.0.1.0.1;
+    rows = p.1.1.1.1.1.0.1.0.1;
+    slots = p.1.1.1.1.1.1.1.0.1.0.1;
+    holdings = p.1.1.1.1.1.1.1.1.0.1.0.1;
+    places = p.1.1.1.1.1.1.0.1.0.1;
   };
-  row = λ i. element_ok Row.the_field RowOk (λ x u. row_ok x (u ∷ [])) free_row (record { condition = tt; deadline = lit< tt }) s.rows _ i p.1.1.1.1.1.0.1.1;
-  slot = λ i. element_ok Slot.the_field SlotOk (λ x u. slot_ok x (u ∷ [])) empty_slot (record { content = tt; touch = lit< tt }) s.slots _ i p.1.1.1.1.1.1.1.0.1.1;
-  holding = λ i. element_ok Holding.the_field HoldingOk (λ x u. holding_ok x (u ∷ [])) empty_holding (record { arrival = lit< tt; touch = lit< tt }) s.holdings _ i p.1.1.1.1.1.1.1.1.0.1.1;
+  row = λ i. element_ok Row.the_row RowOk (λ x u. row_ok x (u ∷ [])) free_row (record { condition = tt; deadline = lit< tt }) s.rows _ i p.1.1.1.1.1.0.1.1;
+  slot = λ i. element_ok Slot.the_row SlotOk (λ x u. slot_ok x (u ∷ [])) empty_slot (record { content = tt; touch = lit< tt }) s.slots _ i p.1.1.1.1.1.1.1.0.1.1;
+  holding = λ i. element_ok Holding.the_row HoldingOk (λ x u. holding_ok x (u ∷ [])) empty_holding (record { arrival = lit< tt; touch = lit< tt }) s.holdings _ i p.1.1.1.1.1.1.1.1.0.1.1;
   borders = borders_ok s.borders _ p.1.1.1.1.1.1.1.1.1.0;
-  place = λ i. element_ok usize-field (λ n. n < 2 ^ 64) (λ x u h. h.1) 0 (lit< tt) s.places _ i p.1.1.1.1.1.1.0.1.1;
+  place = λ i. element_ok builtin.usize (λ n. n < 2 ^ 64) (λ x u h. h.1) 0 (lit< tt) s.places _ i p.1.1.1.1.1.1.0.1.1;
 }

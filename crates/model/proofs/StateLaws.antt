@@ -9,7 +9,7 @@ use lib.Dec.{eqb}
 use lib.ListN.{length-set, length-replicate}
 use Rattle.seq.proofs.EachLaws.{set_at, replicate_at}
 use Rattle.model.specs.Ranges.{Sized}
-use Rattle.model.specs.State.{free_row, empty_slot, empty_holding, empty_holdings, fresh, row_at, slot_at, holding_at, with_clock, with_begun, put_row, put_slot, put_holding}
+use Rattle.model.specs.State.{free_row, empty_slot, empty_holding, empty_holdings, fresh, row_at, slot_at, holding_at, with_begun, put_row, put_slot, put_holding}
 use Rattle.model.specs.declared.Row.{Row}
 use Rattle.model.specs.declared.Slot.{Slot}
 use Rattle.model.specs.declared.Holding.{Holding}

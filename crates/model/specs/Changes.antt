@@ -1,5 +1,5 @@
 -- Document 01, "The calls", and T-06 of document 02: the elementary changes of a state. A set of rows is a test.
-use Rattle.std.specs.Prelude.{Bool, true, false, cond, ◌&&◌, not, List, ℕ, ◌-◌, ◌/◌, ◌%◌, leb, ltb, eqb, get_or}
+use Rattle.std.specs.Prelude.{Bool, true, cond, ◌&&◌, not, List, ℕ, ◌-◌, ◌/◌, ◌%◌, leb, ltb, eqb, get_or}
 use Rattle.seq.specs.Below.{any_below, count_below}
 use Rattle.seq.specs.Each.{each}
 use Rattle.model.specs.declared.Cause.{Cause}

@@ -1,4 +1,6 @@
 // Plays the records on standard input and prints a line for each.
+#![tactic(auto)]
+
 fn main() {
     stream::play_standard_input();
 }

@@ -1,4 +1,6 @@
 // The player's records and lines, and the playing of records on an area.
+#![tactic(auto)]
+
 ghost use Rattle.std.specs.Prelude.{◌≡◌, ◌+◌, ◌*◌, ◌^◌, ◌<◌, ◌≤◌, [], ◌∷◌, length};
 ghost use Rattle.words.specs.Bytes.{Wrote};
 ghost use Rattle.rules.specs.Content.{is_start};
@@ -12,14 +14,14 @@ ghost use Rattle.record.specs.Inner.Room.{room_of};
 use model::Call;
 
 // A record of the player: a good one names a call.
-#[derive(Drop)]
+#[derive(Clone, Copy)]
 pub enum Input {
     Bad,
     Good(Call),
 }
 
 // A run's progress: whether a start was accepted, whether it is over, and the next record's number.
-#[derive(Drop)]
+#[derive(Clone, Copy)]
 pub struct Progress {
     pub started: bool,
     pub over: bool,
@@ -27,7 +29,7 @@ pub struct Progress {
 }
 
 // A run's progress, and the place past the text that was written.
-#[derive(Drop)]
+#[derive(Clone, Copy)]
 pub struct Step {
     pub progress: Progress,
     pub end: usize,

@@ -2,6 +2,8 @@
 // `sound`, which reads the holdings from the area, makes the call on the state, and has what it changes written over the area. Look, view and count, which
 // change nothing, go by `ask`. A tick, which is lent a list too, goes by `tick`, and a start, which takes any bytes, by `start`: these write the whole of the
 // next state.
+#![tactic(auto)]
+
 ghost use Rattle.std.specs.Prelude.{◌≡◌, true, false, cond, ◌&&◌, ◌++◌, ◌≤◌, length, drop};
 ghost use Rattle.rules.specs.Sound.{sound};
 ghost use Rattle.rules.specs.Content.{is_tick, is_reading};

@@ -1,4 +1,6 @@
 // How a request, the call's own or one that a tick tries, is served, steps 1 to 4 of document 01, on a state by value.
+#![tactic(auto)]
+
 ghost use Rattle.std.specs.Prelude.{◌≡◌, ◌+◌, ◌<◌, ◌≤◌, ◌^◌, min, get_or, replicate};
 ghost use Rattle.model.specs.declared.Setting.TheVariants.{Left};
 ghost use Rattle.model.specs.State.{empty_slot, empty_holding};
@@ -98,7 +100,7 @@ pub fn see_dormant(held: [Holding; 32], x: Slot, level: usize) -> bool
 }
 
 // The rows that a request kills at a slot: those that pin it, or those other than the requester whose pin conflicts with its mode.
-#[derive(Drop)]
+#[derive(Clone, Copy)]
 enum Kills {
     Pinning,
     Conflicting { row: usize, mode: Mode },
@@ -341,7 +343,7 @@ fn write_back(x: Slot) -> Back
 }
 
 // What steps 1 to 3 come to in the slot that has the page: the row waits, or the marked rows are killed and the page arrives at a tick.
-#[derive(Drop)]
+#[derive(Clone, Copy)]
 struct Plan {
     wait: bool,
     marks: [bool; 32],

@@ -1,4 +1,6 @@
 // Plays the stored files that the arguments name, each under a line with its name. docs/RECORDED.md has their form: a number, as many pairs of words, and records.
+#![tactic(auto)]
+
 ghost use Rattle.std.specs.Prelude.{◌+◌, ◌*◌, ◌≤◌, length};
 
 use libc::{SEEK_SET, STDOUT_FILENO};

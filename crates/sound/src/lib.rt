@@ -1,4 +1,6 @@
 // The test whether a state is sound: document 01, "State", and document 02, T-01, T-02 and T-06.
+#![tactic(auto)]
+
 ghost use Rattle.std.specs.Prelude.{◌≡◌, cond, ◌&&◌, not, ◌+◌, ◌<◌, ◌≤◌, ◌^◌, length, get_or};
 ghost use Rattle.seq.specs.Below.{all_below};
 ghost use Rattle.model.specs.Parties.{class_of};

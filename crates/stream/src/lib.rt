@@ -1,4 +1,6 @@
 // Records from a file descriptor, played on an area; the header and their lines go to standard output.
+#![tactic(auto)]
+
 ghost use Rattle.std.specs.Prelude.{◌≡◌, cond, ◌||◌, eqb, ltb, ◌+◌, ◌-◌, ◌^◌, ◌<◌, ◌≤◌, length, take};
 ghost use Rattle.words.specs.Bytes.{Wrote};
 ghost use Rattle.record.specs.Record.{long_width, record_width};
@@ -10,7 +12,7 @@ use libc::{STDIN_FILENO, STDOUT_FILENO};
 use record::Progress;
 
 // How many bytes of the next record were read, none where the input has ended; a run's progress after it, and the place past its text.
-#[derive(Drop)]
+#[derive(Clone, Copy)]
 pub struct Turn {
     pub read: usize,
     pub progress: Progress,
@@ -81,7 +83,7 @@ fn is_last(read: usize, over: bool) -> bool
 }
 
 // The place for the next text, and whether what had to be written was.
-#[derive(Drop)]
+#[derive(Clone, Copy)]
 struct Room {
     at: usize,
     is_written: bool,

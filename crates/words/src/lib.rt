@@ -1,4 +1,6 @@
 // Words of eight bytes in a slice, the least byte first, and single bytes.
+#![tactic(auto)]
+
 ghost use Rattle.std.specs.Prelude.{◌≡◌, cond, ltb, ◌+◌, ◌*◌, ◌<◌, ◌≤◌, [], ◌∷◌, length, replicate};
 ghost use Rattle.words.specs.Bytes.{bytes_of, word_at, has_words, word_bytes, spliced, zero_words, Wrote};
 
