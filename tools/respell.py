@@ -127,6 +127,8 @@ def main(root):
             if word in here:
                 return here[word]
             line = before[before.rfind("\n") + 1 :]
+            if re.match(r" = |\s*=$", text[m.end() : m.end() + 3]) and re.search(r"([{;]\s*|^\s+)$", line or " "):
+                return single.get(word, word)
             if "--" in line or "//" in line:
                 return single.get(word, word)
             return word

@@ -41,7 +41,7 @@ old_answered a c z = sound_answer a c (old_fit a z) ∙ ap (λ s. (outcome s c).
 pub old_taken_over : (a : List ℕ) (c : Call) → sound_area32 a ≡ true → Fits c → is_refused (answer_on a c) ≡ false → is_reading c ≡ false → TakenOver a c
 old_taken_over a c z f e n =
     let x = changed_area a c (old_fit a z) f e n in
-    record { next = x.0 ∙ ap (λ s. (outcome s c).state) (amounts_kept a z); is-sound = x.1; is-new = sound_version (area_after a c) x.1 }
+    record { next = x.0 ∙ ap (λ s. (outcome s c).state) (amounts_kept a z); is_sound = x.1; is_new = sound_version (area_after a c) x.1 }
 
 -- look, view and count, and a refused call, leave it as it was
 pub old_left : (a : List ℕ) (c : Call) → is_refused (answer_on a c) || is_reading c ≡ true → area_after a c ≡ a
@@ -166,7 +166,7 @@ can_hand_over r f before after e early narrow =
     let s = decoded (area_after_all (started_area r) before) in
     let z = run_fit_on before (started_area r) (started_fit r f) (fit_parts before after (rw e at f.fit)).0 in
     let o = old_made s (fit_area_lem (area_after_all (started_area r) before) z).sound_state early narrow [] in
-    record { before = before; after = after; all = e; area = Old.encoded s ++ []; sound-old = o.0; same-state = o.1 }
+    record { before = before; after = after; all = e; area = Old.encoded s ++ []; sound_old = o.0; same_state = o.1 }
 
 -- any call after it is answered as in the run that was not
 pub handed_as_in_run : (r : Run) → FromFreshStart r → (h : HandedOver r) → AsInRun r h

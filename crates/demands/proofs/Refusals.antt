@@ -93,7 +93,7 @@ same_state a b e z =
     let n : decoded b ≡ s = rw y at (decode_encode v h s ok r) in
     let w : version_in b ≡ v = rw y at (version_there v h s ok r) in
     let t : exact_as v b ≡ true = rw y at (encode_exact v h s ok r) in
-    (area_fit b (record { long = exact_long v b t; exactly = rw w t; is_known = rw (w, n) p.is_known; sound-state = rw n p.sound_state }), n)
+    (area_fit b (record { long = exact_long v b t; exactly = rw w t; is_known = rw (w, n) p.is_known; sound_state = rw n p.sound_state }), n)
 
 -- what a start answers, and what it leaves where it is accepted, is the same for every state
 start_any : (s t : State) (slots delay : ℕ)

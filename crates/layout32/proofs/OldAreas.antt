@@ -182,7 +182,7 @@ old_area a e =
       long = leb-true 65536 (length a) p.0;
       exactly = old_exact a q.0 r.0;
       narrow = rw n at (both_true r.1 b);
-      sound-state = rw n at r.0;
+      sound_state = rw n at r.0;
       named = n;
     }
 

@@ -23,8 +23,8 @@ use Rattle.rules.proofs.Stays.StaysSound.{stays_sound}
 use Rattle.rules.specs.Alike.{Alike}
 use Rattle.rules.proofs.Same.AlikeLaws.{alike_sym, alike_trans}
 use Rattle.rules.proofs.Same.SameStep.{same_step}
-use Rattle.rules.proofs.Hidden.Hidden.{hidden, borders_hidden}
-use Rattle.rules.proofs.Hidden.OtherBorders.{under_borders, before_begun}
+use Rattle.rules.proofs.Unseen.Hidden.{hidden, borders_hidden}
+use Rattle.rules.proofs.Unseen.OtherBorders.{under_borders, before_begun}
 
 -- two sound states, the second with the borders b: alike for a clearance up to 2; one state but for the borders for clearance 3, which sees all else of it
 pub record Similar (L : ℕ) (b : Borders) (s t : State) : Type 0 where

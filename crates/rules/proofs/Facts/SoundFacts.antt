@@ -193,18 +193,18 @@ facts s e = record {
     holdings = eqb-true (length s.holdings) 2048 (search parts depth 20);
     places = eqb-true (length s.places) 32 (search parts depth 20);
   };
-  size-least = leb-true 1 s.size (search parts depth 20);
-  size-most = leb-true s.size 64 (search parts depth 20);
-  delay-least = leb-true 1 s.delay (search parts depth 20);
-  delay-most = leb-true s.delay 255 (search parts depth 20);
-  clock-most = leb-true s.clock last_clock (search parts depth 20);
+  size_least = leb-true 1 s.size (search parts depth 20);
+  size_most = leb-true s.size 64 (search parts depth 20);
+  delay_least = leb-true 1 s.delay (search parts depth 20);
+  delay_most = leb-true s.delay 255 (search parts depth 20);
+  clock_most = leb-true s.clock last_clock (search parts depth 20);
   slot = λ i b. slot_facts s i (all_each (sound_slot s) 64 i (search parts depth 20) b);
-  one-slot = pages_facts s (search parts depth 20);
+  one_slot = pages_facts s (search parts depth 20);
   row = λ q b. row_facts s q (row_at s q).condition (row_at s q).deadline (all_each (sound_row s) 32 q (search parts depth 20) b);
   order = order_facts s (λ l b. all_each (sound_order s) 4 l (search parts depth 20) b);
   held = λ i q a b. held_facts s i q (all_each (sound_holding s i) 32 q (all_each (λ slot. all_below 32 (sound_holding s slot)) 64 i (search parts depth 20) a) b);
   unheld = λ i q a b. unheld_facts s i q (all_each (sound_holding s i) 32 q (all_each (λ slot. all_below 32 (sound_holding s slot)) 64 i (search parts depth 20) a) b);
-  no-conflict = λ i q o a. pins_facts s i (all_each (sound_pins s) 64 i (search parts depth 20) a) q o;
+  no_conflict = λ i q o a. pins_facts s i (all_each (sound_pins s) 64 i (search parts depth 20) a) q o;
 }
 
 pub is_free_lem : (x : Condition) → is_free x ≡ true → x ≡ Free

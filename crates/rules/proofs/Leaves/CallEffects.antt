@@ -76,7 +76,7 @@ module _ (s : State) where
       let t = request_taken s level number page mode e in
       let n = t.names in
       serves (row_of level number) page (mode_of mode) n.row_is
-      (record { level-most = n.level_is; number-most = n.number_is; row_is = refl; kind = refl; page-is = refl; mode-is = refl })
+      (record { level_most = n.level_is; number_most = n.number_is; row_is = refl; kind = refl; page_is = refl; mode_is = refl })
       (t.idle, t.page_is, t.allowed) refl)
   effect (Unpin level number page) = by_refusal s (Unpin level number page) (unpin_refusal s level number page) _ (λ e. unpin_effect level number page (unpin_taken s level number page e))
   effect (End level number) = by_refusal s (End level number) (end_refusal s level number) _ (λ e. ends level number refl (end_taken s level number e) refl)

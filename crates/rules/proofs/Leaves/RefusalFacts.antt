@@ -72,10 +72,10 @@ start_taken slots delay e =
     let a = and_true (leb 1 slots) (leb slots 64) (not-false (leb 1 slots && leb slots 64) n.0) in
     let b = and_true (leb 1 delay) (leb delay 255) (not-false (leb 1 delay && leb delay 255) n.1.0) in
     record {
-      slots-least = leb-true 1 slots a.0;
-      slots-most = leb-true slots 64 a.1;
-      delay-least = leb-true 1 delay b.0;
-      delay-most = leb-true delay 255 b.1;
+      slots_least = leb-true 1 slots a.0;
+      slots_most = leb-true slots 64 a.1;
+      delay_least = leb-true 1 delay b.0;
+      delay_most = leb-true delay 255 b.1;
     }
 
 pub record BeginTaken (s : State) (level number deadline : ℕ) : Type 0 where

@@ -69,7 +69,7 @@ ready_arrived s z c slot back w =
       page,
       mode,
       x.3,
-      record { slot_is = y.0; has-it = y.2; pinned = y.3; holding-arrived = a.0; slot-arrived = a.1 },
+      record { slot_is = y.0; has_it = y.2; pinned = y.3; holding_arrived = a.0; slot_arrived = a.1 },
       all,
     )
 

@@ -86,15 +86,15 @@ wait_leaves : (s : State) → Sized s → (row page : ℕ) (mode : Mode) (h : �
 unfolding waiting
 wait_leaves s z row page mode h n = record {
   row_same = row_other s z row (record { condition = Waiting page mode; deadline = (row_at s row).deadline }) h n;
-  holding-same = λ i b. refl;
-  page-same = λ i b q p. refl;
+  holding_same = λ i b. refl;
+  page_same = λ i b q p. refl;
 }
 
 killed_leaves : (some : ℕ → Bool) (s : State) → Sound s → (h : ℕ) → h < 32 → some h ≡ false → LeftAlone s (killed some Taken s) h
 killed_leaves some s z h m e = record {
   row_same = killed_row_lem some s z.sized Taken h m ∙ rw e;
-  holding-same = λ i b. killed_holding some s z.sized Taken i h m ∙ rw e;
-  page-same = λ i b q p. killed_page some s z.sized z.size_most Taken p i b;
+  holding_same = λ i b. killed_holding some s z.sized Taken i h m ∙ rw e;
+  page_same = λ i b q p. killed_page some s z.sized z.size_most Taken p i b;
 }
 
 -- a row that does not hold the slot that is filled
@@ -106,11 +106,11 @@ filled_leaves s z slot page level h there m e =
     let x = killed_leaves (pins s slot) s z h m (not_pinned (holding_at s slot h).pin e) in
     record {
       row_same = filled_row k f.sized f.most slot page level f.there h ∙ x.row_same;
-      holding-same = λ i b. filled_holding k f.sized f.most slot page level f.there i h m ∙ elim (ℕ_discrete i slot) [
+      holding_same = λ i b. filled_holding k f.sized f.most slot page level f.there i h m ∙ elim (ℕ_discrete i slot) [
         | yes w ↦ rw (eq-eqb i slot w, w) (sym (z.unheld slot h (rw w at b) m e))
         | no w ↦ rw (ne_eqb i slot w) (x.holding_same i b)
       ];
-      page-same = λ i b q p.
+      page_same = λ i b q p.
           filled_other k f.sized f.most slot page level f.there p i (λ w. true_false (sym (rw w at q) ∙ e))
           ∙ x.page_same i b q p;
     }
@@ -125,8 +125,8 @@ module _ (u : State) (z : Sized u) (row slot : ℕ) (r : row < 32) (b : slot < 6
   granted_leaves : (s : State) (h : ℕ) → h < 32 → (h ≡ row → ⊥) → LeftAlone s u h → LeftAlone s (granted u row slot mode arrival back).state h
   granted_leaves s h m n x = record {
     row_same = granted_row_lem u z row slot r b mode arrival back h ∙ rw (ne_eqb h row n) x.row_same;
-    holding-same = λ i k. granted_holding_lem u z row slot r b mode arrival back i h m ∙ rw (ne_eqb h row n, and_false_right (eqb i slot) false refl) (x.holding_same i k);
-    page-same = λ i k q p. granted_page p i ∙ x.page_same i k q p;
+    holding_same = λ i k. granted_holding_lem u z row slot r b mode arrival back i h m ∙ rw (ne_eqb h row n, and_false_right (eqb i slot) false refl) (x.holding_same i k);
+    page_same = λ i k q p. granted_page p i ∙ x.page_same i k q p;
   }
 
 -- ---- rows that are left alone
@@ -154,7 +154,7 @@ module _ (s : State) (sound-state : sound s ≡ true) (row : ℕ) (b : row < 32)
       go x (grant_1 slot e v w q) = rw q (joined (conflicts s row slot mode) slot (least_arrival s (level_of row) slot) e (in-step-1 slot (found_below s z page slot e) w))
       go x (grant_2 slot e d q) =
           rw q (granted_leaves s z.sized row slot b (found_below s z page slot e) mode (arrival_in (slot_at s slot).content) Nothing s h m n
-          (record { row_same = refl; holding-same = λ i k. refl; page-same = λ i k w p. refl }))
+          (record { row_same = refl; holding_same = λ i k. refl; page_same = λ i k w p. refl }))
       go x (grant_3 slot e v q) = rw q (joined (conflicts s row slot mode) slot (s.clock + s.delay) e (in-step-3 slot (found_below s z page slot e) v))
       go x (wait_g e c q) = rw q (wait_leaves s z.sized row page mode h n)
       go x (fill slot e c q) =

@@ -96,7 +96,7 @@ module _ (s : State) (z : Sound s) (page slot : ℕ) (b : slot < 64) where
   unfolding delivered_rows advanced
   ticked_booked =
       let x = booked_dropped page (is_late (later s)) (later s) (late_killed (later s)) slot (ticked_slot s z.sized slot b) (ticked_holding s z.sized slot) in
-      record { has-it = x.has_it; dirty = x.dirty; wrote = x.wrote }
+      record { has_it = x.has_it; dirty = x.dirty; wrote = x.wrote }
 
   killed_booked : (some : ℕ → Bool) → Booked s.clock page s (killed some Taken s) slot
   killed_booked some = booked_dropped page some s (killed some Taken s) slot (killed_slot some s z.sized Taken slot b) (killed_holding some s z.sized Taken slot)

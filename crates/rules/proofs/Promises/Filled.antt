@@ -131,8 +131,8 @@ made_listed = by_tries (λ rows s y. AreRows rows → sound s ≡ true → (q : 
 left_trans : (s t u : State) (row : ℕ) → LeftAlone s t row → LeftAlone t u row → LeftAlone s u row
 left_trans s t u row x y = record {
   row_same = y.row_same ∙ x.row_same;
-  holding-same = λ i b. y.holding_same i b ∙ x.holding_same i b;
-  page-same = λ i b h p. y.page_same i b (ap (λ (k : Holding). is_held k.pin) (x.holding_same i b) ∙ h) p ∙ x.page_same i b h p;
+  holding_same = λ i b. y.holding_same i b ∙ x.holding_same i b;
+  page_same = λ i b h p. y.page_same i b (ap (λ (k : Holding). is_held k.pin) (x.holding_same i b) ∙ h) p ∙ x.page_same i b h p;
 }
 
 still_granted : (s t : State) (mode : Mode) (f : Fill) → LeftAlone s t f.row → PinnedFor s mode f → PinnedFor t mode f
@@ -141,10 +141,10 @@ still_granted s t mode f x g =
     let e = x.holding_same f.slot l.slot_is in (
       record {
         row_is = l.row_is;
-        condition-is = ap (λ (k : Row). is_idle_or_fetching k.condition) x.row_same ∙ l.condition_is;
+        condition_is = ap (λ (k : Row). is_idle_or_fetching k.condition) x.row_same ∙ l.condition_is;
         slot_is = l.slot_is;
-        pins-it = ap (λ (k : Holding). is_pin k.pin) e ∙ l.pins_it;
-        has-it = x.page_same f.slot l.slot_is (pin_held (holding_at s f.slot f.row).pin l.pins_it) f.page ∙ l.has_it;
+        pins_it = ap (λ (k : Holding). is_pin k.pin) e ∙ l.pins_it;
+        has_it = x.page_same f.slot l.slot_is (pin_held (holding_at s f.slot f.row).pin l.pins_it) f.page ∙ l.has_it;
       },
       rw e g.1,
     )
@@ -168,7 +168,7 @@ module _ (u : State) where
 
   ranked_hold : (rows : List ℕ) (s : State) → AreRows rows → sound s ≡ true → Old s → Ahead rows s (tries rows s) × (Ranked (outranks u) rows → EachFill (GrantedFor u (tries rows s).state) (tries rows s).fills)
   ranked_hold = by_tries (λ rows s y. AreRows rows → sound s ≡ true → Old s → Ahead rows s y × (Ranked (outranks u) rows → EachFill (GrantedFor u y.state) y.fills))
-      (λ s b z old. ((λ h m d a. record { row_same = refl; holding-same = λ i k. refl; page-same = λ i k q p. refl }), (λ r. tt)))
+      (λ s b z old. ((λ h m d a. record { row_same = refl; holding_same = λ i k. refl; page_same = λ i k q p. refl }), (λ r. tt)))
       (λ row rows s y w more b z old.
       let k = more b.1 z old in
       ((λ h m d a. k.0 h m d a.1), (λ r. k.1 r.1)))

@@ -67,7 +67,7 @@ module _ (u : State) (z : Sized u) (row slot : ℕ) (r : row < 32) (b : slot < 6
 
   pub granted_booked : (k page i : ℕ) → Booked k page u (granted u row slot mode arrival back).state i
   granted_booked k page i = record {
-    has-it = λ h. rw (granted_slot_lem u z row slot r b mode arrival back i) (put_or_old (λ x. has_page page x.content ≡ true) i slot (granted_slot u row slot) (slot_at u i) h (λ m. lowest_page (level_of row) page (slot_at u slot).content ∙ (rw m at h)));
+    has_it = λ h. rw (granted_slot_lem u z row slot r b mode arrival back i) (put_or_old (λ x. has_page page x.content ≡ true) i slot (granted_slot u row slot) (slot_at u i) h (λ m. lowest_page (level_of row) page (slot_at u slot).content ∙ (rw m at h)));
     dirty = λ h. rw (granted_slot_lem u z row slot r b mode arrival back i) (put_or_old (λ x. dirty_in x.content ≡ true) i slot (granted_slot u row slot) (slot_at u i) h (λ m. lowest_dirty (level_of row) (slot_at u slot).content ∙ (rw m at h)));
     wrote = λ h q m w. inl (rw (granted_holding_lem u z row slot r b mode arrival back i q m) (stays q w));
   }
@@ -92,7 +92,7 @@ module _ (s : State) (z : Sized s) (row slot : ℕ) (r : row < 32) (b : slot < 6
 
   pub unpinned_booked : (page i : ℕ) → Booked s.clock page s (unpinned_at s row slot) i
   unpinned_booked page i = record {
-    has-it = λ h. rw (unpinned_slot_lem s z row slot r b i) (put_or_old (λ x. has_page page x.content ≡ true) i slot (unpinned_slot s row slot) (slot_at s i) h (λ m. dirtied_page page (written s.clock (holding_at s slot row)) (slot_at s slot) ∙ (rw m at h)));
+    has_it = λ h. rw (unpinned_slot_lem s z row slot r b i) (put_or_old (λ x. has_page page x.content ≡ true) i slot (unpinned_slot s row slot) (slot_at s i) h (λ m. dirtied_page page (written s.clock (holding_at s slot row)) (slot_at s slot) ∙ (rw m at h)));
     dirty = λ h. rw (unpinned_slot_lem s z row slot r b i) (put_or_old (λ x. dirty_in x.content ≡ true) i slot (unpinned_slot s row slot) (slot_at s i) h (λ m. dirtied_stays (written s.clock (holding_at s slot row)) (slot_at s slot) (rw m at h)));
     wrote = λ h q m w. go h q m w (eqb i slot) (eqb q row) refl refl;
   }

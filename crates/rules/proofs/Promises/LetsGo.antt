@@ -72,7 +72,7 @@ module _ (s : State) (z : sound s ≡ true) (c : Call) (again : is_started (outc
       has = has_page_lem page (slot_at s slot).content (dirty_filled (slot_at s slot).content d) refl
 
       go : (o : Outcome) → Writes s o.state page slot (Reports s o slot page) → Dirty o.state slot page ⊎ Reports s o slot page
-      go o (stay k e x) = inl (record { has-it = x.has_it has; dirty = x.dirty d })
+      go o (stay k e x) = inl (record { has_it = x.has_it has; dirty = x.dirty d })
       go o (reported k e u x n f) = inr (f (x.has_it has) (x.dirty d))
 
   -- when a write pin goes and its arrival ≤ clock, the slot becomes dirty, or the page is reported for write-back from it
@@ -99,5 +99,5 @@ module _ (s : State) (z : sound s ≡ true) (c : Call) (again : is_started (outc
 
       go : (o : Outcome) → Writes s o.state page slot (Reports s o slot page) → (holding_at s slot row).arrival ≤ o.state.clock → is_write (holding_at o.state slot row).pin ≡ false
           → Dirty o.state slot page ⊎ Reports s o slot page
-      go o (stay k e x) a n = either k o.state x (omega arith) n (λ h d. inl (record { has-it = h; dirty = d }))
+      go o (stay k e x) a n = either k o.state x (omega arith) n (λ h d. inl (record { has_it = h; dirty = d }))
       go o (reported k e u x m f) a n = either k u x (omega arith) (m row r) (λ h d. inr (f h d))

@@ -175,11 +175,11 @@ module _ (s : State) (z : Sound s) where
       record {
         slot = slot;
         slot_is = found_below s z page slot e;
-        has-it = has_page_lem page (slot_at s slot).content f.1 f.2;
+        has_it = has_page_lem page (slot_at s slot).content f.1 f.2;
         other = x.0;
         other_row = x.1;
         different = eqb-false x.0 row (not-true (eqb x.0 row) (search parts depth 20));
-        other-level = leb-true (level_of x.0) (level_of row) (search parts depth 20);
+        other_level = leb-true (level_of x.0) (level_of row) (search parts depth 20);
         better = search parts depth 20;
         against = conflict_in mode (holding_at s slot x.0).pin (search parts depth 20);
       }
@@ -244,11 +244,11 @@ module _ (s : State) (z : sound s ≡ true) (worse : ℕ) (c : worse < 32) (aske
       record {
         slot = p.slot;
         slot_is = i;
-        has-it = x.page_same p.slot i (in_conflict_held mode (holding_at s p.slot p.other).pin p.against) page ∙ p.has_it;
+        has_it = x.page_same p.slot i (in_conflict_held mode (holding_at s p.slot p.other).pin p.against) page ∙ p.has_it;
         other = p.other;
         other_row = p.other_row;
         different = p.different;
-        other-level = p.other_level;
+        other_level = p.other_level;
         better = still_better p.other x p.better;
         against = rw (x.holding_same p.slot i) p.against;
       }

@@ -101,10 +101,10 @@ grant_own s row page mode b o g =
         let p = own_pin s row page mode b o g in (
           record {
             row_is = b;
-            condition-is = i;
+            condition_is = i;
             slot_is = g.ground.slot_is;
-            pins-it = strength_pin mode (holding_at o.state g.slot row).pin p;
-            has-it = own_page s row page mode b o g;
+            pins_it = strength_pin mode (holding_at o.state g.slot row).pin p;
+            has_it = own_page s row page mode b o g;
           },
           p,
         )

@@ -91,7 +91,7 @@ was_later u t v row slot page still w = (w.0, w.1, go w.2)
   where
     go : (dirty_in (slot_at u slot).content ≡ true) ⊎ WriterTaken u t slot → (dirty_in (slot_at u slot).content ≡ true) ⊎ WriterTaken u v slot
     go (inl d) = inl d
-    go (inr x) = inr (record { writer = x.writer; writer-row = x.writer_row; writes = x.writes; arrived = x.arrived; taken = still x.writer x.writer_row x.taken })
+    go (inr x) = inr (record { writer = x.writer; writer_row = x.writer_row; writes = x.writes; arrived = x.arrived; taken = still x.writer x.writer_row x.taken })
 
 -- ---- a served request
 
@@ -142,7 +142,7 @@ module _ (s : State) (sound-state : sound s ≡ true) (row : ℕ) (b : row < 32)
             has_page_lem page (slot_at s slot).content (z.held slot q below m (write_held (holding_at s slot q).pin v)).filled (sym (dirtied_page (slot_at s slot).content) ∙ (rw x at d.1)),
             inr (record {
               writer = q;
-              writer-row = m;
+              writer_row = m;
               writes = write_is (holding_at s slot q).pin v;
               arrived = leb-true (holding_at s slot q).arrival s.clock (search parts depth 20);
               taken = ap (λ (r : Row). r.condition) gone ∙ rw p;
@@ -259,14 +259,14 @@ module _ (s : State) (z : sound s ≡ true) (c : Call) (slot page : ℕ) where
       ticked (inl k) = absurd (omega (arith, k.1))
       ticked (inr k) =
           let x = (tries_were slot page (waiters u) u (waiters_rows u) (steps_sound s z early)).1 k in
-          record { on = x.on; row = x.row; asked = x.page; mode = x.mode; serves = stored room q w x.tried x.waits; chose = x.with_it.0; has-it = x.with_it.1; dirty = rw (same, e) x.with_it.2 }
+          record { on = x.on; row = x.row; asked = x.page; mode = x.mode; serves = stored room q w x.tried x.waits; chose = x.with_it.0; has_it = x.with_it.1; dirty = rw (same, e) x.with_it.2 }
   was_in o same (sets b q t e) h = silent _ refl refl (rw e at h)
   was_in o same (serves row p mode r a x e) h = told h
     where
       told : Tells o → WasDirty s c slot page
       told (inl k) =
           let y = told_was s z row r p mode slot page (rw e at k.0) (rw e at k.1) in
-          record { on = s; row = row; asked = p; mode = mode; serves = own refl a (same ∙ e); chose = y.0; has-it = y.1; dirty = rw (same, e) y.2 }
+          record { on = s; row = row; asked = p; mode = mode; serves = own refl a (same ∙ e); chose = y.0; has_it = y.1; dirty = rw (same, e) y.2 }
       told (inr k) = absurd (rw (served_silent s row p mode) at (rw e at k))
 
   pub reported_dirty : Reported s c slot page → WasDirty s c slot page

@@ -28,7 +28,7 @@ use Rattle.rules.specs.Alike.{Alike}
 use Rattle.rules.proofs.Same.AlikeLaws.{alike_refl, alike_sym, alike_trans}
 use Rattle.rules.proofs.Same.SamePages.{same_rank}
 use Rattle.rules.proofs.Same.SameRequest.{same_request}
-use Rattle.rules.proofs.Hidden.HiddenServed.{served_hidden}
+use Rattle.rules.proofs.Unseen.HiddenServed.{served_hidden}
 use Rattle.rules.proofs.Stays.StaysTries.{stored_sound, try_sound, tries_sound}
 
 module _ (L : ℕ) where

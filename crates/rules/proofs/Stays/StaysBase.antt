@@ -27,18 +27,18 @@ Base s = Facts Unit Unit s
 with_rows_lem : {R Q O P : Type 0} (s : State) → Facts R O s → Q → P → Facts Q P s
 with_rows_lem s h rows order = record {
   sized = h.sized;
-  size-least = h.size_least;
-  size-most = h.size_most;
-  delay-least = h.delay_least;
-  delay-most = h.delay_most;
-  clock-most = h.clock_most;
+  size_least = h.size_least;
+  size_most = h.size_most;
+  delay_least = h.delay_least;
+  delay_most = h.delay_most;
+  clock_most = h.clock_most;
   slot = h.slot;
-  one-slot = h.one_slot;
+  one_slot = h.one_slot;
   row = rows;
   order = order;
   held = h.held;
   unheld = h.unheld;
-  no-conflict = h.no_conflict;
+  no_conflict = h.no_conflict;
 }
 
 pub base : (s : State) → Sound s → Base s
@@ -48,18 +48,18 @@ base s h = with_rows_lem s h tt tt
 pub base_places : (s : State) (places : List ℕ) → Base s → length places ≡ 32 → Base (with_places s places)
 base_places s places h l = record {
   sized = record { rows = h.sized.rows; slots = h.sized.slots; holdings = h.sized.holdings; places = l };
-  size-least = h.size_least;
-  size-most = h.size_most;
-  delay-least = h.delay_least;
-  delay-most = h.delay_most;
-  clock-most = h.clock_most;
+  size_least = h.size_least;
+  size_most = h.size_most;
+  delay_least = h.delay_least;
+  delay_most = h.delay_most;
+  clock_most = h.clock_most;
   slot = λ i b. let x = h.slot i b in record { empty = x.empty; page = x.page; lowest = x.lowest; touch = x.touch; arrival = x.arrival; started = x.started };
-  one-slot = h.one_slot;
+  one_slot = h.one_slot;
   row = tt;
   order = tt;
   held = λ i r a b w. let x = h.held i r a b w in record { live = x.live; filled = x.filled; allowed = x.allowed; after = x.after; arrival = x.arrival; touch = x.touch; lowest = x.lowest };
   unheld = h.unheld;
-  no-conflict = h.no_conflict;
+  no_conflict = h.no_conflict;
 }
 
 pub whole : (s : State) → Base s → RowsSound s → OrderSound s → Sound s

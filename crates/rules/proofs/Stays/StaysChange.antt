@@ -87,16 +87,16 @@ module _ (s t : State) (b : Base s) (c : Change s t) where
   pub base_change : Base t
   base_change = record {
     sized = c.sized;
-    size-least = omega (arith, b.size_least, c.size);
-    size-most = omega (arith, b.size_most, c.size);
-    delay-least = omega (arith, b.delay_least, c.delay);
-    delay-most = omega (arith, b.delay_most, c.delay);
+    size_least = omega (arith, b.size_least, c.size);
+    size_most = omega (arith, b.size_most, c.size);
+    delay_least = omega (arith, b.delay_least, c.delay);
+    delay_most = omega (arith, b.delay_most, c.delay);
     clock_most = c.clock_most;
     slot = λ i h. slot_change i h (c.slot i h);
-    one-slot = λ i j h g. pages_change i j h g (c.slot i h) (c.slot j g);
+    one_slot = λ i j h g. pages_change i j h g (c.slot i h) (c.slot j g);
     row = tt;
     order = tt;
     held = λ i r h g. held_change i r h g (c.slot i h) (c.holding i r h g);
     unheld = λ i r h g. unheld_change i r h g (c.holding i r h g);
-    no-conflict = λ i r q h g f m. conflict_change i r q h g f m (c.holding i r h g) (c.holding i q h f);
+    no_conflict = λ i r q h g f m. conflict_change i r q h g f m (c.holding i r h g) (c.holding i q h f);
   }

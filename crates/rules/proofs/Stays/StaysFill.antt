@@ -79,7 +79,7 @@ module _ (s : State) (slot page level : ℕ) (h : Sound s) (b : slot < s.size) w
           size = refl;
           delay = refl;
           clock = omega arith;
-          clock-most = h.clock_most;
+          clock_most = h.clock_most;
           borders = λ _ _ _. refl;
           slot = slots;
           holding = λ i r _ g. old_holding (holdings i r g);

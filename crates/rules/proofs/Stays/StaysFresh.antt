@@ -23,11 +23,11 @@ module _ (slots delay : ℕ) where
   unfolding fresh conflict
   fresh_facts a b c d = record {
     sized = fresh_sized slots delay;
-    size-least = a;
-    size-most = b;
-    delay-least = c;
-    delay-most = d;
-    clock-most = omega arith;
+    size_least = a;
+    size_most = b;
+    delay_least = c;
+    delay_most = d;
+    clock_most = omega arith;
     slot = λ i _. record {
       empty = λ _. ap (λ (x : Slot). x.touch) (fresh_slot slots delay i);
       page = λ e. absurd (empty i e);
@@ -36,7 +36,7 @@ module _ (slots delay : ℕ) where
       arrival = λ e. absurd (empty i e);
       started = λ e. absurd (empty i e);
     };
-    one-slot = λ i j _ _ e _ _. absurd (empty i e);
+    one_slot = λ i j _ _ e _ _. absurd (empty i e);
     row = λ r _. rw (fresh_row slots delay r) refl;
     order = record {
       none = λ r _ _. replicate_at {A = ℕ} 32 r 0;
@@ -46,7 +46,7 @@ module _ (slots delay : ℕ) where
     };
     held = λ i r _ _ e. true_false (sym (rw (fresh_holding slots delay i r) at e));
     unheld = λ i r _ _ _. fresh_holding slots delay i r;
-    no-conflict = λ i r q _ _ _ _. rw (fresh_holding slots delay i r) refl;
+    no_conflict = λ i r q _ _ _ _. rw (fresh_holding slots delay i r) refl;
   }
 
   pub fresh_borders : BordersSound (fresh slots delay)

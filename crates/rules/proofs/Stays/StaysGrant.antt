@@ -111,7 +111,7 @@ module _ (s : State) (row slot : ℕ) (mode : Mode) (arrival : ℕ) (h : Sound s
     size = refl;
     delay = refl;
     clock = omega arith;
-    clock-most = h.clock_most;
+    clock_most = h.clock_most;
     borders = λ _ _ _. refl;
     slot = λ i b. old_slot (slots i) (touches i b);
     holding = holdings;

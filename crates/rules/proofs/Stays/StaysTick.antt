@@ -32,7 +32,7 @@ module _ (s : State) (h : Sound s) where
     size = refl;
     delay = refl;
     clock = omega arith;
-    clock-most = omega arith;
+    clock_most = omega arith;
     borders = λ _ _ _. refl;
     slot = λ i g. old_slot (slot_stays (slot_at s i) (slot_at s i) refl) (omega (arith, (h.slot i g).touch));
     holding = λ i r _ _. old_holding (same refl);

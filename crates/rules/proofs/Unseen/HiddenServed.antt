@@ -32,9 +32,9 @@ use Rattle.rules.proofs.Leaves.PageLaws.{found_slot, killed_slot_of}
 use Rattle.rules.proofs.Leaves.GrantLaws.{unheld_spared}
 use Rattle.rules.proofs.Leaves.FillLaws.{sized_filled, freed}
 use Rattle.rules.proofs.Leaves.ServeCases.{Step, wait_1, grant_1, grant_2, grant_3, wait_g, fill, step}
-use Rattle.rules.proofs.Hidden.HiddenChanges.{killed_hidden, row_hidden, granted_hidden}
-use Rattle.rules.proofs.Hidden.HiddenFill.{filled_hidden}
-use Rattle.rules.proofs.Hidden.HiddenChoice.{chosen_unheld}
+use Rattle.rules.proofs.Unseen.HiddenChanges.{killed_hidden, row_hidden, granted_hidden}
+use Rattle.rules.proofs.Unseen.HiddenFill.{filled_hidden}
+use Rattle.rules.proofs.Unseen.HiddenChoice.{chosen_unheld}
 
 module _ (L : ℕ) (s : State) (z : Sound s) (me : ℕ) (mine : me < 32) (higher : L < level_of me) where
   -- where no wait is due, no conflicting pin is of the level or a lower one

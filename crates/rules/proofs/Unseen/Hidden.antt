@@ -33,8 +33,8 @@ use Rattle.rules.proofs.Leaves.RefusalFacts.{Named}
 use Rattle.rules.proofs.Leaves.CallEffects.{Effect, unchanged, starts, begins, unpins, ends, ticks, sets, serves, effect}
 use Rattle.rules.specs.Alike.{holding_on, Alike}
 use Rattle.rules.proofs.Same.AlikeLaws.{alike_refl, alike_trans}
-use Rattle.rules.proofs.Hidden.HiddenChanges.{row_hidden, released_hidden, unpinned_hidden}
-use Rattle.rules.proofs.Hidden.HiddenServed.{served_hidden}
+use Rattle.rules.proofs.Unseen.HiddenChanges.{row_hidden, released_hidden, unpinned_hidden}
+use Rattle.rules.proofs.Unseen.HiddenServed.{served_hidden}
 
 -- the row of a call that is not kept is above the clearance
 higher : (L level number : ℕ) → leb level L ≡ false → Named level number → L < level_of (row_of level number)
