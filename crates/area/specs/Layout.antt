@@ -2,7 +2,6 @@
 use Rattle.std.specs.Prelude.{Bool, cond, not, List, [], ◌∷◌, ◌++◌, ℕ, ◌+◌, ◌*◌, ◌%◌, eqb, get_or, take, replicate}
 use Rattle.seq.specs.Each.{each}
 use Rattle.words.specs.Bytes.{word_at, word_bytes, zero_words, joined, same}
-use Rattle.model.specs.declared.Mode.{Mode}
 use Rattle.model.specs.declared.Cause.{Cause}
 use Rattle.model.specs.declared.Cause.TheVariants.{Late, Taken}
 use Rattle.model.specs.declared.Condition.{Condition}
