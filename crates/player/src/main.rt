@@ -1,6 +1,8 @@
 // Plays the records on standard input and prints a line for each.
 #![tactic(auto)]
 
-fn main() {
-    stream::play_standard_input();
+use std::io;
+
+fn main(rt: HostRuntime) -> io::Result<()> {
+    stream::play_standard_input(&rt)
 }

@@ -1,6 +1,8 @@
 // The player on the recorded run of docs/RECORDED.md.
 #![tactic(auto)]
 
-fn main() {
-    stream::play_standard_input();
+use std::io;
+
+fn main(rt: HostRuntime) -> io::Result<()> {
+    stream::play_standard_input(&rt)
 }

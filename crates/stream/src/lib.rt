@@ -1,15 +1,18 @@
-// Records from a file descriptor, played on an area; the header and their lines go to standard output.
+// Records from a reader, played on an area; the header and their lines go to a writer.
 #![tactic(auto)]
 
-ghost use Rattle.std.specs.Prelude.{◌≡◌, cond, ◌||◌, eqb, ltb, ◌+◌, ◌-◌, ◌^◌, ◌<◌, ◌≤◌, length, take};
+ghost use Rattle.std.specs.Prelude.{◌≡◌, cond, ◌||◌, eqb, ltb, ◌+◌, ◌-◌, ◌^◌, ◌<◌, ◌≤◌, length, take, IfOk, OnErr};
+ghost use Rattle.std.specs.Io.{ReadsAtMost};
+ghost use Rattle.std.specs.Io.KnownBytes.{Consumes, IsAtEnd, ReadConsumes};
 ghost use Rattle.words.specs.Bytes.{Wrote};
 ghost use Rattle.record.specs.Record.{long_width, record_width};
 ghost use Rattle.record.specs.Text.{most_text};
 ghost use Rattle.record.specs.Play.{played, records_of};
 ghost use Rattle.stream.specs.Left.{LeftBySome};
 
-use libc::{STDIN_FILENO, STDOUT_FILENO};
 use record::Progress;
+use std::io;
+use std::io::{ErrorKind, Read, Write};
 
 // How many bytes of the next record were read, none where the input has ended; a run's progress after it, and the place past its text.
 #[derive(Clone, Copy)]
@@ -19,57 +22,102 @@ pub struct Turn {
     pub end: usize,
 }
 
-// The next record, read into the bytes that are lent for it: how many there are, none where the input has ended. After the mark C3 5B four more than 12 are read.
-fn read_next(fd: i32, bytes: &mut [u8]) -> usize
-    requires { long_width ≡ length bytes.old }
-    ensures { result ≤ record_width (take result bytes.new) }
+// One read, made again where a signal interrupts it.
+fn read_some<R: Read>(reader: &mut R, bytes: &mut [u8]) -> io::Result<usize>
+    ensures bound { ReadsAtMost result bytes.new }
+    ensures bytes { ReadConsumes (R.remaining reader.old) (R.remaining reader.new) result bytes.new }
 {
-    let read = io::read_full(fd, &mut bytes[..record::SHORT_WIDTH]);
+    for _ in 0..u64::MAX {
+        match reader.read(bytes) {
+            Ok(n) => return Ok(n),
+            Err(e) => {
+                if e.kind() != ErrorKind::Interrupted {
+                    return Err(e);
+                }
+            }
+        }
+    }
+    Err(io::Error::from(ErrorKind::Interrupted))
+}
+
+// Reads until the lent bytes are full or the input ends, and answers how many were read.
+pub fn read_full<R: Read>(reader: &mut R, bytes: &mut [u8]) -> io::Result<usize>
+    ensures bound { ReadsAtMost result bytes.new }
+    ensures bytes { IfOk result (λ n. Consumes (R.remaining reader.old) (R.remaining reader.new) (take n bytes.new)) }
+    ensures end { IfOk result (λ n. n < length bytes.new → IsAtEnd (R.remaining reader.new)) }
+{
+    let mut done = 0;
+    while done < bytes.len() {
+        let n = read_some(reader, &mut bytes[done..])?;
+        if n == 0 {
+            break;
+        }
+        done += n;
+    }
+    Ok(done)
+}
+
+// The next record, read into the bytes that are lent for it: how many there are, none where the input has ended. After the mark C3 5B four more than 12 are read.
+fn read_next<R: Read>(reader: &mut R, bytes: &mut [u8]) -> io::Result<usize>
+    requires { long_width ≡ length bytes.old }
+    ensures { IfOk result (λ n. n ≤ record_width (take n bytes.new)) }
+{
+    let read = read_full(reader, &mut bytes[..record::SHORT_WIDTH])?;
     if read < record::SHORT_WIDTH {
-        return read;
+        return Ok(read);
     }
     if record::record_width(bytes) == record::SHORT_WIDTH {
-        return read;
+        return Ok(read);
     }
-    read + io::read_full(fd, &mut bytes[read..])
+    let more = read_full(reader, &mut bytes[read..])?;
+    Ok(read + more)
 }
 
 // The next record, read into the bytes that are lent for it and played on the area; its text is written at a place.
-pub fn play_next(
-    fd: i32,
+// Where a read fails, nothing is played.
+pub fn play_next<R: Read>(
+    reader: &mut R,
     area: &mut [u8],
     progress: Progress,
     bytes: &mut [u8],
     out: &mut [u8],
     at: usize,
-) -> Turn
+) -> io::Result<Turn>
     requires { (long_width ≡ length bytes.old) × (progress.number + 1 < 2 ^ 64) × (at + most_text ≤ length out.old) }
-    ensures read { result.read ≤ record_width (take result.read bytes.new) }
-    ensures next { result.progress ≡ (played progress area.old (records_of (take result.read bytes.new))).progress }
-    ensures left { area.new ≡ (played progress area.old (records_of (take result.read bytes.new))).area }
-    ensures text { Wrote out.old at (played progress area.old (records_of (take result.read bytes.new))).text out.new result.end }
+    ensures read { IfOk result (λ turn. turn.read ≤ record_width (take turn.read bytes.new)) }
+    ensures next { IfOk result (λ turn. turn.progress ≡ (played progress area.old (records_of (take turn.read bytes.new))).progress) }
+    ensures left { IfOk result (λ turn. area.new ≡ (played progress area.old (records_of (take turn.read bytes.new))).area) }
+    ensures text { IfOk result (λ turn. Wrote out.old at (played progress area.old (records_of (take turn.read bytes.new))).text out.new turn.end) }
+    ensures failed { OnErr result ((area.new ≡ area.old) × (out.new ≡ out.old)) }
 {
-    let read = read_next(fd, bytes);
+    let read = read_next(reader, bytes)?;
     if read == 0 {
-        return Turn {
+        return Ok(Turn {
             read,
             progress,
             end: at,
-        };
+        });
     }
     let step = record::play_one(area, progress, &bytes[..read], out, at);
     let next = step.progress;
-    Turn {
+    Ok(Turn {
         read,
         progress: next,
         end: step.end,
-    }
+    })
 }
 
 fn record_buffer() -> [u8; record::LONG_WIDTH]
     ensures { long_width ≡ length result }
 {
     [0; record::LONG_WIDTH]
+}
+
+// 65,536 zeros: as many as an area has, and room for the text of some records.
+fn large_buffer() -> [u8; 65536]
+    ensures { 65536 ≡ length result }
+{
+    [0; 65536]
 }
 
 // Nothing follows: the input has ended, or the record was bad.
@@ -82,63 +130,58 @@ fn is_last(read: usize, over: bool) -> bool
     over
 }
 
-// The place for the next text, and whether what had to be written was.
-#[derive(Clone, Copy)]
-struct Room {
-    at: usize,
-    is_written: bool,
-}
-
-// The text up to a place goes to standard output if less than a record's text is free after it, and the next text then to the front.
-fn make_room(out: &[u8], end: usize) -> Room
+// The text up to a place is written if less than a record's text is free after it, and the next text then goes to the front. The answer is its place.
+fn make_room<W: Write>(writer: &mut W, out: &[u8], end: usize) -> io::Result<usize>
     requires { end ≤ length out.now }
-    ensures { result.at ≡ cond (ltb (length out.now - end) most_text) 0 end }
+    ensures { IfOk result (λ at. at ≡ cond (ltb (length out.now - end) most_text) 0 end) }
 {
     if out.len() - end < record::MOST_TEXT {
-        let is_written = io::write_all(STDOUT_FILENO, &out[..end]);
-        return Room { at: 0, is_written };
+        writer.write_all(&out[..end])?;
+        return Ok(0);
     }
-    Room {
-        at: end,
-        is_written: true,
-    }
+    Ok(end)
 }
 
-// `started` says whether a start counts as accepted on the area before. `play_next` promises the text of the bytes read; no contract of `io` says that it is written.
+// `started` says whether a start counts as accepted on the area before. Where a read fails, what the records before it print is still written.
 // A proved loop has to end, and nothing says that an input does: the records are counted up to a number that no run reaches.
-pub fn play_input(fd: i32, area: &mut [u8], started: bool)
+pub fn play_input<R: Read, W: Write>(
+    reader: &mut R,
+    writer: &mut W,
+    area: &mut [u8],
+    started: bool,
+) -> io::Result<()>
     ensures { LeftBySome started area.old area.new }
 {
-    let mut out = io::large_buffer();
+    let mut out = large_buffer();
     let mut bytes = record_buffer();
     let mut progress = record::first_progress();
     progress.started = started;
     let head = record::put_header(&mut out);
-    let is_headed = io::write_all(STDOUT_FILENO, &out[..head]);
-    if !is_headed {
-        return;
-    }
+    writer.write_all(&out[..head])?;
     let mut at = 0;
     for _ in 0..576460752303423488u64 {
-        let turn = play_next(fd, area, progress, &mut bytes, &mut out, at);
+        let turn = match play_next(reader, area, progress, &mut bytes, &mut out, at) {
+            Ok(turn) => turn,
+            Err(e) => {
+                writer.write_all(&out[..at])?;
+                return Err(e);
+            }
+        };
         let next = turn.progress;
         let end = turn.end;
         if is_last(turn.read, next.over) {
-            io::write_all(STDOUT_FILENO, &out[..end]);
-            return;
+            return writer.write_all(&out[..end]);
         }
-        let room = make_room(&out, end);
-        if !room.is_written {
-            return;
-        }
+        at = make_room(writer, &out, end)?;
         progress = next;
-        at = room.at;
     }
-    io::write_all(STDOUT_FILENO, &out[..at]);
+    writer.write_all(&out[..at])
 }
 
 // The player: standard input, on an area that is not started.
-pub fn play_standard_input() {
-    let mut area = io::large_buffer();
-    play_input(STDIN_FILENO, &mut area, false);
+pub fn play_standard_input(rt: &(impl Input + Print)) -> io::Result<()> {
+    let mut area = large_buffer();
+    let mut reader = rt.reader();
+    let mut writer = io::writer(rt);
+    play_input(&mut reader, &mut writer, &mut area, false)
 }
