@@ -220,8 +220,7 @@ fn ask(area: &[u8], c: Call, answer: &mut [u64; 4]) -> u32
     refuse(answer)
 }
 
-#[unsafe(no_mangle)]
-pub extern "C" fn sabre_start(area: &mut [u8], slots: u32, delay: u64, answer: &mut [u64; 4]) -> u32
+pub fn sabre_start(area: &mut [u8], slots: u32, delay: u64, answer: &mut [u64; 4]) -> u32
     ensures returned { result ≡ status (answer_on area.old (Start slots delay)) }
     ensures told { answer.new ≡ answer_numbers (answer_on area.old (Start slots delay)) }
     ensures left { area.new ≡ area_after area.old (Start slots delay) }
@@ -229,8 +228,7 @@ pub extern "C" fn sabre_start(area: &mut [u8], slots: u32, delay: u64, answer: &
     start(area, slots, delay, answer)
 }
 
-#[unsafe(no_mangle)]
-pub extern "C" fn sabre_begin(
+pub fn sabre_begin(
     area: &mut [u8],
     level: u32,
     row: u32,
@@ -252,8 +250,7 @@ pub extern "C" fn sabre_begin(
     )
 }
 
-#[unsafe(no_mangle)]
-pub extern "C" fn sabre_request(
+pub fn sabre_request(
     area: &mut [u8],
     level: u32,
     row: u32,
@@ -277,8 +274,7 @@ pub extern "C" fn sabre_request(
     )
 }
 
-#[unsafe(no_mangle)]
-pub extern "C" fn sabre_unpin(
+pub fn sabre_unpin(
     area: &mut [u8],
     level: u32,
     row: u32,
@@ -300,8 +296,7 @@ pub extern "C" fn sabre_unpin(
     )
 }
 
-#[unsafe(no_mangle)]
-pub extern "C" fn sabre_end(area: &mut [u8], level: u32, row: u32, answer: &mut [u64; 4]) -> u32
+pub fn sabre_end(area: &mut [u8], level: u32, row: u32, answer: &mut [u64; 4]) -> u32
     ensures returned { result ≡ status (answer_on area.old (End level row)) }
     ensures told { answer.new ≡ answer_numbers (answer_on area.old (End level row)) }
     ensures left { area.new ≡ area_after area.old (End level row) }
@@ -309,8 +304,7 @@ pub extern "C" fn sabre_end(area: &mut [u8], level: u32, row: u32, answer: &mut 
     make(area, Call::End { level, number: row }, answer)
 }
 
-#[unsafe(no_mangle)]
-pub extern "C" fn sabre_tick(area: &mut [u8], list: &mut [u8], answer: &mut [u64; 4]) -> u32
+pub fn sabre_tick(area: &mut [u8], list: &mut [u8], answer: &mut [u64; 4]) -> u32
     ensures returned { result ≡ status (answer_on area.old (Tick (length list.old))) }
     ensures told { answer.new ≡ answer_numbers (answer_on area.old (Tick (length list.old))) }
     ensures left { area.new ≡ area_after area.old (Tick (length list.old)) }
@@ -320,32 +314,28 @@ pub extern "C" fn sabre_tick(area: &mut [u8], list: &mut [u8], answer: &mut [u64
     tick(area, list, room, answer)
 }
 
-#[unsafe(no_mangle)]
-pub extern "C" fn sabre_look(area: &[u8], level: u32, row: u32, answer: &mut [u64; 4]) -> u32
+pub fn sabre_look(area: &[u8], level: u32, row: u32, answer: &mut [u64; 4]) -> u32
     ensures returned { result ≡ status (answer_on area.now (Look level row)) }
     ensures told { answer.new ≡ answer_numbers (answer_on area.now (Look level row)) }
 {
     ask(area, Call::Look { level, number: row }, answer)
 }
 
-#[unsafe(no_mangle)]
-pub extern "C" fn sabre_view(area: &[u8], level: u32, page: u32, answer: &mut [u64; 4]) -> u32
+pub fn sabre_view(area: &[u8], level: u32, page: u32, answer: &mut [u64; 4]) -> u32
     ensures returned { result ≡ status (answer_on area.now (View level page)) }
     ensures told { answer.new ≡ answer_numbers (answer_on area.now (View level page)) }
 {
     ask(area, Call::View { level, page }, answer)
 }
 
-#[unsafe(no_mangle)]
-pub extern "C" fn sabre_count(area: &[u8], level: u32, answer: &mut [u64; 4]) -> u32
+pub fn sabre_count(area: &[u8], level: u32, answer: &mut [u64; 4]) -> u32
     ensures returned { result ≡ status (answer_on area.now (Count level)) }
     ensures told { answer.new ≡ answer_numbers (answer_on area.now (Count level)) }
 {
     ask(area, Call::Count { level }, answer)
 }
 
-#[unsafe(no_mangle)]
-pub extern "C" fn sabre_borders(
+pub fn sabre_borders(
     area: &mut [u8],
     first: u32,
     second: u32,
