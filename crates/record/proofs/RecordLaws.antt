@@ -1,7 +1,6 @@
 -- What the bytes of a record and its fields come to, how much of the list its call is lent, and which calls are no start and no tick.
-use Prim.{Unit}
 use mathlib.Core.Path.{◌≡◌, refl, ◌∙◌, sym, ap}
-use mathlib.Core.Bool.{Bool, true, false, cond, not, ◌&&◌}
+use mathlib.Core.Bool.{Bool, true, false, cond, ◌&&◌}
 use mathlib.Core.List.{List, [], ◌∷◌, ◌++◌}
 use Prim.Native.Nat.{ℕ, zero, suc, ◌+◌, ◌*◌, ◌-◌, ◌^◌, ◌<◌, ◌≤◌}
 use native.Mathlib.Nat.{pow-suc, pow-le-pow_right}
@@ -9,15 +8,11 @@ use native.Mathlib.Numerals.{add-one}
 use native.Mathlib.Decide.{ℕ_discrete}
 use native.Mathlib.Omega.{arith}
 use borrow.Author.Tests.{eq-eqb, ne_eqb, leb-true}
-use mir.Val.{has_key}
-use denote.Enum.Declared.{tag_of}
-use types.Run.{OneOf, miss}
-use lib.Dec.{T, leb, eqb}
+use lib.Dec.{leb, eqb}
 use lib.ListN.{length, get_or, take, drop, length-drop, get_or-eq_default}
 use lib.Seq.{take-suc, get_or-drop}
 use Rattle.words.specs.Bytes.{part}
 use Rattle.seq.proofs.Tests.{and_left, and_right, and_false_right}
-use Rattle.model.specs.contracts.Call.{the_type}
 use Rattle.model.specs.declared.Call.{Call}
 use Rattle.model.specs.declared.Call.TheVariants.{Start, Begin, Request, Unpin, End, Tick, Look, View, Count, Borders}
 use Rattle.rules.specs.Content.{is_start, is_tick}
@@ -43,26 +38,13 @@ field_room x i b h l k =
     let p : 256 ^ i ≤ 256 ^ 7 = pow-le-pow_right (omega arith) {i = i} {j = 7} (omega arith) in
     (omega arith, rw (add-one i, pow-suc) (omega arith))
 
--- what is known after the arms 0 to n - 1 of a match on a number
-abbrev NoneBelow : ℕ → ℕ → Type 0
-NoneBelow zero k = Unit {0}
-NoneBelow (suc n) k = NoneBelow n k × (k ≡ n → ⊥)
-
-none_below : (n k : ℕ) → NoneBelow n k → n ≤ k
-none_below zero k h = omega arith
-none_below (suc n) k h =
-    let p : n ≤ k = none_below n k h.0 in
-    let q = h.1 in
-    omega arith
-
-module _ (k level number mode page value : ℕ) where
-  -- a kind that has no arm: 5, or one past the list
-  pub other_kind : ((((NoneBelow 5 k × (k ≡ 6 → ⊥)) × (k ≡ 7 → ⊥)) × (k ≡ 8 → ⊥)) × (k ≡ 9 → ⊥)) × (k ≡ 10 → ⊥) → Bad ≡ of_kind k level number mode page value
-  unfolding of_kind kinds
-  other_kind h = elim (ℕ_discrete k 5) [
-    | yes e ↦ rw e
-    | no e ↦ sym (get_or-eq_default (kinds level number mode page value) Bad (none_below 11 k ((((((h.0.0.0.0.0, e), h.0.0.0.0.1), h.0.0.0.1), h.0.0.1), h.0.1), h.1)))
-  ]
+-- a kind that has no arm: 5, or one past the list
+pub other_kind : (k level number mode page value : ℕ) → ((k ≡ 5 → ⊥) → 11 ≤ k) → Bad ≡ of_kind k level number mode page value
+unfolding of_kind kinds
+other_kind k level number mode page value h = elim (ℕ_discrete k 5) [
+  | yes e ↦ rw e
+  | no e ↦ sym (get_or-eq_default (kinds level number mode page value) Bad (h e))
+]
 
 -- each kind's call is lent at most the whole list
 all_room : List Input → Bool
@@ -153,27 +135,27 @@ module _ (r : List ℕ) where
   whole width kind level number mode page value m x w l e f e2 e3 e4 e5 e6 e8 q =
       rw (eq-eqb (length r) (record_width r) (l ∙ w), sym e ∙ f, ← w, ← e2, ← e3, ← e4, ← e5, ← e6, ← e8) q
 
--- start is the enum's variant 0, and tick its variant 5
-pub no_start : (c : Call) (tags : List ℕ) → T (not (has_key tags 0)) → OneOf tags (tag_of the_type c) → is_start c ≡ false
-no_start (Start slots delay) tags f h = absurd (miss tags 0 f h)
-no_start (Begin level number deadline) tags f h = refl
-no_start (Request level number page mode) tags f h = refl
-no_start (Unpin level number page) tags f h = refl
-no_start (End level number) tags f h = refl
-no_start (Tick room) tags f h = refl
-no_start (Look level number) tags f h = refl
-no_start (View level page) tags f h = refl
-no_start (Count level) tags f h = refl
-no_start (Borders first second third) tags f h = refl
+-- a call of another variant is no start, or no tick
+pub no_start : (c : Call) → ((slots delay : ℕ) → c ≡ Start slots delay → ⊥) → is_start c ≡ false
+no_start (Start slots delay) n = absurd (n slots delay refl)
+no_start (Begin level number deadline) n = refl
+no_start (Request level number page mode) n = refl
+no_start (Unpin level number page) n = refl
+no_start (End level number) n = refl
+no_start (Tick room) n = refl
+no_start (Look level number) n = refl
+no_start (View level page) n = refl
+no_start (Count level) n = refl
+no_start (Borders first second third) n = refl
 
-pub no_tick : (c : Call) (tags : List ℕ) → T (not (has_key tags 5)) → OneOf tags (tag_of the_type c) → is_tick c ≡ false
-no_tick (Start slots delay) tags f h = refl
-no_tick (Begin level number deadline) tags f h = refl
-no_tick (Request level number page mode) tags f h = refl
-no_tick (Unpin level number page) tags f h = refl
-no_tick (End level number) tags f h = refl
-no_tick (Tick room) tags f h = absurd (miss tags 5 f h)
-no_tick (Look level number) tags f h = refl
-no_tick (View level page) tags f h = refl
-no_tick (Count level) tags f h = refl
-no_tick (Borders first second third) tags f h = refl
+pub no_tick : (c : Call) → ((room : ℕ) → c ≡ Tick room → ⊥) → is_tick c ≡ false
+no_tick (Start slots delay) n = refl
+no_tick (Begin level number deadline) n = refl
+no_tick (Request level number page mode) n = refl
+no_tick (Unpin level number page) n = refl
+no_tick (End level number) n = refl
+no_tick (Tick room) n = absurd (n room refl)
+no_tick (Look level number) n = refl
+no_tick (View level page) n = refl
+no_tick (Count level) n = refl
+no_tick (Borders first second third) n = refl

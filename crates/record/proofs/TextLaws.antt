@@ -98,13 +98,10 @@ all_fit (w ∷ ws) = leb (length w) 8 && same (up_to_zero (padded w)) w && all_f
 each_fits : (ws : List (List ℕ)) → all_fit ws ≡ true → (n : ℕ) → (length (get_or ws n []) ≤ 8) × (up_to_zero (get_or (map padded ws) n []) ≡ get_or ws n [])
 unfolding all_fit up_to_zero
 each_fits [] h n = (omega arith, refl)
-each_fits (w ∷ ws) h n =
+each_fits (w ∷ ws) h zero =
     let p = and_left (leb (length w) 8 && same (up_to_zero (padded w)) w) (all_fit ws) h in
-    let q = and_right (leb (length w) 8 && same (up_to_zero (padded w)) w) (all_fit ws) h in
-    elim n [
-      | zero ↦ (leb-true (length w) 8 (and_left _ (same (up_to_zero (padded w)) w) p), same_true _ _ (and_right (leb (length w) 8) _ p))
-      | suc m ↦ each_fits ws q m
-    ]
+    (leb-true (length w) 8 (and_left _ (same (up_to_zero (padded w)) w) p), same_true _ _ (and_right (leb (length w) 8) _ p))
+each_fits (w ∷ ws) h (suc n) = each_fits ws (and_right (leb (length w) 8 && same (up_to_zero (padded w)) w) (all_fit ws) h) n
 
 -- one test, computed over all words
 word_fits : (n : ℕ) → (length (word_text n) ≤ 8) × (up_to_zero (get_or (map padded words) n []) ≡ word_text n)

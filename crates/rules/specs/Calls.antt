@@ -11,7 +11,6 @@ use Rattle.model.specs.declared.Condition.TheVariants.{Free, Idle, Fetching, Wai
 use Rattle.model.specs.declared.Content.{Content}
 use Rattle.model.specs.declared.Content.TheVariants.{Empty, Filled}
 use Rattle.model.specs.declared.Pin.{Pin}
-use Rattle.model.specs.declared.Pin.TheVariants as Pin
 use Rattle.model.specs.declared.Row.{Row}
 use Rattle.model.specs.declared.Slot.{Slot}
 use Rattle.model.specs.declared.Holding.{Holding}

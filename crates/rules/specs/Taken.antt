@@ -3,7 +3,6 @@ use Rattle.std.specs.Prelude.{◌≡◌, true, ◌⊎◌, ℕ, ◌<◌}
 use Rattle.seq.specs.declared.Found.TheVariants.{At, Nowhere}
 use Rattle.model.specs.declared.Call.{Call}
 use Rattle.model.specs.declared.Mode.{Mode}
-use Rattle.model.specs.declared.Mode.TheVariants as Mode
 use Rattle.model.specs.declared.Pin.{Pin}
 use Rattle.model.specs.declared.Pin.TheVariants.{Read, Write}
 use Rattle.model.specs.declared.State.{State}

@@ -1,6 +1,6 @@
 -- A run of a machine beside the run of its kept calls alone, from two states that stand in a relation: where a kept call made on both, and any other call
 -- made on the first, leaves such states, the relation holds at the end, and what is noted of both runs is the same.
-use mathlib.Core.Path.{◌≡◌, refl, ◌∙◌, sym}
+use mathlib.Core.Path.{◌≡◌, refl}
 use mathlib.Core.Bool.{Bool, true, false, cond}
 use mathlib.Core.List.{List, [], ◌∷◌}
 use Rattle.seq.specs.Machine.{last_of, noted, only}

@@ -11,7 +11,6 @@ use Rattle.model.specs.declared.Answer.TheVariants.{Refused, Started, Begun, Unp
 use Rattle.model.specs.declared.Call.{Call}
 use Rattle.model.specs.declared.Borders.{Borders}
 use Rattle.model.specs.declared.Call.TheVariants.{Start, Begin, Request, Unpin, End, Tick, Look, View, Count}
-use Rattle.model.specs.declared.Call.TheVariants as Call
 use Rattle.model.specs.declared.Condition.TheVariants.{Idle}
 use Rattle.model.specs.declared.Mode.{Mode}
 use Rattle.model.specs.declared.Outcome.{Outcome}

@@ -4,7 +4,6 @@ use mathlib.Core.Bool.{true}
 use mathlib.Core.Logic.{inl, inr}
 use Rattle.seq.proofs.Tests.{true_false}
 use Rattle.model.specs.declared.Mode.{Mode}
-use Rattle.model.specs.declared.Mode.TheVariants as Mode
 use Rattle.model.specs.declared.Pin.{Pin}
 use Rattle.model.specs.declared.Pin.TheVariants.{Absent, Unpinned, Read, Write}
 use Rattle.model.specs.Words.{is_held, is_pin, pin_of, conflict}

@@ -14,7 +14,6 @@ use Rattle.model.specs.declared.Answer.{Answer}
 use Rattle.model.specs.declared.Back.{Back}
 use Rattle.model.specs.declared.Back.TheVariants.{Nothing, Page}
 use Rattle.model.specs.declared.Cause.TheVariants.{Taken}
-use Rattle.model.specs.declared.Condition.TheVariants.{Idle}
 use Rattle.model.specs.declared.Content.TheVariants.{Filled}
 use Rattle.model.specs.declared.Holding.{Holding}
 use Rattle.model.specs.declared.Mode.{Mode}
@@ -22,7 +21,7 @@ use Rattle.model.specs.declared.Outcome.{Outcome}
 use Rattle.model.specs.declared.Slot.{Slot}
 use Rattle.model.specs.declared.State.{State}
 use Rattle.model.specs.Parties.{row_of, level_of}
-use Rattle.model.specs.State.{free_row, slot_at, holding_at, with_borders, with_begun, put_row}
+use Rattle.model.specs.State.{slot_at, holding_at, with_borders}
 use Rattle.model.specs.Words.{has_page, dirty_in, is_write, pins, slot_of}
 use Rattle.model.specs.Changes.{released, killed, cleared}
 use Rattle.model.specs.Ranges.{Sized}

@@ -33,7 +33,6 @@ use Rattle.model.specs.declared.Cause.TheVariants.{Late, Taken}
 use Rattle.model.specs.declared.Condition.{Condition}
 use Rattle.model.specs.declared.Condition.TheVariants.{Free, Idle, Fetching, Waiting, Killed}
 use Rattle.model.specs.declared.Pin.{Pin}
-use Rattle.model.specs.declared.Pin.TheVariants as Pin
 use Rattle.model.specs.declared.State.{State}
 use Rattle.model.specs.State.{slot_at}
 use Rattle.model.specs.Words.{arrival_in, seen, sees_dormant, strongest_pin, least_arrival, slot_of}

@@ -10,7 +10,6 @@ use Rattle.seq.proofs.Tests.{true_false, and_true}
 use Rattle.model.specs.declared.Back.{Back}
 use Rattle.model.specs.declared.Holding.{Holding}
 use Rattle.model.specs.declared.Mode.{Mode}
-use Rattle.model.specs.declared.Mode.TheVariants as Mode
 use Rattle.model.specs.declared.Pin.{Pin}
 use Rattle.model.specs.declared.Pin.TheVariants.{Absent, Unpinned, Read, Write}
 use Rattle.model.specs.declared.Slot.{Slot}

@@ -11,7 +11,6 @@ use Rattle.model.specs.declared.Back.TheVariants.{Nothing}
 use Rattle.model.specs.declared.Cause.TheVariants.{Taken}
 use Rattle.model.specs.declared.Condition.TheVariants.{Idle, Fetching, Waiting}
 use Rattle.model.specs.declared.Mode.{Mode}
-use Rattle.model.specs.declared.Mode.TheVariants as Mode
 use Rattle.model.specs.declared.Outcome.{Outcome}
 use Rattle.model.specs.declared.Pin.{Pin}
 use Rattle.model.specs.declared.Pin.TheVariants.{Absent, Unpinned, Read, Write}

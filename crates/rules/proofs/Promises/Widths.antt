@@ -35,7 +35,6 @@ use Rattle.rules.specs.Sound.{awaits, sound}
 use Rattle.rules.specs.Calls.{unpinned_at, delivered_row, is_late, late_killed, three_steps, waiting, granted, pinners_killed, filled, served}
 use Rattle.model.specs.declared.Call.{Call}
 use Rattle.model.specs.declared.Call.TheVariants.{Start, Begin, Request, Unpin, End, Tick, Look, View, Count}
-use Rattle.model.specs.declared.Call.TheVariants as Call
 use Rattle.rules.specs.Run.{outcome}
 use Rattle.rules.specs.Content.{fields, Fits, Narrow, OfC}
 use Rattle.rules.specs.Tries.{all_tried}

@@ -10,7 +10,7 @@ use Rattle.model.specs.declared.Outcome.{Outcome}
 use Rattle.model.specs.declared.Row.{Row}
 use Rattle.model.specs.declared.State.{State}
 use Rattle.model.specs.Parties.{row_of}
-use Rattle.model.specs.State.{free_row, row_at, slot_at, put_row}
+use Rattle.model.specs.State.{free_row, row_at, slot_at}
 use Rattle.model.specs.Changes.{wrote_slot, released, killed}
 use Rattle.model.proofs.StateLaws.{row_put}
 use Rattle.model.proofs.ChangeLaws.{released_slot, sized_released}

@@ -9,7 +9,7 @@ use Rattle.seq.proofs.Tests.{true_false, eqb_sym}
 use Rattle.model.specs.declared.Cause.{Cause}
 use Rattle.model.specs.declared.Row.{Row}
 use Rattle.model.specs.declared.State.{State}
-use Rattle.model.specs.State.{free_row, empty_holding, row_at, slot_at, holding_at, put_row}
+use Rattle.model.specs.State.{free_row, empty_holding, row_at, slot_at, holding_at}
 use Rattle.model.specs.Words.{is_free, is_live, holds}
 use Rattle.model.specs.Changes.{dirtied, released, killed, killed_row, wrote_slot}
 use Rattle.model.specs.Ranges.{Sized}

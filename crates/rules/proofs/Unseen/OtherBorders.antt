@@ -12,7 +12,6 @@ use Rattle.model.specs.declared.Answer.TheVariants.{Clock}
 use Rattle.model.specs.declared.Borders.{Borders}
 use Rattle.model.specs.declared.Call.{Call}
 use Rattle.model.specs.declared.Call.TheVariants.{Start, Begin, Request, Unpin, End, Tick, Look, View, Count}
-use Rattle.model.specs.declared.Call.TheVariants as Call
 use Rattle.model.specs.declared.Condition.TheVariants.{Free, Idle}
 use Rattle.model.specs.declared.Outcome.{Outcome}
 use Rattle.model.specs.declared.State.{State}
