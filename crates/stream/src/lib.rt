@@ -1,14 +1,14 @@
 // Records from a reader, played on an area; the header and their lines go to a writer.
 #![tactic(auto)]
 
-ghost use Rattle.std.specs.Prelude.{◌≡◌, cond, ◌||◌, eqb, ltb, ◌+◌, ◌-◌, ◌^◌, ◌<◌, ◌≤◌, length, take, IfOk, OnErr};
+ghost use Rattle.std.specs.Prelude.{◌≡◌, cond, ◌||◌, eqb, ltb, ◌+◌, ◌-◌, ◌^◌, ◌<◌, ◌≤◌, length, take, IfSome, IfOk, OnOk, OnErr};
 ghost use Rattle.std.specs.Io.{ReadsAtMost};
-ghost use Rattle.std.specs.Io.KnownBytes.{Consumes, IsAtEnd, ReadConsumes};
+ghost use Rattle.std.specs.Io.KnownBytes.{Appends, Consumes, IsAtEnd, ReadConsumes};
 ghost use Rattle.words.specs.Bytes.{Wrote};
 ghost use Rattle.record.specs.Record.{long_width, record_width};
 ghost use Rattle.record.specs.Text.{most_text};
 ghost use Rattle.record.specs.Play.{played, records_of};
-ghost use Rattle.stream.specs.Left.{LeftBySome};
+ghost use Rattle.stream.specs.Left.{LeftBySome, first_from, printed_from, most_records};
 
 use record::Progress;
 use std::io;
@@ -50,7 +50,7 @@ pub fn read_full<R: Read>(reader: &mut R, bytes: &mut [u8]) -> io::Result<usize>
     while done < bytes.len() {
         let n = read_some(reader, &mut bytes[done..])?;
         if n == 0 {
-            break;
+            return Ok(done);
         }
         done += n;
     }
@@ -60,7 +60,9 @@ pub fn read_full<R: Read>(reader: &mut R, bytes: &mut [u8]) -> io::Result<usize>
 // The next record, read into the bytes that are lent for it: how many there are, none where the input has ended. After the mark C3 5B four more than 12 are read.
 fn read_next<R: Read>(reader: &mut R, bytes: &mut [u8]) -> io::Result<usize>
     requires { long_width ≡ length bytes.old }
-    ensures { IfOk result (λ n. n ≤ record_width (take n bytes.new)) }
+    ensures width { IfOk result (λ n. n ≤ record_width (take n bytes.new)) }
+    ensures bytes { IfOk result (λ n. Consumes (R.remaining reader.old) (R.remaining reader.new) (take n bytes.new)) }
+    ensures end { IfOk result (λ n. n < record_width (take n bytes.new) → IsAtEnd (R.remaining reader.new)) }
 {
     let read = read_full(reader, &mut bytes[..record::SHORT_WIDTH])?;
     if read < record::SHORT_WIDTH {
@@ -88,6 +90,8 @@ pub fn play_next<R: Read>(
     ensures next { IfOk result (λ turn. turn.progress ≡ (played progress area.old (records_of (take turn.read bytes.new))).progress) }
     ensures left { IfOk result (λ turn. area.new ≡ (played progress area.old (records_of (take turn.read bytes.new))).area) }
     ensures text { IfOk result (λ turn. Wrote out.old at (played progress area.old (records_of (take turn.read bytes.new))).text out.new turn.end) }
+    ensures bytes { IfOk result (λ turn. Consumes (R.remaining reader.old) (R.remaining reader.new) (take turn.read bytes.new)) }
+    ensures end { IfOk result (λ turn. turn.read < record_width (take turn.read bytes.new) → IsAtEnd (R.remaining reader.new)) }
     ensures failed { OnErr result ((area.new ≡ area.old) × (out.new ≡ out.old)) }
 {
     let read = read_next(reader, bytes)?;
@@ -133,7 +137,8 @@ fn is_last(read: usize, over: bool) -> bool
 // The text up to a place is written if less than a record's text is free after it, and the next text then goes to the front. The answer is its place.
 fn make_room<W: Write>(writer: &mut W, out: &[u8], end: usize) -> io::Result<usize>
     requires { end ≤ length out.now }
-    ensures { IfOk result (λ at. at ≡ cond (ltb (length out.now - end) most_text) 0 end) }
+    ensures place { IfOk result (λ at. at ≡ cond (ltb (length out.now - end) most_text) 0 end) }
+    ensures text { IfOk result (λ at. Appends (W.contents writer.old) (W.contents writer.new) (take (end - at) out.now)) }
 {
     if out.len() - end < record::MOST_TEXT {
         writer.write_all(&out[..end])?;
@@ -150,7 +155,9 @@ pub fn play_input<R: Read, W: Write>(
     area: &mut [u8],
     started: bool,
 ) -> io::Result<()>
-    ensures { LeftBySome started area.old area.new }
+    ensures left { LeftBySome started area.old area.new }
+    ensures whole { OnOk result (IfSome (R.remaining reader.old) (λ input. length input < most_records → area.new ≡ (played (first_from started) area.old (records_of input)).area)) }
+    ensures printed { OnOk result (IfSome (R.remaining reader.old) (λ input. length input < most_records → Appends (W.contents writer.old) (W.contents writer.new) (printed_from started area.old input))) }
 {
     let mut out = large_buffer();
     let mut bytes = record_buffer();
@@ -170,12 +177,14 @@ pub fn play_input<R: Read, W: Write>(
         let next = turn.progress;
         let end = turn.end;
         if is_last(turn.read, next.over) {
-            return writer.write_all(&out[..end]);
+            writer.write_all(&out[..end])?;
+            return Ok(());
         }
         at = make_room(writer, &out, end)?;
         progress = next;
     }
-    writer.write_all(&out[..at])
+    writer.write_all(&out[..at])?;
+    Ok(())
 }
 
 // The player: standard input, on an area that is not started.
