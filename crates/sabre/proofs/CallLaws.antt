@@ -1,7 +1,7 @@
 -- What each exit of an exported call comes to, and what a sound area gives to the call on its state.
 use mathlib.Core.Path.{◌≡◌, refl, ◌∙◌, sym, ap}
 use mathlib.Core.Bool.{Bool, true, false, cond, ◌||◌, not}
-use mathlib.Core.List.{List, [], ◌∷◌, ◌++◌}
+use mathlib.Core.List.{List, ◌++◌}
 use Prim.Native.Nat.{ℕ, zero, suc, ◌+◌, ◌<◌, ◌≤◌, ◌^◌}
 use native.Mathlib.Omega.{arith}
 use borrow.Author.Tests.{le-ltb, ne_eqb}
@@ -11,9 +11,6 @@ use Rattle.seq.proofs.Tests.{true_false, or_none, or_true_right}
 use mir.Val.{Val}
 use denote.Laws.{Is}
 use Rattle.model.specs.contracts.Answer as Answer'
-use Rattle.model.specs.contracts.Call as Call'
-use denote.Enum.Declared.{tag_of}
-use types.Run.{OneOf, miss}
 use Rattle.model.specs.declared.State.{State}
 use Rattle.model.specs.declared.Outcome.{Outcome}
 use Rattle.model.specs.declared.Reply.{Reply}
@@ -85,18 +82,18 @@ module _ (a : List ℕ) (c : Call) where
   unfolding area_after
   read_left e = rw (e, or_true_right (is_refused (answer_on a c)) true refl)
 
--- which calls are no start: those of the other tags, and look, view and count
-pub not_start : (c : Call) → OneOf (1 ∷ 2 ∷ 3 ∷ 4 ∷ 5 ∷ 6 ∷ 7 ∷ 8 ∷ 9 ∷ []) (tag_of Call'.the_type c) → is_start c ≡ false
-not_start (Start slots delay) k = absurd (miss (1 ∷ 2 ∷ 3 ∷ 4 ∷ 5 ∷ 6 ∷ 7 ∷ 8 ∷ 9 ∷ []) 0 tt k)
-not_start (Begin level number deadline) k = refl
-not_start (Request level number page mode) k = refl
-not_start (Unpin level number page) k = refl
-not_start (End level number) k = refl
-not_start (Tick room) k = refl
-not_start (Look level number) k = refl
-not_start (View level page) k = refl
-not_start (Count level) k = refl
-not_start (Borders first second third) k = refl
+-- which calls are no start: those of another variant, and look, view and count
+pub not_start : (c : Call) → ((slots delay : ℕ) → c ≡ Start slots delay → ⊥) → is_start c ≡ false
+not_start (Start slots delay) n = absurd (n slots delay refl)
+not_start (Begin level number deadline) n = refl
+not_start (Request level number page mode) n = refl
+not_start (Unpin level number page) n = refl
+not_start (End level number) n = refl
+not_start (Tick room) n = refl
+not_start (Look level number) n = refl
+not_start (View level page) n = refl
+not_start (Count level) n = refl
+not_start (Borders first second third) n = refl
 
 pub reading_no_start : (c : Call) → is_reading c ≡ true → is_start c ≡ false
 reading_no_start c = go (fields c).kind
