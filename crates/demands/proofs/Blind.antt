@@ -11,7 +11,6 @@ use Rattle.seq.specs.Machine.{last_of, only}
 use Rattle.model.specs.declared.Answer.{Answer}
 use Rattle.model.specs.declared.Borders.{Borders}
 use Rattle.model.specs.declared.Call.{Call}
-use Rattle.model.specs.declared.Call.TheVariants as Call
 use Rattle.model.specs.Parties.{are_borders}
 use Rattle.model.specs.State.{fresh, with_borders}
 use Rattle.rules.specs.Answers.{Told, told}

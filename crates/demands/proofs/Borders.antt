@@ -9,7 +9,6 @@ use Rattle.model.specs.declared.Answer.TheVariants.{Refused, RowFree, Bordered}
 use Rattle.model.specs.declared.Borders.{Borders}
 use Rattle.model.specs.declared.Call.{Call}
 use Rattle.model.specs.declared.Call.TheVariants.{Look}
-use Rattle.model.specs.declared.Call.TheVariants as Call
 use Rattle.model.specs.Parties.{row_of, are_borders, usual_borders}
 use Rattle.model.specs.declared.State.{State}
 use Rattle.model.specs.State.{fresh, slot_at, with_borders}

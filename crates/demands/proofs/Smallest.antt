@@ -23,7 +23,6 @@ use Rattle.model.specs.declared.Content.{Content}
 use Rattle.model.specs.declared.Content.TheVariants.{Empty, Filled}
 use Rattle.model.specs.declared.Mode.TheVariants.{Read, Write}
 use Rattle.model.specs.declared.Pin.{Pin}
-use Rattle.model.specs.declared.Pin.TheVariants as Pin
 use Rattle.model.specs.declared.Outcome.{Outcome}
 use Rattle.model.specs.declared.Borders.{Borders}
 use Rattle.model.specs.declared.State.{State}
@@ -37,7 +36,6 @@ use Rattle.rules.specs.Refusals.{first_to_apply, is_killed, is_busy, is_read, co
 use Rattle.rules.specs.Calls.{unless, started, begun, requested, unpinned, ended, looked, looked_at, viewed_in, viewed, counted, bordered}
 use Rattle.model.specs.declared.Call.{Call}
 use Rattle.model.specs.declared.Call.TheVariants.{Start, Begin, Request, Unpin, End, Tick, Look, View, Count}
-use Rattle.model.specs.declared.Call.TheVariants as Call
 use Rattle.rules.specs.Content.{is_start, is_tick}
 use Rattle.rules.specs.Run.{outcome}
 use Rattle.rules.specs.Tries.{ticked}

@@ -8,7 +8,6 @@ use Rattle.model.specs.declared.Condition.TheVariants.{Free, Idle, Fetching, Wai
 use Rattle.model.specs.declared.Content.{Content}
 use Rattle.model.specs.declared.Content.TheVariants.{Empty, Filled}
 use Rattle.model.specs.declared.Pin.{Pin}
-use Rattle.model.specs.declared.Pin.TheVariants as Pin
 use Rattle.model.specs.declared.Borders.{Borders}
 use Rattle.model.specs.declared.State.{State}
 use Rattle.model.specs.State.{row_at, slot_at, holding_at}
