@@ -3,13 +3,16 @@ A module of tools/moved and tools/check-docs."""
 import re
 from collections import namedtuple
 
-# kind: unfoldable, abbrev, record, data, statement; fn, struct, enum, const, type
+# kind: unfoldable, abbrev, record, data, statement; fn, struct, enum, trait, const, type, impl
+# name: of a function of an impl or a trait TYPE::NAME; an impl, where it has ghost items, is named by its head
 # said: what is declared, without comments and proofs; equal texts are equal strings
 Item = namedtuple('Item', 'kind name public said')
 
 DECLARES = re.compile(r'((?:unfoldable|abbrev)\s+)?(pub\s+)?(?:(record|data)\s+(\S+)|([^\s:]+)\s*:(?:\s|$))')
-FUNCTION = re.compile(r'^[ \t]*(pub\s+)?(?:extern\s+"C"\s+)?fn\s+(\w+)', re.M)
-TYPE = re.compile(r'^[ \t]*(pub\s+)?(struct|enum|const|type)\s+(\w+)', re.M)
+PUB = r'^[ \t]*(pub(?:\([\w\s]+\))?\s+)?'
+FUNCTION = re.compile(PUB + r'(?:(?:const|unsafe|extern\s+"C")\s+)*fn\s+(\w+)', re.M)
+TYPE = re.compile(PUB + r'(struct|enum|trait|const|type)\s+(?!fn\b)(\w+)', re.M)
+AROUND = re.compile(PUB + r'(impl\b(?:<[^{]*?>)?|trait)\s+([^{;]+?)\s*\{', re.M)
 
 
 def plain(text):
@@ -80,9 +83,11 @@ def balanced(text, at, opening, closing):
 def contract(text, at):
     """A function's head and contract, from its `fn` on to its body."""
     end = balanced(text, text.index('(', at), '(', ')')
-    while end < len(text) and text[end] != '{':
+    while end < len(text) and text[end] not in '{;':
         if re.match(r'(requires|ensures)\b', text[end:]) and text[end - 1].isspace():
             end = balanced(text, text.index('{', end), '{', '}')
+        elif text[end] == '[':
+            end = balanced(text, end, '[', ']')
         else:
             end += 1
     return text[at:end]
@@ -99,10 +104,21 @@ def whole_type(text, at):
 
 
 def rt_items(text):
-    """The functions of an .rt file with their contracts, its types and its constants."""
+    """The functions of an .rt file with their contracts, its types and constants, and the ghost items of each impl."""
     text = re.sub(r'//.*', '', text)
-    found = [Item('fn', m.group(2), bool(m.group(1)), plain(contract(text, m.start()))) for m in FUNCTION.finditer(text)]
-    found += [Item(m.group(2), m.group(3), bool(m.group(1)), plain(whole_type(text, m.start()))) for m in TYPE.finditer(text)]
+    around = [(m.start(), balanced(text, m.end() - 1, '{', '}'), m.group(2), m.group(3)) for m in AROUND.finditer(text)]
+
+    def named(match, name):
+        """The name, behind that of the type or trait around it."""
+        heads = [head for start, end, _, head in around if start < match.start() < end]
+        return '::'.join([re.match(r'(?:.*\sfor\s+)?(\w*)', head, re.S).group(1) for head in heads[-1:]] + [name])
+
+    found = [Item('fn', named(m, m.group(2)), bool(m.group(1)), plain(contract(text, m.start()))) for m in FUNCTION.finditer(text)]
+    found += [Item(m.group(2), named(m, m.group(3)), bool(m.group(1)), plain(whole_type(text, m.start()))) for m in TYPE.finditer(text)]
+    for start, end, kind, head in around:
+        ghosts = re.findall(r'(?m)^[ \t]*(ghost (?!use\b)[^;]*;)', text[start:end])
+        if kind != 'trait' and ghosts:
+            found.append(Item('impl', plain(head), True, plain(' '.join(ghosts))))
     return found
 
 
