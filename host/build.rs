@@ -9,7 +9,7 @@ fn main() {
     }
     let folder = match env::var_os("SABRE_LIB_DIR") {
         Some(folder) => PathBuf::from(folder),
-        None => PathBuf::from(env::var_os("CARGO_MANIFEST_DIR").unwrap()).join("../target/staticlib"),
+        None => PathBuf::from(env::var_os("CARGO_MANIFEST_DIR").unwrap()).join("../target"),
     };
     let library = folder.join("libsabre.a");
     println!("cargo:rerun-if-changed={}", library.display());

@@ -274,13 +274,7 @@ pub fn sabre_request(
     )
 }
 
-pub fn sabre_unpin(
-    area: &mut [u8],
-    level: u32,
-    row: u32,
-    page: u32,
-    answer: &mut [u64; 4],
-) -> u32
+pub fn sabre_unpin(area: &mut [u8], level: u32, row: u32, page: u32, answer: &mut [u64; 4]) -> u32
     ensures returned { result ≡ status (answer_on area.old (Unpin level row page)) }
     ensures told { answer.new ≡ answer_numbers (answer_on area.old (Unpin level row page)) }
     ensures left { area.new ≡ area_after area.old (Unpin level row page) }

@@ -148,6 +148,7 @@ fn make_room<W: Write>(writer: &mut W, out: &[u8], end: usize) -> io::Result<usi
 }
 
 // `started` says whether a start counts as accepted on the area before. Where a read fails, what the records before it print is still written.
+// Of a reader that names its bytes, as one over memory does, all are played, and a writer that names its bytes gets their text.
 // A proved loop has to end, and nothing says that an input does: the records are counted up to a number that no run reaches.
 pub fn play_input<R: Read, W: Write>(
     reader: &mut R,
