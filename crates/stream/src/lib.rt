@@ -195,3 +195,59 @@ pub fn play_standard_input(rt: &(impl Input + Print)) -> io::Result<()> {
     let mut writer = io::writer(rt);
     play_input(&mut reader, &mut writer, &mut area, false)
 }
+
+#[cfg(test)]
+mod tests {
+    use super::*;
+
+    // Session S up to the third record.
+    const RECORDS: [u8; 36] = [
+        0xc3, 0x5a, 0x00, 0x00, 0x00, 0x00, 0x00, 0x01, 0x00, 0x00, 0x00, 0x01, 0xc3, 0x5a, 0x01,
+        0x01, 0x00, 0x00, 0x00, 0x00, 0x00, 0x00, 0x00, 0x64, 0xc3, 0x5a, 0x02, 0x01, 0x00, 0x01,
+        0x04, 0x00, 0x00, 0x00, 0x00, 0x00,
+    ];
+
+    // Gives a byte at a time, each after an interruption, and fails at a place.
+    #[derive(Drop)]
+    struct Failing {
+        at: usize,
+        end: usize,
+        interrupts: bool,
+    }
+
+    impl Read for Failing {
+        fn read(&mut self, buf: &mut [u8]) -> io::Result<usize> {
+            self.interrupts = !self.interrupts;
+            if self.interrupts {
+                return Err(io::Error::from(ErrorKind::Interrupted));
+            }
+            if self.at >= self.end {
+                return Err(io::Error::from(ErrorKind::TimedOut));
+            }
+            if self.at >= RECORDS.len() || buf.is_empty() {
+                return Ok(0);
+            }
+            buf[0] = RECORDS[self.at];
+            self.at += 1;
+            Ok(1)
+        }
+    }
+
+    // The reader fails in the third record: the answer is its error, and the lines of the two before it are written.
+    #[test]
+    fn failed_read(rt: HostRuntime) {
+        let mut area = large_buffer();
+        let mut writer = Vec::new(rt.alloc());
+        let mut reader = Failing {
+            at: 0,
+            end: 30,
+            interrupts: false,
+        };
+        match play_input(&mut reader, &mut writer, &mut area, false) {
+            Ok(()) => assert!(rt; false, "the error is lost"),
+            Err(e) => assert!(rt; e.kind() == ErrorKind::TimedOut, "another error"),
+        }
+        let lines = b"call word value | slot back\n1 started 0 | - -\n2 begun 0 | - -\n";
+        assert!(rt; writer.as_slice() == lines.as_slice(), "other lines");
+    }
+}
