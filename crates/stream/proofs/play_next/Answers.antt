@@ -1,4 +1,5 @@
 use Rattle.std.proofs.Common.{arith, take, sym}
+use Rattle.std.proofs.lemmas.List.{length-take-le}
 use Rattle.record.proofs.RecordLaws.{widths}
 use Rattle.stream.proofs.ReadLaws.{read_long}
 use Rattle.stream.proofs.InputLaws.{none_read, one_read}
@@ -17,7 +18,7 @@ pub slice_bounds-play_one-end : goal.slice_bounds-play_one-end
 slice_bounds-play_one-end g c = omega (arith, c.in_ok-read.ensures.width, c.read_next.auto.bytes, (widths (take c.in_ok-read.read c.read_next.new.bytes)).1)
 
 pub slice_bounds-play_one-end-2 : goal.slice_bounds-play_one-end-2
-slice_bounds-play_one-end-2 g c = sym (read_long c.in_ok-read.read c.read_next.new.bytes c.args.bytes.now c.in_ok-read.ensures.width c.read_next.auto.bytes c.requires.0)
+slice_bounds-play_one-end-2 g c = sym (length-take-le _ c.read_next.new.bytes (omega (arith, c.in_ok-read.ensures.width, c.read_next.auto.bytes, (widths (take c.in_ok-read.read c.read_next.new.bytes)).1)))
 
 pub returns-clause-next : goal.returns-clause-next
 returns-clause-next g c =
