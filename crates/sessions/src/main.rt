@@ -24,7 +24,7 @@ fn play_records<F: Read + Seek, W: Write>(
     if n > area.len() {
         return Ok(());
     }
-    file.seek(SeekFrom::Start(records))?;
+    let _ = file.seek(SeekFrom::Start(records));
     stream::play_input(file, writer, &mut area[..n], started)
 }
 

@@ -37,7 +37,7 @@ fn read_some<R: Read>(reader: &mut R, bytes: &mut [u8]) -> io::Result<usize>
             }
         }
     }
-    Err(io::Error::from(ErrorKind::Interrupted))
+    reader.read(bytes)
 }
 
 // Reads until the lent bytes are full or the input ends, and answers how many were read.
