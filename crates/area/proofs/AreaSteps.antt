@@ -2,20 +2,21 @@
 use mathlib.Core.Path.{◌≡◌, refl, ◌∙◌, sym, ap}
 use mathlib.Core.Bool.{Bool, true, false, not, ◌&&◌}
 use mathlib.Core.List.{List, [], ◌∷◌, ◌++◌, append_assoc}
-use Prim.Native.Nat.{ℕ, ◌+◌, ◌^◌, ◌<◌, ◌≤◌}
+use Prim.Native.Nat.{ℕ, ◌+◌, ◌*◌, ◌≤◌}
 use native.Mathlib.Omega.{arith}
 use lib.Dec.{eqb}
-use lib.ListN.{length, drop, replicate, length-append}
+use lib.ListN.{length, drop, replicate, length-append, length-replicate}
 use Rattle.seq.specs.Below.{all_below}
-use Rattle.seq.proofs.BelowLaws.{all_more}
+use Rattle.seq.proofs.BelowLaws.{each_all}
+use Rattle.seq.specs.Each.{each}
 use Rattle.words.specs.Bytes.{word_at, has_words, word_bytes, zero_words, spliced, AllUnder}
+use Rattle.words.proofs.ByteLaws.{word_under}
 use Rattle.words.proofs.SpliceLaws.{spliced_more}
-use Rattle.model.specs.declared.Borders.{Borders}
 use Rattle.model.specs.declared.State.{State}
-use Rattle.model.specs.State.{empty_holdings, fresh}
-use Rattle.area.specs.Layout.{mark, version, bit, borders_from, places_from, header_words, places_bytes, decoded, encoded, encoded_as, exact_as}
-use Rattle.area.specs.Inner.Exact.{exact_rows, exact_slots, exact_holdings}
-use Rattle.area.proofs.Elements.{header_wide}
+use Rattle.model.specs.State.{free_row, empty_slot, fresh}
+use Rattle.area.specs.Layout.{version, version_in, row_from, slot_from, holding_from, row_words, slot_words, holding_words, borders_from, free_rows, empty_slots, no_places, places_from, header_words, places_bytes, decoded, encoded, encoded_as, exact_as}
+use Rattle.area.proofs.Elements.{header_wide, place_exact}
+use Rattle.area.proofs.LoopLaws.{empty_holdings_long}
 use Rattle.area.proofs.Pieces.{rows_bytes, slots_bytes, holdings_bytes, places_long, rows_long, slots_long, holdings_long, zeros_long, exact_pieces}
 
 and_true_last : (z : Bool) → z && true ≡ z
@@ -31,47 +32,47 @@ and_false_last true = refl
 and_false_last false = refl
 
 -- the tests in the order in which they are made, and in the order of the layout
-reordered : (h u v x y z : Bool) → ((h && (u && v)) && (x && y)) && z ≡ h && (u && (x && (y && (z && v))))
+reordered : (h u v x y z : Bool) → (((h && (u && v)) && x) && y) && z ≡ h && (u && (x && (y && (z && v))))
 reordered false u v x y z = refl
 reordered true false v x y z = refl
 reordered true true true x y z = rw (and_true_last z) (and_assoc x y z)
 reordered true true false x y z = rw (and_false_last z, and_false_last y, and_false_last x)
 
-pub exact_tests : (v : ℕ) → v < 2 ^ 64 → (a : List ℕ) (f x y z p q g : Bool) → AllUnder 256 a → 65536 ≤ length a
-    → f ≡ has_words a 0 (header_words v (decoded a)) && (has_words a 328 (replicate 23 0) && has_words a 55808 (replicate 1216 0))
-    → x ≡ exact_rows a → y ≡ exact_slots a → z ≡ exact_holdings a → p ≡ x && y → q ≡ f && p → g ≡ q && z → g ≡ exact_as v a
-unfolding exact_rows exact_slots exact_holdings
-exact_tests v word a f x y z p q g u l ef ex ey ez ep eq eg =
-    let h = has_words a 0 (header_words v (decoded a)) in
-    let w = has_words a 328 (replicate 23 0) in
-    let zeros = has_words a 55808 (replicate 1216 0) in
-    let m : g ≡ ((h && (w && zeros)) && (exact_rows a && exact_slots a)) && exact_holdings a = rw (← ef, ← ex, ← ey, ← ez, ← ep, ← eq) eg in
-    m ∙ reordered h w zeros (exact_rows a) (exact_slots a) (exact_holdings a) ∙ sym (exact_pieces v word a u l)
+-- over a fresh state f: the state that decode builds, and its tests
+module _ (a : List ℕ) (f : State) (size delay : ℕ) (e : f ≡ fresh size delay) where
+  pub fresh_long : (length f.places ≡ 32) × (length f.rows ≡ 32) × (length f.slots ≡ 64) × (length f.holdings ≡ 2048)
+  unfolding fresh
+  fresh_long = rw e (length-replicate {A = ℕ} 32 0, length-replicate 32 free_row, length-replicate 64 empty_slot, empty_holdings_long)
 
--- one test more
-pub tests_next : (p : ℕ → Bool) (k : ℕ) (e₀ e t r : Bool) → e ≡ e₀ && all_below k p → t ≡ p k → r ≡ e && t → r ≡ e₀ && all_below (k + 1) p
-tests_next p k e₀ e t r a b c = rw (all_more p k, ← b) (rw a at c ∙ and_assoc e₀ (all_below k p) t)
+  pub decode_state : (s : State) → size ≡ word_at a 16 → delay ≡ word_at a 24 → s.size ≡ f.size → s.delay ≡ f.delay → s.clock ≡ word_at a 32 → s.borders ≡ borders_from a → s.begun ≡ not (eqb (word_at a 64) 0)
+      → s.places ≡ each (λ i _. word_at a (72 + i * 8)) f.places → s.rows ≡ each (λ i _. row_from a (512 + i * 64)) f.rows
+      → s.slots ≡ each (λ i _. slot_from a (2560 + i * 64)) f.slots → s.holdings ≡ each (λ i _. holding_from a (6656 + i * 24)) f.holdings → s ≡ decoded a
+  unfolding decoded fresh free_rows empty_slots places_from no_places
+  decode_state s e1 e2 f1 f2 e3 e4 e5 e6 e7 e8 e9 =
+      let size-is : f.size ≡ size = λ i. (e i).size in
+      let delay-is : f.delay ≡ delay = λ i. (e i).delay in
+      let g6 = e6 ∙ (λ i. each (λ j _. word_at a (72 + j * 8)) (e i).places) in
+      let g7 = e7 ∙ (λ i. each (λ j _. row_from a (512 + j * 64)) (e i).rows) in
+      let g8 = e8 ∙ (λ i. each (λ j _. slot_from a (2560 + j * 64)) (e i).slots) in
+      let g9 = e9 ∙ (λ i. each (λ j _. holding_from a (6656 + j * 24)) (e i).holdings) in
+      let g1 = f1 ∙ size-is ∙ e1 in
+      let g2 = f2 ∙ delay-is ∙ e2 in
+      λ i. record { size = g1 i; delay = g2 i; clock = e3 i; rows = g7 i; slots = g8 i; holdings = g9 i; borders = e4 i; begun = e5 i; places = g6 i }
 
--- the holdings of the fresh state over which decode reads
-pub fresh_holdings : (s : State) (size delay : ℕ) → s ≡ fresh size delay → s.holdings ≡ empty_holdings
-unfolding fresh
-fresh_holdings s size delay e = λ i. (e i).holdings
-
--- the state that decode builds
-pub decode_state : (a : List ℕ) (s : State) → s.size ≡ word_at a 16 → s.delay ≡ word_at a 24 → s.clock ≡ word_at a 32
-    → s.rows ≡ (decoded a).rows → s.slots ≡ (decoded a).slots → s.holdings ≡ (decoded a).holdings
-    → s.borders ≡ borders_from a → s.begun ≡ not (eqb (word_at a 64) 0) → s.places ≡ places_from a → s ≡ decoded a
-unfolding decoded
-decode_state a s e1 e2 e3 e4 e5 e6 e7 e8 e9 =
-    λ i. record { size = e1 i; delay = e2 i; clock = e3 i; rows = e4 i; slots = e5 i; holdings = e6 i; borders = e7 i; begun = e8 i; places = e9 i }
-
--- the header of the state that an area names
-pub framed : (v : ℕ) (a : List ℕ) (size delay clock : ℕ) (b : Borders) (begun f : Bool) → size ≡ word_at a 16 → delay ≡ word_at a 24 → clock ≡ word_at a 32
-    → b ≡ borders_from a → begun ≡ not (eqb (word_at a 64) 0)
-    → f ≡ has_words a 0 (mark ∷ v ∷ size ∷ delay ∷ clock ∷ b.first ∷ b.second ∷ b.third ∷ bit begun ∷ []) && (has_words a 328 (replicate 23 0) && has_words a 55808 (replicate 1216 0))
-    → f ≡ has_words a 0 (header_words v (decoded a)) && (has_words a 328 (replicate 23 0) && has_words a 55808 (replicate 1216 0))
-unfolding header_words decoded
-framed v a size delay clock b begun f e1 e2 e3 e4 e5 e = rw (← e1, ← e2, ← e3, ← e4, ← e5) e
+  pub exact_tests : AllUnder 256 a → 65536 ≤ length a → (s : State) (t o x y z : Bool) → s ≡ decoded a
+      → t ≡ has_words a 0 (header_words (version_in a) s) && (has_words a 328 (replicate 23 0) && has_words a 55808 (replicate 1216 0))
+      → o ≡ all_below (length f.places) (λ i. has_words a (72 + i * 8) (word_at a (72 + i * 8) ∷ []))
+      → x ≡ all_below (length f.rows) (λ i. has_words a (512 + i * 64) (row_words (row_from a (512 + i * 64))))
+      → y ≡ all_below (length f.slots) (λ i. has_words a (2560 + i * 64) (slot_words (slot_from a (2560 + i * 64))))
+      → z ≡ all_below (length f.holdings) (λ i. has_words a (6656 + i * 24) (holding_words (holding_from a (6656 + i * 24))))
+      → (((t && o) && x) && y) && z ≡ exact_as (version_in a) a
+  exact_tests u l s t o x y z es et eo ex ey ez =
+      let h = has_words a 0 (header_words (version_in a) (decoded a)) in
+      let w = has_words a 328 (replicate 23 0) in
+      let zeros = has_words a 55808 (replicate 1216 0) in
+      let n = fresh_long in
+      let placed : o ≡ true = eo ∙ each_all (λ i. has_words a (72 + i * 8) (word_at a (72 + i * 8) ∷ [])) (length f.places) (λ i b. place_exact a (72 + i * 8)) in
+      rw (placed, and_true_last t, et, es, ex, ey, ez, n.1, n.2, n.3) (reordered h w zeros _ _ _ ∙ sym (exact_pieces (version_in a) (word_under a 8 u) a u l))
 
 -- seven lists written one after another from the front
 pub seven : (a a1 a2 a3 a4 a5 a6 a7 p1 p2 p3 p4 p5 p6 p7 : List ℕ) (n1 n2 n3 n4 n5 n6 n7 : ℕ)

@@ -345,3 +345,8 @@ pin_exact a at = rw (add-zero at, eq-eqb (word_at a (at + 8)) (word_at a (at + 8
     ands : (b : Bool) → b ≡ b && true && true
     ands true = refl
     ands false = refl
+
+-- a place is exact: it is the whole of its word
+pub place_exact : (a : List ℕ) (at : ℕ) → has_words a at (word_at a at ∷ []) ≡ true
+unfolding has_words all_below
+place_exact a at = let e : at + 0 * 8 ≡ at = omega arith in eq-eqb (word_at a (at + 0 * 8)) (word_at a at) (ap (word_at a) e)

@@ -200,3 +200,6 @@ module _ (v : ℕ) (a : List ℕ) (e : exact_as v a ≡ true) where
   -- the version of an exact area
   pub exact_version : v < 2 ^ 64 → version_in a ≡ v
   exact_version h = ap version_in (sym exact_area) ∙ version_there v h (decoded a) exact_ok (drop 65536 a)
+
+pub named_long : (a : List ℕ) → exact_as (version_in a) a ≡ true → 65536 ≤ length a
+named_long a e = exact_long (version_in a) a e

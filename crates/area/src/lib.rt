@@ -1,255 +1,320 @@
 // A state as the bytes of a lent area, and back: docs/LAYOUT.md.
 #![tactic(auto)]
 
-ghost use Rattle.std.specs.Prelude.{◌≡◌, true, ◌&&◌, [], ◌∷◌, ◌++◌, ◌+◌, ◌*◌, ◌<◌, ◌≤◌, length, get_or, drop, replicate};
-ghost use Rattle.words.specs.Bytes.{has_words, spliced, joined, word_bytes};
+ghost use Rattle.std.specs.Prelude.{◌≡◌, refl, true, cond, ◌&&◌, List, [], ◌∷◌, ◌++◌, ℕ, ◌+◌, ◌*◌, ◌<◌, ◌≤◌, length, get_or, drop, replicate};
+ghost use Rattle.seq.specs.Below.{all_below};
+ghost use Rattle.seq.specs.Each.{each};
+ghost use Rattle.words.specs.Bytes.{word_at, has_words, spliced, joined, word_bytes};
 ghost use Rattle.model.specs.Parties.{mode_of};
-ghost use Rattle.model.specs.State.{free_row, empty_slot, empty_holding};
 ghost use Rattle.model.specs.Inner.Changed.{marked, changed};
-ghost use Rattle.area.specs.Layout.{mark, bit, low, cause_number, condition_of, pin_numbered, content_of, row_from, slot_from, holding_from, borders_from, places_from, places_bytes, row_words, slot_words, holding_words, free_rows, empty_slots, decoded, encoded, version_in, exact_as};
-ghost use Rattle.area.specs.Inner.Exact.{exact_rows, exact_slots};
+ghost use Rattle.area.specs.Layout.{low, condition_of, pin_numbered, content_of, row_from, slot_from, holding_from, borders_from, row_words, slot_words, holding_words, header_words, decoded, encoded, version_in, exact_as};
 ghost use Rattle.area.specs.Inner.Writes.{places_put, order_put, header_put, setting_put, row_dropped, rows_dropped};
 
 use model::{
     Borders, Cause, Change, Condition, Content, Holding, Mode, Pin, Row, Setting, Slot, State,
 };
 
-// The rows, the slots and a holding that an area names, and whether its bytes there are exactly theirs.
-#[derive(Clone, Copy)]
-struct Rows {
-    rows: [Row; 32],
-    exact: bool,
-}
-
-#[derive(Clone, Copy)]
-struct Slots {
-    slots: [Slot; 64],
-    exact: bool,
-}
-
-#[derive(Clone, Copy)]
-struct Held {
-    holding: Holding,
-    exact: bool,
-}
-
 // The version of the layout that is written.
 const VERSION: u64 = 4;
 
+// A part of the state that stands in the area as words, from a place on.
+trait Stored: Copy {
+    const BYTES: usize;
+
+    ghost BYTES: { ℕ };
+
+    ghost words_of: { Self → List ℕ };
+
+    ghost from: { List ℕ → ℕ → Self };
+
+    fn put(&self, a: &mut [u8], at: usize)
+        requires { at + BYTES ≤ length a.old }
+        ensures { a.new ≡ spliced a.old at (word_bytes (words_of self.now)) };
+
+    fn read(a: &[u8], at: usize) -> Self
+        requires { at + BYTES ≤ length a.now }
+        ensures { result ≡ from a.now at };
+
+    // The bytes at the place where it was read are exactly its own.
+    fn is_exact(&self, a: &[u8], at: usize) -> bool
+        requires room { at + BYTES ≤ length a.now }
+        requires read { self.now ≡ from a.now at }
+        ensures { result ≡ has_words a.now at (words_of self.now) };
+
+    ghost wide: { (x : Self) → length (words_of x) * 8 ≡ BYTES };
+}
+
+// A place in a begin order is the whole of its word.
+impl Stored for usize {
+    const BYTES: usize = 8;
+
+    ghost BYTES = { 8 };
+
+    ghost words_of = { λ x. x ∷ [] };
+
+    ghost from = { word_at };
+
+    ghost wide = { λ x. refl };
+
+    #[tactic(auto, using(words::proofs::SpliceLaws::word_alone))]
+    fn put(&self, a: &mut [u8], at: usize) {
+        words::put_word(a, at, *self as u64);
+    }
+
+    fn read(a: &[u8], at: usize) -> usize {
+        words::word(a, at) as usize
+    }
+
+    #[tactic(auto, using(crate::proofs::Elements::place_exact))]
+    fn is_exact(&self, _a: &[u8], _at: usize) -> bool {
+        true
+    }
+}
+
+impl Stored for Row {
+    const BYTES: usize = 64;
+
+    ghost BYTES = { 64 };
+
+    ghost words_of = { row_words };
+
+    ghost from = { row_from };
+
+    ghost wide = { λ x. unfold row_words in refl };
+
+    fn put(&self, a: &mut [u8], at: usize) {
+        words::put_words(a, at, &row_words(*self));
+    }
+
+    #[tactic(auto, unfolding(crate::specs::Layout::row_from))]
+    fn read(a: &[u8], at: usize) -> Row {
+        Row {
+            condition: condition_of(
+                words::word(a, at),
+                words::word(a, at + 8),
+                words::word(a, at + 16),
+            ),
+            deadline: words::word(a, at + 24),
+        }
+    }
+
+    fn is_exact(&self, a: &[u8], at: usize) -> bool {
+        words::has_words(a, at, &row_words(*self))
+    }
+}
+
+impl Stored for Slot {
+    const BYTES: usize = 64;
+
+    ghost BYTES = { 64 };
+
+    ghost words_of = { slot_words };
+
+    ghost from = { slot_from };
+
+    ghost wide = { λ x. unfold slot_words in refl };
+
+    fn put(&self, a: &mut [u8], at: usize) {
+        words::put_words(a, at, &slot_words(*self));
+    }
+
+    #[tactic(auto, unfolding(crate::specs::Layout::slot_from))]
+    fn read(a: &[u8], at: usize) -> Slot {
+        Slot {
+            content: content_of(
+                words::word(a, at),
+                words::word(a, at + 8),
+                words::word(a, at + 16),
+                words::word(a, at + 24),
+                words::word(a, at + 32),
+            ),
+            touch: words::word(a, at + 40),
+        }
+    }
+
+    fn is_exact(&self, a: &[u8], at: usize) -> bool {
+        words::has_words(a, at, &slot_words(*self))
+    }
+}
+
+impl Stored for Holding {
+    const BYTES: usize = 24;
+
+    ghost BYTES = { 24 };
+
+    ghost words_of = { holding_words };
+
+    ghost from = { holding_from };
+
+    ghost wide = { λ x. unfold holding_words in refl };
+
+    fn put(&self, a: &mut [u8], at: usize) {
+        words::put_words(a, at, &holding_words(*self));
+    }
+
+    #[tactic(auto, unfolding(crate::specs::Layout::holding_from))]
+    fn read(a: &[u8], at: usize) -> Holding {
+        Holding {
+            pin: pin_numbered(words::word(a, at)),
+            arrival: words::word(a, at + 8),
+            touch: words::word(a, at + 16),
+        }
+    }
+
+    // The first word has to be the number of a pin; the others may be any.
+    #[tactic(auto, using(crate::proofs::Elements::pin_exact))]
+    fn is_exact(&self, a: &[u8], at: usize) -> bool {
+        words::word(a, at) <= 3
+    }
+}
+
+// What stands from a place on, read over a list; the answer is whether the bytes there are exactly its own.
+fn read_all<T: Stored>(xs: &mut [T], a: &[u8], base: usize) -> bool
+    requires { base + length xs.old * T.BYTES ≤ length a.now }
+    ensures read { xs.new ≡ each (λ i _. T.from a.now (base + i * T.BYTES)) xs.old }
+    ensures exact { result ≡ all_below (length xs.old) (λ i. has_words a.now (base + i * T.BYTES) (T.words_of (T.from a.now (base + i * T.BYTES)))) }
+{
+    let mut exact = true;
+    for (i, x) in xs.iter_mut().enumerate() {
+        let at = base + i * T::BYTES;
+        let y = T::read(a, at);
+        exact &= y.is_exact(a, at);
+        *x = y;
+    }
+    exact
+}
+
+// A list written from a place on.
+fn put_all<T: Stored>(a: &mut [u8], base: usize, xs: &[T])
+    requires { base + length xs.now * T.BYTES ≤ length a.old }
+    ensures { (d : T) → a.new ≡ spliced a.old base (joined (length xs.now) (λ i. word_bytes (T.words_of (get_or xs.now i d)))) }
+{
+    for (i, x) in xs.iter().enumerate() {
+        x.put(a, base + i * T::BYTES);
+    }
+}
+
+// The lower four bytes of a word: `as` alone has to lose nothing.
 fn low(w: u64) -> u32
     ensures { result ≡ low w }
 {
     (w % 4294967296) as u32
 }
 
-fn bit(b: bool) -> u64
-    ensures { result ≡ bit b }
-{
-    if b {
-        return 1;
-    }
-    0
-}
-
+// What numbers mean. These are functions and no impls of From, since the types are another crate's.
 fn mode_of(mode: u64) -> Mode
     ensures { result ≡ mode_of mode }
 {
-    if mode == 0 {
-        return Mode::Read;
-    }
-    Mode::Write
+    if mode == 0 { Mode::Read } else { Mode::Write }
 }
 
+#[tactic(auto, unfolding(crate::specs::Layout::condition_of))]
 fn condition_of(number: u64, what: u64, mode: u64) -> Condition
     ensures { result ≡ condition_of number what mode }
 {
-    if number == 0 {
-        return Condition::Free;
-    }
-    if number == 1 {
-        return Condition::Idle;
-    }
-    if number == 2 {
-        return Condition::Fetching(what);
-    }
-    if number == 3 {
-        return Condition::Waiting {
+    match number {
+        0 => Condition::Free,
+        1 => Condition::Idle,
+        2 => Condition::Fetching(what),
+        3 => Condition::Waiting {
             page: low(what),
             mode: mode_of(mode),
-        };
+        },
+        4 => Condition::Killed(Cause::Late),
+        _ => Condition::Killed(Cause::Taken),
     }
-    if number == 4 {
-        return Condition::Killed(Cause::Late);
-    }
-    Condition::Killed(Cause::Taken)
 }
 
+#[tactic(auto, unfolding(crate::specs::Layout::pin_numbered))]
 fn pin_numbered(number: u64) -> Pin
     ensures { result ≡ pin_numbered number }
 {
-    if number == 0 {
-        return Pin::Absent;
+    match number {
+        0 => Pin::Absent,
+        1 => Pin::Unpinned,
+        2 => Pin::Read,
+        _ => Pin::Write,
     }
-    if number == 1 {
-        return Pin::Unpinned;
-    }
-    if number == 2 {
-        return Pin::Read;
-    }
-    Pin::Write
 }
 
+#[tactic(auto, unfolding(crate::specs::Layout::content_of))]
 fn content_of(filled: u64, page: u64, arrival: u64, dirty: u64, lowest: u64) -> Content
     ensures { result ≡ content_of filled page arrival dirty lowest }
 {
     if filled == 0 {
-        return Content::Empty;
+        Content::Empty
+    } else {
+        Content::Filled {
+            page: low(page),
+            arrival,
+            dirty: dirty != 0,
+            lowest: lowest as usize,
+        }
     }
-    Content::Filled {
-        page: low(page),
-        arrival,
-        dirty: dirty != 0,
-        lowest: lowest as usize,
-    }
-}
-
-// The row whose words begin at a place.
-fn get_row(a: &[u8], at: usize) -> Row
-    requires { at + 64 ≤ length a.now }
-    ensures { result ≡ row_from a.now at }
-{
-    let number = words::word(a, at);
-    let what = words::word(a, at + 8);
-    let mode = words::word(a, at + 16);
-    let deadline = words::word(a, at + 24);
-    let condition = condition_of(number, what, mode);
-    Row {
-        condition,
-        deadline,
-    }
-}
-
-fn get_slot(a: &[u8], at: usize) -> Slot
-    requires { at + 64 ≤ length a.now }
-    ensures { result ≡ slot_from a.now at }
-{
-    let filled = words::word(a, at);
-    let page = words::word(a, at + 8);
-    let arrival = words::word(a, at + 16);
-    let dirty = words::word(a, at + 24);
-    let lowest = words::word(a, at + 32);
-    let touch = words::word(a, at + 40);
-    let content = content_of(filled, page, arrival, dirty, lowest);
-    Slot { content, touch }
-}
-
-// The first word of a holding has to be the number of a pin; the others may be any.
-fn get_holding(a: &[u8], at: usize) -> Held
-    requires { at + 24 ≤ length a.now }
-    ensures { (result.holding ≡ holding_from a.now at) × (result.exact ≡ has_words a.now at (holding_words (holding_from a.now at))) }
-{
-    let number = words::word(a, at);
-    let arrival = words::word(a, at + 8);
-    let touch = words::word(a, at + 16);
-    let pin = pin_numbered(number);
-    let holding = Holding {
-        pin,
-        arrival,
-        touch,
-    };
-    Held {
-        holding,
-        exact: number <= 3,
-    }
-}
-
-// The holding at a place in the state that an area of at least 65,536 bytes names.
-pub fn holding_at(a: &[u8], k: usize) -> Holding
-    requires { (65536 ≤ length a.now) × (k < 2048) }
-    ensures { result ≡ get_or (decoded a.now).holdings k empty_holding }
-{
-    let h = get_holding(a, 6656 + k * 24);
-    h.holding
 }
 
 // The words of a row, a slot, a holding and the header.
+#[tactic(auto, unfolding(crate::specs::Layout::row_words))]
 fn row_words(x: Row) -> [u64; 8]
     ensures { result ≡ row_words x }
 {
-    let deadline = x.deadline;
-    let c = x.condition;
-    match c {
-        Condition::Free => [0, 0, 0, deadline, 0, 0, 0, 0],
-        Condition::Idle => [1, 0, 0, deadline, 0, 0, 0, 0],
-        Condition::Fetching(due) => [2, due, 0, deadline, 0, 0, 0, 0],
-        Condition::Waiting { page, mode } => {
-            let m = model::mode_number(mode);
-            [3, page as u64, m as u64, deadline, 0, 0, 0, 0]
-        }
-        Condition::Killed(cause) => {
-            let n = cause_number(cause);
-            [n, 0, 0, deadline, 0, 0, 0, 0]
-        }
-    }
+    let (number, what, mode) = match x.condition {
+        Condition::Free => (0, 0, 0),
+        Condition::Idle => (1, 0, 0),
+        Condition::Fetching(due) => (2, due, 0),
+        Condition::Waiting { page, mode } => (3, u64::from(page), model::mode_number(mode) as u64),
+        Condition::Killed(Cause::Late) => (4, 0, 0),
+        Condition::Killed(Cause::Taken) => (5, 0, 0),
+    };
+    [number, what, mode, x.deadline, 0, 0, 0, 0]
 }
 
-fn cause_number(cause: Cause) -> u64
-    ensures { result ≡ cause_number cause }
-{
-    match cause {
-        Cause::Late => 4,
-        Cause::Taken => 5,
-    }
-}
-
+#[tactic(auto, unfolding(crate::specs::Layout::slot_words))]
 fn slot_words(x: Slot) -> [u64; 8]
     ensures { result ≡ slot_words x }
 {
-    let touch = x.touch;
-    let c = x.content;
-    match c {
-        Content::Empty => [0, 0, 0, 0, 0, touch, 0, 0],
+    match x.content {
+        Content::Empty => [0, 0, 0, 0, 0, x.touch, 0, 0],
         Content::Filled {
             page,
             arrival,
             dirty,
             lowest,
-        } => {
-            let d = bit(dirty);
-            [1, page as u64, arrival, d, lowest as u64, touch, 0, 0]
-        }
+        } => [
+            1,
+            u64::from(page),
+            arrival,
+            u64::from(dirty),
+            lowest as u64,
+            x.touch,
+            0,
+            0,
+        ],
     }
 }
 
+#[tactic(auto, unfolding(crate::specs::Layout::holding_words))]
 fn holding_words(h: Holding) -> [u64; 3]
     ensures { result ≡ holding_words h }
 {
-    let p = h.pin;
-    let n = model::pin_strength(p);
-    [n as u64, h.arrival, h.touch]
+    [model::pin_strength(h.pin) as u64, h.arrival, h.touch]
 }
 
 // The mark SABREBUF, a version and the numbers of the whole state.
-fn header_words(
-    version: u64,
-    size: usize,
-    delay: u64,
-    clock: u64,
-    b: Borders,
-    begun: bool,
-) -> [u64; 9]
-    ensures { result ≡ mark ∷ version ∷ size ∷ delay ∷ clock ∷ b.first ∷ b.second ∷ b.third ∷ bit begun ∷ [] }
+#[tactic(auto, unfolding(crate::specs::Layout::header_words))]
+fn header_words(version: u64, s: &State) -> [u64; 9]
+    ensures { result ≡ header_words version s.now }
 {
     [
         5068029821175611731,
         version,
-        size as u64,
-        delay,
-        clock,
-        b.first as u64,
-        b.second as u64,
-        b.third as u64,
-        bit(begun),
+        s.size as u64,
+        s.delay,
+        s.clock,
+        u64::from(s.borders.first),
+        u64::from(s.borders.second),
+        u64::from(s.borders.third),
+        u64::from(s.begun),
     ]
 }
 
@@ -261,6 +326,7 @@ pub fn version_of(a: &[u8]) -> u64
     words::word(a, 8)
 }
 
+// An area is a slice here too, and no `&[u8; 65536]`: the definitions take the whole area, and each bound of 65,536 bytes is found without an answer.
 fn get_borders(a: &[u8]) -> Borders
     requires { 65536 ≤ length a.now }
     ensures { result ≡ borders_from a.now }
@@ -272,152 +338,32 @@ fn get_borders(a: &[u8]) -> Borders
     }
 }
 
-fn get_places(a: &[u8]) -> [usize; 32]
-    requires { 65536 ≤ length a.now }
-    ensures { result ≡ places_from a.now }
-{
-    let mut places: [usize; 32] = [0; 32];
-    for i in 0..32usize {
-        places[i] = words::word(a, 72 + i * 8) as usize;
-    }
-    places
-}
-
-fn free_rows() -> [Row; 32]
-    ensures { result ≡ free_rows }
-{
-    [Row {
-        condition: Condition::Free,
-        deadline: 0,
-    }; 32]
-}
-
-fn empty_slots() -> [Slot; 64]
-    ensures { result ≡ empty_slots }
-{
-    [Slot {
-        content: Content::Empty,
-        touch: 0,
-    }; 64]
-}
-
-fn get_rows(a: &[u8]) -> Rows
-    requires { 65536 ≤ length a.now }
-    ensures { (result.rows ≡ (decoded a.now).rows) × (result.exact ≡ exact_rows a.now) }
-{
-    let mut rows = free_rows();
-    let mut exact = true;
-    for i in 0..32usize {
-        let at = 512 + i * 64;
-        let x = get_row(a, at);
-        let ws = row_words(x);
-        exact = seq::both(exact, words::has_words(a, at, &ws));
-        rows[i] = x;
-    }
-    Rows { rows, exact }
-}
-
-fn get_slots(a: &[u8]) -> Slots
-    requires { 65536 ≤ length a.now }
-    ensures { (result.slots ≡ (decoded a.now).slots) × (result.exact ≡ exact_slots a.now) }
-{
-    let mut slots = empty_slots();
-    let mut exact = true;
-    for i in 0..64usize {
-        let at = 2560 + i * 64;
-        let x = get_slot(a, at);
-        let ws = slot_words(x);
-        exact = seq::both(exact, words::has_words(a, at, &ws));
-        slots[i] = x;
-    }
-    Slots { slots, exact }
-}
-
 // The mark, the numbers of the whole state and the unused words are those of the layout, whatever the version.
-fn is_frame(a: &[u8], size: usize, delay: u64, clock: u64, b: Borders, begun: bool) -> bool
+fn is_frame(a: &[u8], s: &State) -> bool
     requires { 65536 ≤ length a.now }
-    ensures { result ≡ has_words a.now 0 (mark ∷ version_in a.now ∷ size ∷ delay ∷ clock ∷ b.first ∷ b.second ∷ b.third ∷ bit begun ∷ []) && (has_words a.now 328 (replicate 23 0) && has_words a.now 55808 (replicate 1216 0)) }
+    ensures { result ≡ has_words a.now 0 (header_words (version_in a.now) s.now) && (has_words a.now 328 (replicate 23 0) && has_words a.now 55808 (replicate 1216 0)) }
 {
-    let ws = header_words(version_of(a), size, delay, clock, b, begun);
-    if words::has_words(a, 0, &ws) {
-        if words::has_zeros(a, 328, 23) {
-            return words::has_zeros(a, 55808, 1216);
-        }
-        return false;
-    }
-    false
+    words::has_words(a, 0, &header_words(version_of(a), s))
+        && (words::has_zeros(a, 328, 23) && words::has_zeros(a, 55808, 1216))
 }
 
-// The state that an area of at least 65,536 bytes names, and whether its bytes are exactly that state's, with the version that it names. Its holdings are
-// read over those of a fresh state.
+// The state that an area of at least 65,536 bytes names, read over a fresh state, and whether its bytes are exactly that state's, with the version that
+// it names. The flag stands beside the state, which it gives whatever the flag is: with a State in an Option calls took up to
+// 1.4 times as long, over the limit of 2.5 times plain Rust.
 pub fn decode(a: &[u8], whole: &mut bool) -> State
     requires { 65536 ≤ length a.now }
     ensures { (result ≡ decoded a.now) × (whole.new ≡ exact_as (version_in a.now) a.now) }
 {
-    let size = words::word(a, 16) as usize;
-    let delay = words::word(a, 24);
-    let clock = words::word(a, 32);
-    let r = get_rows(a);
-    let s = get_slots(a);
-    let borders = get_borders(a);
-    let begun = words::word(a, 64) != 0;
-    let places = get_places(a);
-    let frame = is_frame(a, size, delay, clock, borders, begun);
-    let mut same = seq::both(frame, seq::both(r.exact, s.exact));
-    let rows = r.rows;
-    let slots = s.slots;
-    let fresh = model::fresh_state(size, delay);
-    let mut holdings = fresh.holdings;
-    for k in 0..2048usize {
-        let at = 6656 + k * 24;
-        let h = get_holding(a, at);
-        same = seq::both(same, h.exact);
-        let x = h.holding;
-        holdings[k] = x;
-    }
-    *whole = same;
-    State {
-        size,
-        delay,
-        clock,
-        rows,
-        slots,
-        holdings,
-        borders,
-        begun,
-        places,
-    }
-}
-
-fn put_places(a: &mut [u8], places: [usize; 32])
-    requires { 65536 ≤ length a.old }
-    ensures { a.new ≡ spliced a.old 72 (places_bytes places) }
-{
-    for i in 0..32usize {
-        words::put_word(a, 72 + i * 8, places[i] as u64);
-    }
-}
-
-fn put_rows(a: &mut [u8], rows: [Row; 32])
-    requires { 65536 ≤ length a.old }
-    ensures { a.new ≡ spliced a.old 512 (joined 32 (λ i. word_bytes (row_words (get_or rows i free_row)))) }
-{
-    for i in 0..32usize {
-        let x = rows[i];
-        let ws = row_words(x);
-        words::put_words(a, 512 + i * 64, &ws);
-    }
-}
-
-fn put_slots(a: &mut [u8], slots: [Slot; 64])
-    requires { 65536 ≤ length a.old }
-    ensures { a.new ≡ spliced a.old 2560 (joined 64 (λ i. word_bytes (slot_words (get_or slots i empty_slot)))) }
-{
-    for i in 0..64usize {
-        let x = slots[i];
-        let ws = slot_words(x);
-        words::put_words(a, 2560 + i * 64, &ws);
-    }
+    let mut s = model::fresh_state(words::word(a, 16) as usize, words::word(a, 24));
+    s.clock = words::word(a, 32);
+    s.borders = get_borders(a);
+    s.begun = words::word(a, 64) != 0;
+    let places = read_all(&mut s.places, a, 72);
+    let rows = read_all(&mut s.rows, a, 512);
+    let slots = read_all(&mut s.slots, a, 2560);
+    let holdings = read_all(&mut s.holdings, a, 6656);
+    *whole = is_frame(a, &s) & places & rows & slots & holdings;
+    s
 }
 
 // The state written over the first 65,536 bytes; the others are left.
@@ -425,54 +371,35 @@ pub fn encode(a: &mut [u8], s: State)
     requires { 65536 ≤ length a.old }
     ensures { a.new ≡ encoded s ++ drop 65536 a.old }
 {
-    let ws = header_words(VERSION, s.size, s.delay, s.clock, s.borders, s.begun);
-    words::put_words(a, 0, &ws);
-    let places = s.places;
-    put_places(a, places);
+    words::put_words(a, 0, &header_words(VERSION, &s));
+    put_all(a, 72, &s.places);
     words::put_zeros(a, 328, 23);
-    let rows = s.rows;
-    put_rows(a, rows);
-    let slots = s.slots;
-    put_slots(a, slots);
-    for k in 0..2048usize {
-        let x = s.holdings[k];
-        let hs = holding_words(x);
-        words::put_words(a, 6656 + k * 24, &hs);
-    }
+    put_all(a, 512, &s.rows);
+    put_all(a, 2560, &s.slots);
+    put_all(a, 6656, &s.holdings);
     words::put_zeros(a, 55808, 1216);
 }
 
-// The holdings of a row go from all 64 slots.
+// The holdings of a row go from all 64 slots, by the numbers of the slots: they lie 768 bytes apart. As model::drop_row, but over
+// bytes: amend writes no state.
 fn drop_row(a: &mut [u8], row: usize)
     requires { (65536 ≤ length a.old) × (row < 32) }
     ensures { a.new ≡ row_dropped row 64 a.old }
 {
-    for i in 0..64usize {
+    for i in 0..64 {
         words::put_zeros(a, 6656 + (i * 32 + row) * 24, 3);
     }
 }
 
 // The holdings of the marked rows go.
-fn drop_rows(a: &mut [u8], gone: [bool; 32])
+fn drop_rows(a: &mut [u8], gone: &[bool; 32])
     requires { 65536 ≤ length a.old }
-    ensures { a.new ≡ rows_dropped (marked gone) 32 a.old }
+    ensures { a.new ≡ rows_dropped (marked gone.now) 32 a.old }
 {
-    for row in 0..32usize {
-        if gone[row] {
+    for (row, goes) in gone.iter().enumerate() {
+        if *goes {
             drop_row(a, row);
         }
-    }
-}
-
-// The 32 holdings of a slot.
-fn put_held(a: &mut [u8], slot: usize, held: [Holding; 32])
-    requires { (65536 ≤ length a.old) × (slot < 64) }
-    ensures { a.new ≡ spliced a.old (6656 + slot * 768) (joined 32 (λ r. word_bytes (holding_words (get_or held r empty_holding)))) }
-{
-    for r in 0..32usize {
-        let x = held[r];
-        let hs = holding_words(x);
-        words::put_words(a, 6656 + slot * 768 + r * 24, &hs);
     }
 }
 
@@ -481,80 +408,68 @@ fn change_places(a: &mut [u8], x: Setting)
     requires { 65536 ≤ length a.old }
     ensures { a.new ≡ places_put x a.old }
 {
-    let old = get_places(a);
+    let mut old = [0; 32];
+    read_all(&mut old, a, 72);
     let new = model::changed_places(x, old);
-    put_places(a, new);
+    put_all(a, 72, &new);
 }
 
 // The begin order of a level changes where a row begins or ends.
+#[tactic(auto, unfolding(crate::specs::Inner::Writes::order_put))]
 fn put_order(a: &mut [u8], x: Setting)
     requires { 65536 ≤ length a.old }
     ensures { a.new ≡ order_put x a.old }
 {
     match x {
-        Setting::Left => {}
-        Setting::Begun { row: _, place: _ } => change_places(a, x),
-        Setting::Ended { row: _ } => change_places(a, x),
-        Setting::Set {
-            first: _,
-            second: _,
-            third: _,
-        } => {}
+        Setting::Begun { .. } | Setting::Ended { .. } => change_places(a, x),
+        Setting::Left | Setting::Set { .. } => {}
     }
 }
 
 // The version, and the clock that a call leaves.
+#[tactic(auto, using(words::proofs::SpliceLaws::word_alone), unfolding(crate::specs::Inner::Writes::header_put))]
 fn put_header(a: &mut [u8], clock: u64)
     requires { 65536 ≤ length a.old }
     ensures { a.new ≡ header_put clock a.old }
 {
-    let versions = [VERSION];
-    words::put_words(a, 8, &versions);
-    let clocks = [clock];
-    words::put_words(a, 32, &clocks);
+    words::put_word(a, 8, VERSION);
+    words::put_word(a, 32, clock);
 }
 
 // What a call makes of the borders and of whether a row has begun, written over the header.
+#[tactic(auto, using(words::proofs::SpliceLaws::word_alone), unfolding(crate::specs::Inner::Writes::setting_put))]
 fn put_setting(a: &mut [u8], x: Setting)
     requires { 65536 ≤ length a.old }
     ensures { a.new ≡ setting_put x a.old }
 {
     match x {
-        Setting::Left => {}
-        Setting::Begun { row: _, place: _ } => {
-            let ws = [1];
-            words::put_words(a, 64, &ws);
-        }
-        Setting::Ended { row: _ } => {}
+        Setting::Begun { .. } => words::put_word(a, 64, 1),
         Setting::Set {
             first,
             second,
             third,
-        } => {
-            let ws = [first as u64, second as u64, third as u64];
-            words::put_words(a, 40, &ws);
-        }
+        } => words::put_words(
+            a,
+            40,
+            &[u64::from(first), u64::from(second), u64::from(third)],
+        ),
+        Setting::Left | Setting::Ended { .. } => {}
     }
 }
 
 // What a call changes, written over the bytes of the state that it changes, and the version; the others are left.
+#[tactic(auto, using(crate::proofs::RoundTrip::named_long))]
 pub fn amend(a: &mut [u8], c: Change)
     requires { exact_as (version_in a.old) a.old ≡ true }
     ensures { a.new ≡ encoded (changed (decoded a.old) c) ++ drop 65536 a.old }
 {
-    let setting = c.setting;
-    put_order(a, setting);
+    put_order(a, c.setting);
     put_header(a, c.clock);
-    put_setting(a, setting);
-    let rows = c.rows;
-    put_rows(a, rows);
-    let slots = c.slots;
-    put_slots(a, slots);
-    let gone = c.gone;
-    drop_rows(a, gone);
-    let slot = c.slot;
-    if slot < 64 {
-        let held = c.held;
-        put_held(a, slot, held);
+    put_setting(a, c.setting);
+    put_all(a, 512, &c.rows);
+    put_all(a, 2560, &c.slots);
+    drop_rows(a, &c.gone);
+    if c.slot < 64 {
+        put_all(a, 6656 + c.slot * 768, &c.held);
     }
 }

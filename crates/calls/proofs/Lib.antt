@@ -1,7 +1,6 @@
-pub mod RefusalLaws
+pub mod ChainLaws
 pub mod ReplyLaws
 pub mod UnpinLaws
 pub mod MarkLaws
 pub mod TickLaws
 pub mod SlotLaws
-pub mod TagLaws

@@ -1,13 +1,12 @@
--- What the replies of the calls come to: those that are refused, and those in which some rows lose all their holdings or none does.
+-- What the replies of the calls come to: those in which some rows lose all their holdings, or none does.
 use mathlib.Core.Path.{◌≡◌, ◌∙◌, ap}
 use mathlib.Core.Bool.{Bool, false, cond}
 use mathlib.Core.List.{List}
-use Prim.Native.Nat.{ℕ, ◌%◌, ◌<◌}
+use Prim.Native.Nat.{ℕ, ◌%◌}
 use lib.ListN.{replicate}
 use Rattle.seq.specs.Each.{each}
 use Rattle.seq.proofs.EachLaws.{replicate_at}
 use Rattle.model.specs.declared.Answer.{Answer}
-use Rattle.model.specs.declared.Answer.TheVariants.{Refused}
 use Rattle.model.specs.declared.Cause.{Cause}
 use Rattle.model.specs.declared.Row.{Row}
 use Rattle.model.specs.declared.Slot.{Slot}
@@ -15,16 +14,13 @@ use Rattle.model.specs.declared.Setting.{Setting}
 use Rattle.model.specs.declared.Setting.TheVariants.{Left}
 use Rattle.model.specs.declared.Change.{Change}
 use Rattle.model.specs.declared.Reply.{Reply}
-use Rattle.model.specs.declared.Outcome.{Outcome}
 use Rattle.model.specs.declared.State.{State}
 use Rattle.model.specs.State.{empty_holding, with_clock, with_rows}
 use Rattle.model.specs.Changes.{released, killed, killed_row}
 use Rattle.model.specs.Inner.Changed.{marked, borders_after, begun_after, places_after, with_setting, changed, outcome_of, holdings_dropped}
 use Rattle.model.specs.Ranges.{Sized}
 use Rattle.model.proofs.ChangedLaws.{changed_dropped, changed_none}
-use Rattle.rules.specs.Calls.{unless}
 use Rattle.calls.specs.Inner.Parts.{setting_made}
-use Rattle.calls.proofs.RefusalLaws.{refused}
 
 module _ (s : State) (z : Sized s) where
   -- no holding changes
@@ -38,10 +34,6 @@ module _ (s : State) (z : Sized s) where
   -- nor do the borders
   pub left_after : (r : Reply) (rows : List Row) (a : Answer) → r ≡ setting_made s.clock rows s.slots Left a → outcome_of s r ≡ record { state = with_rows s rows; answer = a }
   left_after r rows a e = set_after r rows Left a e
-
-  -- a refused call: n is the number that the code found, m that of the definition
-  pub refused_after : (r : Reply) (n m : ℕ) (o : Outcome) → r ≡ setting_made s.clock s.rows s.slots Left (Refused n) → n ≡ m → 0 < n → outcome_of s r ≡ unless m s o
-  refused_after r n m o e f h = left_after r s.rows (Refused n) e ∙ refused n m s o f h
 
   -- some rows do
   pub drop_after : (c : Change) (clock : ℕ) (rows : List Row) (slots : List Slot) (gone : List Bool) (x : Setting) (a : Answer) → c ≡ holdings_dropped clock rows slots gone x

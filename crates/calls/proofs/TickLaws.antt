@@ -1,12 +1,11 @@
 -- A tick: its three steps as a change of the state, and then the tries.
-use mathlib.Core.Path.{◌≡◌, refl, ◌∙◌, ap}
+use mathlib.Core.Path.{◌≡◌, ◌∙◌, ap}
 use mathlib.Core.Bool.{Bool, cond}
 use mathlib.Core.List.{List, ◌++◌}
-use Prim.Native.Nat.{ℕ, ◌+◌, ◌<◌, ◌≤◌}
-use native.Mathlib.Omega.{arith}
-use lib.ListN.{drop}
+use Prim.Native.Nat.{ℕ, ◌+◌, ◌<◌}
+use lib.ListN.{drop, get_or}
 use Rattle.seq.specs.Each.{each}
-use Rattle.model.specs.declared.Answer.TheVariants.{Refused, Clock}
+use Rattle.model.specs.declared.Answer.TheVariants.{Clock}
 use Rattle.model.specs.declared.Call.TheVariants.{Tick}
 use Rattle.model.specs.declared.Cause.TheVariants.{Late}
 use Rattle.model.specs.declared.Change.{Change}
@@ -15,7 +14,7 @@ use Rattle.model.specs.declared.Row.{Row}
 use Rattle.model.specs.declared.Setting.TheVariants.{Left}
 use Rattle.model.specs.declared.Slot.{Slot}
 use Rattle.model.specs.declared.State.{State}
-use Rattle.model.specs.State.{with_clock}
+use Rattle.model.specs.State.{free_row, with_clock}
 use Rattle.model.specs.Changes.{killed_row, killed, released}
 use Rattle.model.specs.Inner.Changed.{marked, changed, LeavesSetting, outcome_of, holdings_dropped}
 use Rattle.model.specs.Ranges.{Sized}
@@ -24,14 +23,13 @@ use Rattle.rules.specs.Calls.{delivered_row, three_steps, late_killed, delivered
 use Rattle.rules.specs.Refusals.{tick_refusal}
 use Rattle.rules.specs.Run.{outcome, fills_of}
 use Rattle.rules.specs.Tries.{list_bytes, all_tried, ticked}
-use Rattle.calls.specs.Inner.Parts.{late_marks}
-use Rattle.calls.proofs.RefusalLaws.{refused}
+use Rattle.calls.specs.Inner.Parts.{late_row}
 use Rattle.calls.proofs.ReplyLaws.{drop_after, rows_killed}
 use Rattle.calls.proofs.MarkLaws.{ticked_rows}
 
 module _ (s : State) where
   pub steps_made : Sized s → (rows live : List Row) (late : List Bool) (slots : List Slot) (c : Change)
-      → rows ≡ each (λ row x. delivered_row (s.clock + 1) x) s.rows → late ≡ late_marks (s.clock + 1) rows
+      → rows ≡ each (λ row x. delivered_row (s.clock + 1) x) s.rows → ((row : ℕ) → row < 32 → marked late row ≡ late_row (s.clock + 1) (get_or rows row free_row))
       → live ≡ each (λ row x. cond (marked late row) (killed_row Late) x) rows → slots ≡ (released (marked late) (with_clock s (s.clock + 1))).slots
       → c ≡ holdings_dropped (s.clock + 1) live slots late Left → changed s c ≡ three_steps s
   unfolding outcome_of
@@ -43,15 +41,11 @@ module _ (s : State) where
   unfolding changed late_killed delivered_rows advanced killed released
   steps_leave c e = (ap (λ (u : State). u.borders) e, ap (λ (u : State). u.begun) e, ap (λ (u : State). u.places) e)
 
-  module _ (room n : ℕ) (e : n ≡ tick_refusal s room) (l : List ℕ) where
+  module _ (room : ℕ) (l : List ℕ) where
     abbrev Told : Outcome → List ℕ → Type 0
     Told o m = (o ≡ outcome s (Tick room)) × (m ≡ cond (is_clock o.answer) (list_bytes (fills_of s (Tick room)) ++ drop 256 l) l)
 
-    pub tick_refused : 0 < n → Told (record { state = s; answer = Refused n }) l
-    unfolding outcome ticked word
-    tick_refused h = (refused n (tick_refusal s room) s _ e h, refl)
-
-    pub tick_made : n ≤ 0 → (t : State) (m : List ℕ) → t ≡ (all_tried (three_steps s)).state → m ≡ list_bytes (all_tried (three_steps s)).fills ++ drop 256 l
+    pub tick_made : tick_refusal s room ≡ 0 → (t : State) (m : List ℕ) → t ≡ (all_tried (three_steps s)).state → m ≡ list_bytes (all_tried (three_steps s)).fills ++ drop 256 l
         → Told (record { state = t; answer = Clock (s.clock + 1) }) m
     unfolding outcome ticked fills_of word
-    tick_made h t m p q = let k : tick_refusal s room ≡ 0 = omega arith in (rw (k, p), rw k q)
+    tick_made k t m p q = (rw (k, p), rw k q)

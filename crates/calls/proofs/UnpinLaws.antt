@@ -1,36 +1,33 @@
--- An unpin's reply, and what it says that the search finds the page or does not.
+-- An unpin's reply.
 use mathlib.Core.Path.{◌≡◌, refl, sym, ◌∙◌, ap}
-use mathlib.Core.Bool.{Bool, false, cond, not}
-use mathlib.Core.List.{List, [], ◌∷◌}
-use Prim.Native.Nat.{ℕ, ◌+◌, ◌*◌, ◌/◌, ◌%◌, ◌<◌, ◌≤◌}
+use mathlib.Core.Bool.{Bool, false, cond}
+use mathlib.Core.List.{List}
+use Prim.Native.Nat.{ℕ, ◌+◌, ◌*◌, ◌/◌, ◌%◌, ◌<◌}
 use native.Mathlib.Omega.{arith}
 use native.Mathlib.Decide.{ℕ_discrete}
 use borrow.Author.Tests.{eq-eqb, ne_eqb}
 use lib.ListN.{length, get_or, set, replicate, length-replicate}
 use Rattle.seq.specs.Each.{each}
-use Rattle.seq.specs.declared.Found.{Found}
-use Rattle.seq.specs.declared.Found.TheVariants.{At, Nowhere}
 use Rattle.seq.proofs.EachLaws.{replicate_at, each_length, each_still}
-use Rattle.model.specs.declared.Answer.TheVariants as Answer
 use Rattle.model.specs.declared.Pin.TheVariants.{Unpinned}
 use Rattle.model.specs.declared.Slot.{Slot}
 use Rattle.model.specs.declared.Holding.{Holding}
 use Rattle.model.specs.declared.Setting.TheVariants.{Left}
 use Rattle.model.specs.declared.Change.{Change}
-use Rattle.model.specs.declared.Outcome.{Outcome}
 use Rattle.model.specs.declared.State.{State}
-use Rattle.model.specs.Parties.{row_of}
 use Rattle.model.specs.State.{empty_holding, slot_at, holding_at, put_slot, put_holding}
-use Rattle.model.specs.Words.{is_pin, pins, slot_of}
+use Rattle.model.specs.Words.{is_pin, pins}
 use Rattle.model.specs.Changes.{written, dirtied}
 use Rattle.model.specs.Inner.Changed.{holding_after, changed}
 use Rattle.model.specs.Ranges.{Sized}
 use Rattle.model.proofs.ChangedLaws.{held_set}
-use Rattle.rules.specs.Refusals.{first_to_apply, pins_page}
-use Rattle.rules.specs.Calls.{unless, unpinned_at, unpinned}
+use Rattle.rules.specs.Calls.{unpinned_at}
 use Rattle.serve.specs.Inner.SlotHoldings.{holdings_on}
 use Rattle.serve.proofs.SlotLaws.{held_by_lem}
-use Rattle.calls.proofs.RefusalLaws.{unpin_first, unpin_last_lem}
+
+-- p: whether the holding is a pin
+pub pin_is : (s : State) (row slot : ℕ) → row < 32 → (held : List Holding) (p : Bool) → held ≡ holdings_on s slot → p ≡ is_pin (get_or held row empty_holding).pin → pins s slot row ≡ p
+pin_is s row slot b held p e f = sym (f ∙ rw (e, held_by_lem s slot row b))
 
 module _ (s : State) (z : Sized s) (row slot : ℕ) (b : row < 32) (d : slot < 64) where
   same : Change
@@ -58,10 +55,6 @@ module _ (s : State) (z : Sized s) (row slot : ℕ) (b : row < 32) (d : slot < 6
       sym (held_set s z same c row h d b on_length refl refl (ap (λ (l : List Holding). set l row h) e)) ∙ ap (λ (l : List Holding). set l (slot * 32 + row) h) all_same in
       λ j. record { size = s.size; delay = s.delay; clock = s.clock; rows = s.rows; slots = set s.slots slot y; holdings = t j; borders = s.borders; begun = s.begun; places = s.places }
 
-  -- p: whether the holding is a pin
-  pub pin_is : (held : List Holding) (p : Bool) → held ≡ holdings_on s slot → p ≡ is_pin (get_or held row empty_holding).pin → pins s slot row ≡ p
-  pin_is held p e f = sym (f ∙ rw (e, held_by_lem s slot row b))
-
   pub unpin_changed : (held : List Holding) (w : Bool) (y : Slot) → held ≡ holdings_on s slot → w ≡ written s.clock (get_or held row empty_holding)
       → y ≡ cond w (dirtied (slot_at s slot)) (slot_at s slot)
       → changed s (record {
@@ -78,14 +71,3 @@ module _ (s : State) (z : Sized s) (row slot : ℕ) (b : row < 32) (d : slot < 6
       let there : get_or held row empty_holding ≡ holding_at s slot row = ap (λ (l : List Holding). get_or l row empty_holding) e ∙ held_by_lem s slot row b in
       set_changed held y (record { pin = Unpinned; arrival = (get_or held row empty_holding).arrival; touch = (get_or held row empty_holding).touch }) e
       ∙ rw (g, f, there)
-
--- f: what the search for the page found; n: the first refusal before the search
-module _ (s : State) (level number page n : ℕ) (f : Found) (e : n ≡ first_to_apply (unpin_first s level number page)) (l : n ≤ 0) (g : f ≡ slot_of s page) where
-  pub unpin_nowhere : f ≡ Nowhere → record { state = s; answer = Answer.Refused 15 } ≡ unpinned s level number page
-  unfolding unpinned pins_page
-  unpin_nowhere h = rw (← unpin_last_lem s level number page n e l, ← g, h)
-
-  pub unpin_found : (o : Outcome) (r slot : ℕ) → r ≡ row_of level number → f ≡ At slot → o ≡ unless (first_to_apply ((15, not (pins s slot r)) ∷ [])) s (record { state = unpinned_at s r slot; answer = Answer.Unpinned })
-      → o ≡ unpinned s level number page
-  unfolding unpinned pins_page
-  unpin_found o r slot q h d = d ∙ rw (← unpin_last_lem s level number page n e l, ← g, h, q)

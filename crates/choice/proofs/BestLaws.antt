@@ -20,7 +20,8 @@ use Rattle.model.proofs.PriorityLaws.{outranks_weak}
 use Rattle.model.proofs.SeenLaws.{seen_by, by_seen, none_seen}
 use Rattle.rules.specs.Choice.{held_above, pinned_at, held_at_own_level, seen_pin}
 use Rattle.rules.proofs.Choosing.ChoiceRank.{best_held, best_unbeaten, best_some, best_level}
-use Rattle.choice.specs.Inner.Summary.{rank_in, holders_at, holders_below, above_by, beside_by}
+use Rattle.choice.specs.Inner.Summary.{rank_in, holders_at, holders_below, above, beside}
+use Rattle.choice.specs.Inner.Search.{held_so}
 
 module _ (s : State) (i : ℕ) where
   pub holders_at_lem : (f : Found) → best_holder s i ≡ f → holders_below s i 32 ≡ holders_at s i 32 f
@@ -37,7 +38,7 @@ module _ (s : State) (i : ℕ) where
   best_any : (b : ℕ) → best_holder s i ≡ At b → any_below 32 (holds s i) ≡ true
   best_any b e = hit_any (holds s i) 32 b (best_held s i b e).0 (best_held s i b e).1
 
-  pub held_is : (f : Found) → best_holder s i ≡ f → (holders_at s i 32 f).held ≡ any_below 32 (holds s i)
+  pub held_is : (f : Found) → best_holder s i ≡ f → held_so (holders_at s i 32 f) (λ w. true) ≡ any_below 32 (holds s i)
   held_is Nowhere e = sym (none_any (holds s i) 32 (none e))
   held_is (At b) e = sym (best_any b e)
 
@@ -87,7 +88,7 @@ module _ (s : State) (i : ℕ) where
             (λ v. let w = leb-true (level_of r) (level_of me) v in eq-eqb (level_of r) (level_of b) (omega (arith, k))))
 
   module _ (me : ℕ) where
-    pub above_is : (f : Found) → best_holder s i ≡ f → above_by (holders_at s i 32 f) (rank_in s.rows s.places me) ≡ held_above s me i
+    pub above_is : (f : Found) → best_holder s i ≡ f → held_so (holders_at s i 32 f) (above (rank_in s.rows s.places me)) ≡ held_above s me i
     unfolding held_above
     above_is Nowhere e = rw (none_any (holds s i) 32 (none e))
     above_is (At b) e = rw (best_any b e) (go (ltb (level_of me) (level_of b)) refl)
@@ -100,7 +101,7 @@ module _ (s : State) (i : ℕ) where
             let m = ltb-false (level_of me) (level_of b) x in
             x ∙ ap not (sym (by_seen s (level_of me) i b (best_held s i b e).0 (omega arith) (best_held s i b e).1))
 
-    pub beside_is : (f : Found) → best_holder s i ≡ f → beside_by (holders_at s i 32 f) (rank_in s.rows s.places me) ≡ held_at_own_level s me i
+    pub beside_is : (f : Found) → best_holder s i ≡ f → held_so (holders_at s i 32 f) (beside (rank_in s.rows s.places me)) ≡ held_at_own_level s me i
     unfolding held_at_own_level outranks
     beside_is Nowhere e = rw (none_seen s (level_of me) i (λ r h k. none e r h))
     beside_is (At b) e = same_truth (eqb (level_of b) (level_of me) && not (outranks s b me)) (held_at_own_level s me i) to (all_beside me b e)

@@ -1,4 +1,4 @@
--- The steps over the slots and over their summaries are the steps of document 01.
+-- The steps over the slots' summaries are the steps of document 01.
 use mathlib.Core.Path.{◌≡◌, refl, sym, ◌∙◌, ap}
 use mathlib.Core.List.{List}
 use mathlib.Core.Bool.{Bool, true, false, ◌&&◌, not}
@@ -6,89 +6,75 @@ use Prim.Native.Nat.{ℕ, ◌<◌, ◌≤◌}
 use native.Mathlib.Omega.{arith}
 use borrow.Author.Tests.{eqb-true}
 use lib.Dec.{ltb, eqb}
-use lib.ListN.{get_or, replicate, length-replicate}
+use lib.ListN.{length, take, get_or}
+use Rattle.std.proofs.lemmas.List.{get_or-take, length-take-le}
+use Rattle.std.specs.Prelude.{Option, Some, None}
 use Rattle.seq.specs.Below.{pick_below, at_found}
 use Rattle.seq.specs.declared.Found.{Found}
 use Rattle.seq.specs.declared.Found.TheVariants.{At, Nowhere}
 use Rattle.seq.proofs.Tests.{and_true, and_when, parts}
 use Rattle.seq.proofs.PickLaws.{pick_same, picked_same}
-use Rattle.seq.proofs.EachLaws.{each_below_reached}
+use Rattle.model.specs.declared.Rank.{Rank}
 use Rattle.model.specs.declared.State.{State}
 use Rattle.model.specs.Parties.{level_of}
 use Rattle.model.specs.State.{empty_slot, slot_at}
-use Rattle.model.specs.Words.{pins, seen, dormant, outranks, best_holder, latest_touch}
+use Rattle.model.specs.Words.{is_filled, pins, seen, dormant, outranks, best_holder, latest_touch}
 use Rattle.model.proofs.SeenLaws.{seen_held}
 use Rattle.rules.specs.Choice.{or_else, step_a, before_dormant, step_b, holder_level, held_above, highest_level, pinned_at, in_c, in_d, held_at_own_level, seen_pin, in_e, in_f, before_held, step_held, chosen}
 use Rattle.choice.specs.declared.Holders.{Holders}
 use Rattle.choice.specs.declared.Summary.{Summary}
-use Rattle.choice.specs.declared.Step.{Step}
-use Rattle.choice.specs.declared.Step.TheVariants.{C, D, E, F}
-use Rattle.choice.specs.Inner.Summary.{rank_in, latest_below, pinned_below, no_holders, holders_at, holders_below, survey_of, summary_with, no_summary, summaries_in}
-use Rattle.choice.specs.Inner.Search.{empty_in, dormant_before, dormant_test, dormant_in, in_step, held_before, step_before, step_from, top_from, held_from, filled_in}
+use Rattle.choice.specs.Inner.Summary.{rank_in, latest_below, pinned_below, holders_at, holders_below, above, beside, summary_of, no_summary, SummariesOf}
+use Rattle.choice.specs.Inner.Search.{pick_in, held_so, is_dormant, dormant_before, dormant_in, level_at, top_from, in_step_c, in_step_d, in_step_e, in_step_f, held_before, held_from}
+use Rattle.choice.proofs.SearchLaws.{pick_front, top_is}
 use Rattle.choice.proofs.BestLaws.{holders_at_lem, held_best, held_is, above_is, beside_is, seen_pin_lem}
 
--- what the survey says of a slot started with
-module _ (s : State) (me : ℕ) (most : s.size ≤ 64) (i : ℕ) (h : i < s.size) where
-  survey_holders : get_or (survey_of s me).holders i no_holders ≡ holders_below s i 32
-  unfolding survey_of
-  survey_holders = each_below_reached (λ slot _. holders_below s slot 32) (replicate 64 no_holders) s.size i no_holders h (rw (length-replicate 64 no_holders) (omega arith))
+-- a test of all that is asked of the holders is the tests of each
+abbrev pinned_in : Option Holders → Bool
+pinned_in o = held_so o (λ w. w.pinned)
 
-  survey_own : get_or (survey_of s me).own i false ≡ pins s i me
-  unfolding survey_of
-  survey_own = each_below_reached (λ slot _. pins s slot me) (replicate 64 false) s.size i false h (rw (length-replicate 64 false) (omega arith))
+c_parts : (o : Option Holders) (me : Rank) (top : ℕ) → held_so o (λ w. above me w && eqb w.rank.level top && not w.pinned) ≡ held_so o (above me) && eqb (level_at o) top && not (pinned_in o)
+c_parts None me top = refl
+c_parts (Some w) me top = refl
 
-dormant_chosen : (s : State) (me : ℕ) → s.size ≤ 64 → dormant_in s.slots s.size (survey_of s me).holders ≡ step_b s
-unfolding dormant_in step_b dormant holders_below best_holder dormant_before before_dormant
-dormant_chosen s me most = pick_same _ (dormant s) _ (before_dormant s) s.size test order
-  where
-    test : (i : ℕ) → i < s.size → dormant_test (slot_at s i) (get_or (survey_of s me).holders i no_holders).held ≡ dormant s i
-    test i h =
-        ap (λ (w : Holders). dormant_test (slot_at s i) w.held) (survey_holders s me most i h)
-        ∙ ap (dormant_test (slot_at s i)) (held_is s i (best_holder s i) refl)
+d_parts : (o : Option Holders) (me : Rank) (top : ℕ) → held_so o (λ w. above me w && eqb w.rank.level top && w.pinned) ≡ held_so o (above me) && eqb (level_at o) top && pinned_in o
+d_parts None me top = refl
+d_parts (Some w) me top = refl
 
-    order : (i j : ℕ) → i < s.size → j < s.size → dormant_test (slot_at s i) (get_or (survey_of s me).holders i no_holders).held ≡ true
-        → dormant_test (slot_at s j) (get_or (survey_of s me).holders j no_holders).held ≡ true → dormant_before (slot_at s i) (slot_at s j) ≡ before_dormant s i j
-    order i j _ _ _ _ = refl
+e_parts : (o : Option Holders) (me : Rank) → held_so o (λ w. beside me w && not w.pinned) ≡ held_so o (beside me) && not (pinned_in o)
+e_parts None me = refl
+e_parts (Some w) me = refl
 
--- the summary of a slot for a requester
-unfoldable summary_of : State → ℕ → ℕ → Summary
-summary_of s me slot = summary_with (slot_at s slot) (holders_below s slot 32) (pins s slot me) (rank_in s.rows s.places me)
+f_parts : (o : Option Holders) (me : Rank) (own : Bool) → held_so o (λ w. beside me w && w.pinned && not own) ≡ held_so o (beside me) && pinned_in o && not own
+f_parts None me own = refl
+f_parts (Some w) me own = refl
 
-module _ (s : State) (me : ℕ) (m : List Summary) (summary_at : (i : ℕ) → i < s.size → get_or m i no_summary ≡ summary_of s me i) where
-  -- a search over the summaries is one over the slots
-  same_step : (step : Step) (top : ℕ) (p : ℕ → Bool) (q : ℕ → ℕ → Bool) → ((i : ℕ) → in_step step top (summary_of s me i) ≡ p i)
-      → ((i j : ℕ) → p i ≡ true → p j ≡ true → step_before step (summary_of s me i) (summary_of s me j) ≡ q i j)
-      → step_from m s.size step top ≡ pick_below s.size p q
-  unfolding step_from
-  same_step step top p q f g =
-      pick_same _ p _ q s.size test
-      (λ i j h k u v. rw (summary_at i h, summary_at j k) (g i j (sym (test i h) ∙ u) (sym (test j k) ∙ v)))
-    where
-      test : (i : ℕ) → i < s.size → in_step step top (get_or m i no_summary) ≡ p i
-      test i h = ap (in_step step top) (summary_at i h) ∙ f i
+-- the requester's rank
+abbrev rank_me : State → ℕ → Rank
+rank_me s me = rank_in s.rows s.places me
 
-  same_above : (i : ℕ) → (summary_of s me i).above ≡ held_above s me i
-  unfolding summary_of summary_with holders_below best_holder
+module _ (s : State) (me : ℕ) where
+  abbrev o : ℕ → Option Holders
+  o i = holders_below s i 32
+
+  same_dormant : (i : ℕ) → is_dormant (summary_of s me i) ≡ dormant s i
+  unfolding dormant holders_below best_holder
+  same_dormant i = ap (λ (x : Bool). is_filled (slot_at s i).content && not x) (held_is s i (best_holder s i) refl)
+
+  same_above : (i : ℕ) → held_so (o i) (above (rank_me s me)) ≡ held_above s me i
+  unfolding holders_below best_holder
   same_above i = above_is s i me (best_holder s i) refl
 
-  same_beside : (i : ℕ) → (summary_of s me i).beside ≡ held_at_own_level s me i
-  unfolding summary_of summary_with holders_below best_holder
+  same_beside : (i : ℕ) → held_so (o i) (beside (rank_me s me)) ≡ held_at_own_level s me i
+  unfolding holders_below best_holder
   same_beside i = beside_is s i me (best_holder s i) refl
 
-  same_level : (i : ℕ) → (summary_of s me i).holders.rank.level ≡ holder_level s i
-  unfolding summary_of summary_with holders_below best_holder holder_level
+  same_level : (i : ℕ) → level_at (o i) ≡ holder_level s i
+  unfolding holders_below best_holder holder_level
   same_level i = go (best_holder s i)
     where
-      go : (f : Found) → (holders_at s i 32 f).rank.level ≡ at_found f level_of 0
+      go : (f : Found) → level_at (holders_at s i 32 f) ≡ at_found f level_of 0
       go Nowhere = refl
       go (At b) = refl
-
-  same_top : top_from m s.size ≡ highest_level s me
-  unfolding top_from highest_level step_from
-  same_top = picked_same _ (held_above s me) _ (λ i j. ltb (holder_level s j) (holder_level s i)) _ (holder_level s) 0 s.size
-      (λ i h. rw (summary_at i h) (same_above i))
-      (λ i j h k _ _. rw (summary_at i h, summary_at j k, same_level i, same_level j))
-      (λ i h _. rw (summary_at i h) (same_level i))
 
   -- a slot in a step from c to f is held; its summary is by its best holder
   above_best : (i : ℕ) → held_above s me i ≡ true → (b : ℕ) × (best_holder s i ≡ At b)
@@ -100,64 +86,89 @@ module _ (s : State) (me : ℕ) (m : List Summary) (summary_at : (i : ℕ) → i
   beside_best i e = held_best s i (seen_held s (level_of me) i (and_true (seen s (level_of me) i) _ e).0)
 
   same_before : (i j : ℕ) → (a : ℕ) × (best_holder s i ≡ At a) → (b : ℕ) × (best_holder s j ≡ At b) → held_before (summary_of s me i) (summary_of s me j) ≡ before_held s i j
-  unfolding held_before before_held summary_of summary_with outranks holder_level latest_below latest_touch
+  unfolding before_held outranks holder_level latest_below latest_touch
   same_before i j (a, e) (b, w) = rw (holders_at_lem s i (At a) e, holders_at_lem s j (At b) w, e, w)
 
-  same_pinned : (i : ℕ) → (a : ℕ) × (best_holder s i ≡ At a) → (summary_of s me i).holders.pinned ≡ pinned_at s (holder_level s i) i
-  unfolding summary_of summary_with holder_level pinned_below pinned_at
+  same_pinned : (i : ℕ) → (a : ℕ) × (best_holder s i ≡ At a) → pinned_in (o i) ≡ pinned_at s (holder_level s i) i
+  unfolding holder_level pinned_below pinned_at
   same_pinned i (a, e) = rw (holders_at_lem s i (At a) e, e)
 
   -- where the best holder's level is M, and where it is the requester's
-  pinned_top : (i : ℕ) → held_above s me i && eqb (holder_level s i) (highest_level s me) ≡ true → (summary_of s me i).holders.pinned ≡ pinned_at s (highest_level s me) i
+  pinned_top : (i : ℕ) → held_above s me i && eqb (holder_level s i) (highest_level s me) ≡ true → pinned_in (o i) ≡ pinned_at s (highest_level s me) i
   pinned_top i e =
       let x = and_true (held_above s me i) _ e in
       same_pinned i (above_best i x.0) ∙ ap (λ (level : ℕ). pinned_at s level i) (eqb-true (holder_level s i) (highest_level s me) x.1)
 
-  pinned_own : (i : ℕ) → held_at_own_level s me i ≡ true → (summary_of s me i).holders.pinned ≡ seen_pin s (level_of me) i
-  unfolding summary_of summary_with pinned_below pinned_at
+  pinned_own : (i : ℕ) → held_at_own_level s me i ≡ true → pinned_in (o i) ≡ seen_pin s (level_of me) i
+  unfolding pinned_below pinned_at
   pinned_own i e = let x = beside_best i e in rw (holders_at_lem s i (At x.0) x.1) (seen_pin_lem s i me x.0 x.1 e)
 
-  same_c : (i : ℕ) → in_step C (highest_level s me) (summary_of s me i) ≡ in_c s me i
+  same_c : (i : ℕ) → in_step_c (rank_me s me) (highest_level s me) (summary_of s me i) ≡ in_c s me i
   unfolding in_c
-  same_c i = rw (same_above i, same_level i) (and_when _ _ _ (λ h. ap not (pinned_top i h)))
+  same_c i = c_parts (o i) (rank_me s me) (highest_level s me) ∙ rw (same_above i, same_level i) (and_when _ _ _ (λ h. ap not (pinned_top i h)))
 
-  same_d : (i : ℕ) → in_step D (highest_level s me) (summary_of s me i) ≡ in_d s me i
+  same_d : (i : ℕ) → in_step_d (rank_me s me) (highest_level s me) (summary_of s me i) ≡ in_d s me i
   unfolding in_d
-  same_d i = rw (same_above i, same_level i) (and_when _ _ _ (pinned_top i))
+  same_d i = d_parts (o i) (rank_me s me) (highest_level s me) ∙ rw (same_above i, same_level i) (and_when _ _ _ (pinned_top i))
 
-  same_e : (i : ℕ) → in_step E (highest_level s me) (summary_of s me i) ≡ in_e s me i
+  same_e : (i : ℕ) → in_step_e (rank_me s me) (summary_of s me i) ≡ in_e s me i
   unfolding in_e
-  same_e i = rw (same_beside i) (and_when _ _ _ (λ h. ap not (pinned_own i h)))
+  same_e i = e_parts (o i) (rank_me s me) ∙ rw (same_beside i) (and_when _ _ _ (λ h. ap not (pinned_own i h)))
 
-  same_f : (i : ℕ) → in_step F (highest_level s me) (summary_of s me i) ≡ in_f s me i
-  unfolding in_f summary_of summary_with
-  same_f i = rw (same_beside i) (ap (λ (x : Bool). x && not (pins s i me)) (and_when _ _ _ (pinned_own i)))
+  same_f : (i : ℕ) → in_step_f (rank_me s me) (summary_of s me i) ≡ in_f s me i
+  unfolding in_f
+  same_f i = f_parts (o i) (rank_me s me) (pins s i me) ∙ rw (same_beside i) (ap (λ (x : Bool). x && not (pins s i me)) (and_when _ _ _ (pinned_own i)))
 
-  -- a step from c to f
-  same_held : (step : Step) (p : ℕ → Bool) → ((i : ℕ) → in_step step (highest_level s me) (summary_of s me i) ≡ p i)
-      → ((i : ℕ) → p i ≡ true → (b : ℕ) × (best_holder s i ≡ At b)) → ((x y : Summary) → step_before step x y ≡ held_before x y)
-      → step_from m s.size step (top_from m s.size) ≡ step_held s p
-  unfolding step_held
-  same_held step p f g o = rw same_top (same_step step (highest_level s me) p (before_held s) f (λ i j u v. o (summary_of s me i) (summary_of s me j) ∙ same_before i j (g i u) (g j v)))
+  module _ (m : List Summary) (size : length m ≡ s.size) (summary_at : (i : ℕ) → i < s.size → get_or m i no_summary ≡ summary_of s me i) where
+    -- a search over the summaries is one over the slots
+    same_search : (p : Summary → Bool) (before : Summary → Summary → Bool) (q : ℕ → Bool) (after : ℕ → ℕ → Bool) → ((i : ℕ) → p (summary_of s me i) ≡ q i)
+        → ((i j : ℕ) → q i ≡ true → q j ≡ true → before (summary_of s me i) (summary_of s me j) ≡ after i j)
+        → pick_in m p before no_summary ≡ pick_below s.size q after
+    unfolding pick_in
+    same_search p before q after f g =
+        rw size (pick_same (λ i. p (get_or m i no_summary)) q (λ i j. before (get_or m i no_summary) (get_or m j no_summary)) after s.size test
+        (λ i j h k u v. rw (summary_at i h, summary_at j k) (g i j (sym (test i h) ∙ u) (sym (test j k) ∙ v))))
+      where
+        test : (i : ℕ) → i < s.size → p (get_or m i no_summary) ≡ q i
+        test i h = ap p (summary_at i h) ∙ f i
 
-  -- steps c to f by summaries
-  same_choice : held_from m s.size ≡ or_else (step_held s (in_c s me)) (or_else (step_held s (in_d s me)) (or_else (step_held s (in_e s me)) (step_held s (in_f s me))))
-  unfolding held_from in_c in_d in_e in_f
-  same_choice = rw (
-    same_held C (in_c s me) same_c (λ i e. above_best i (search parts depth 20)) (λ x y. refl),
-    same_held D (in_d s me) same_d (λ i e. above_best i (search parts depth 20)) (λ x y. refl),
-    same_held E (in_e s me) same_e (λ i e. beside_best i (search parts depth 20)) (λ x y. refl),
-    same_held F (in_f s me) same_f (λ i e. beside_best i (search parts depth 20)) (λ x y. refl),
-  )
+    dormant_chosen : dormant_in m ≡ step_b s
+    unfolding dormant_in step_b before_dormant
+    dormant_chosen = same_search is_dormant (λ x y. dormant_before x.slot y.slot) (dormant s) (before_dormant s) same_dormant (λ i j _ _. refl)
 
--- steps a to f over the slots, and over what the survey says of them
-pub choice_made : (s : State) (me : ℕ) → s.size ≤ 64 → chosen s me ≡ or_else (empty_in s.slots s.size) (filled_in s.slots s.size (survey_of s me))
-unfolding chosen empty_in step_a filled_in survey_of summaries_in summary_of
-choice_made s me most =
-    let x = survey_of s me in
-    rw (dormant_chosen s me most, same_choice s me (summaries_in s.slots s.size x.holders x.own x.requester) summary_at)
-  where
-    summary_at : (i : ℕ) → i < s.size → get_or (summaries_in s.slots s.size (survey_of s me).holders (survey_of s me).own (survey_of s me).requester) i no_summary ≡ summary_of s me i
-    summary_at i h =
-        each_below_reached (λ slot _. summary_with (get_or s.slots slot empty_slot) (get_or (survey_of s me).holders slot no_holders) (get_or (survey_of s me).own slot false) (survey_of s me).requester) (replicate 64 no_summary) s.size i no_summary h (rw (length-replicate 64 no_summary) (omega arith))
-        ∙ rw (survey_holders s me most i h, survey_own s me most i h)
+    same_top : top_from m (rank_me s me) ≡ highest_level s me
+    unfolding highest_level
+    same_top = top_is m (rank_me s me) ∙ rw size (picked_same _ (held_above s me) _ (λ i j. ltb (holder_level s j) (holder_level s i)) _ (holder_level s) 0 s.size
+        (λ i h. rw (summary_at i h) (same_above i))
+        (λ i j h k _ _. rw (summary_at i h, summary_at j k, same_level i, same_level j))
+        (λ i h _. rw (summary_at i h) (same_level i)))
+
+    same_held : (p : Summary → Bool) (q : ℕ → Bool) → ((i : ℕ) → p (summary_of s me i) ≡ q i) → ((i : ℕ) → q i ≡ true → (b : ℕ) × (best_holder s i ≡ At b))
+        → pick_in m p held_before no_summary ≡ step_held s q
+    unfolding step_held
+    same_held p q f g = same_search p held_before q (before_held s) f (λ i j u v. same_before i j (g i u) (g j v))
+
+    -- steps c to f by summaries
+    same_choice : held_from m (rank_me s me) ≡ or_else (step_held s (in_c s me)) (or_else (step_held s (in_d s me)) (or_else (step_held s (in_e s me)) (step_held s (in_f s me))))
+    unfolding held_from in_c in_d in_e in_f
+    same_choice = rw (
+      same_top,
+      same_held (in_step_c (rank_me s me) (highest_level s me)) (in_c s me) same_c (λ i e. above_best i (search parts depth 20)),
+      same_held (in_step_d (rank_me s me) (highest_level s me)) (in_d s me) same_d (λ i e. above_best i (search parts depth 20)),
+      same_held (in_step_e (rank_me s me)) (in_e s me) same_e (λ i e. beside_best i (search parts depth 20)),
+      same_held (in_step_f (rank_me s me)) (in_f s me) same_f (λ i e. beside_best i (search parts depth 20)),
+    )
+
+-- step a over the slots
+pub empty_found : (s : State) (f : Found) → s.size ≤ length s.slots → f ≡ pick_in (take s.size s.slots) (λ x. not (is_filled x.content)) (λ x y. false) empty_slot → f ≡ step_a s
+unfolding step_a
+empty_found s f h e = e ∙ pick_front s.slots (λ x. not (is_filled x.content)) (λ x y. false) empty_slot s.size h
+
+-- steps b to f over the summaries, where step a finds nothing
+pub choice_made : (s : State) (me : ℕ) (all : List Summary) → s.size ≤ 64 → SummariesOf s me s.size all → step_a s ≡ Nowhere
+    → chosen s me ≡ or_else (dormant_in (take s.size all)) (held_from (take s.size all) (rank_me s me))
+unfolding chosen
+choice_made s me all most (long, at) e =
+    let size = length-take-le s.size all (omega arith) in
+    let summary_at : (i : ℕ) → i < s.size → get_or (take s.size all) i no_summary ≡ summary_of s me i = λ i h. get_or-take s.size all i no_summary h ∙ at i h in
+    rw (e, dormant_chosen s me (take s.size all) size summary_at, same_choice s me (take s.size all) size summary_at)

@@ -1,4 +1,4 @@
 pub mod SummaryLaws
-pub mod BestLaws
 pub mod SearchLaws
+pub mod BestLaws
 pub mod ChoiceLaws

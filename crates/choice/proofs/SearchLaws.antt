@@ -1,92 +1,100 @@
--- One slot more in a search over slots or summaries, and the steps one after the other.
-use mathlib.Core.Path.{◌≡◌, refl, sym, ◌∙◌}
-use mathlib.Core.List.{List}
-use mathlib.Core.Bool.{Bool, true, false}
-use Prim.Native.Nat.{ℕ, ◌+◌, ◌<◌, ◌≤◌}
+-- One item more in a search over a list; a search over the first items of a list; the greatest level.
+use mathlib.Core.Path.{◌≡◌, refl, sym, ◌∙◌, ap}
+use mathlib.Core.List.{List, [], ◌∷◌}
+use mathlib.Core.Bool.{Bool, true, false, cond}
+use Prim.Native.Nat.{ℕ, zero, suc, ◌+◌, ◌<◌, ◌≤◌, max}
 use native.Mathlib.Omega.{arith}
-use lib.ListN.{get_or}
+use lib.Dec.{ltb}
+use lib.ListN.{length, get_or, take}
+use Rattle.std.specs.Prelude.{Option, Some, None, filter}
+use Rattle.std.specs.List.{fold, filter_map}
+use Rattle.std.proofs.Common.{add-one}
+use Rattle.std.proofs.Math.Seq.{take-length}
+use Rattle.std.proofs.lemmas.List.{get_or_read, get_or-take, take_more, length-take-le}
+use Rattle.std.proofs.lemmas.List.Elements.{filter-append, filter_map-append}
+use Rattle.std.proofs.lemmas.List.Sums.{fold-append}
+use Rattle.model.specs.declared.Slot.{Slot}
+use Rattle.choice.specs.declared.Holders.{Holders}
 use Rattle.seq.specs.Below.{pick_below, considered, at_found}
 use Rattle.seq.specs.declared.Found.{Found}
 use Rattle.seq.specs.declared.Found.TheVariants.{At, Nowhere}
-use Rattle.seq.proofs.PickLaws.{pick_turn, pick_is}
-use Rattle.model.specs.declared.Slot.{Slot}
-use Rattle.model.specs.State.{empty_slot}
-use Rattle.rules.specs.Choice.{or_else}
-use Rattle.choice.specs.declared.Holders.{Holders}
+use Rattle.seq.proofs.PickLaws.{pick_turn, pick_same, at_same}
+use Rattle.model.specs.declared.Rank.{Rank}
 use Rattle.choice.specs.declared.Summary.{Summary}
-use Rattle.choice.specs.declared.Step.{Step}
-use Rattle.choice.specs.declared.Step.TheVariants.{C, D, E, F}
-use Rattle.choice.specs.Inner.Summary.{no_holders, no_summary}
-use Rattle.choice.specs.Inner.Search.{dormant_before, dormant_test, dormant_in, in_step, step_before, step_from, top_from, held_from}
+use Rattle.choice.specs.Inner.Summary.{above, no_summary}
+use Rattle.choice.specs.Inner.Search.{pick_in, held_so, level_at, top_from}
+use Rattle.choice.proofs.SummaryLaws.{most_turn}
 
--- j: the place found so far, or 0
-module _ (p : ℕ → Bool) (before : ℕ → ℕ → Bool) where
-  place_turn : (n j : ℕ) (f g : Found) → f ≡ pick_below n p before → j ≡ at_found f (λ i. i) 0 → g ≡ considered (p n) f n (λ slot other. before n j)
-      → g ≡ pick_below (n + 1) p before
-  place_turn n j f g e k q = pick_turn p before n f g e (q ∙ rw k (go (p n) f))
+module _ {X : Type 0} (items : List X) (p : X → Bool) (before : X → X → Bool) (none : X) where
+  -- among the first n
+  abbrev pub picked : ℕ → Found
+  picked n = pick_below n (λ i. p (get_or items i none)) (λ i j. before (get_or items i none) (get_or items j none))
+
+  turn : (n : ℕ) (f g : Found) → f ≡ picked n → g ≡ considered (p (get_or items n none)) f n (λ i j. before (get_or items i none) (get_or items j none)) → g ≡ picked (n + 1)
+  turn n f g e k = pick_turn (λ i. p (get_or items i none)) (λ i j. before (get_or items i none) (get_or items j none)) n f g e k
+
+  -- an item that does not pass; the first that passes; and one that passes beside the item found before
+  module _ (n : ℕ) (x : X) (h : n < length items) (at : x ≡ get_or items n x) where
+    here : x ≡ get_or items n none
+    here = get_or_read items n x h at none
+
+    pub item_fails : (f : Found) → f ≡ picked n → false ≡ p x → f ≡ picked (n + 1)
+    item_fails f e k = turn n f f e (rw (← here, ← k))
+
+    pub item_first : (f : Found) → f ≡ picked n → f ≡ Nowhere → true ≡ p x → At n ≡ picked (n + 1)
+    item_first f e w k = turn n f (At n) e (rw (← here, ← k, w))
+
+    pub item_beside : (f g : Found) (j : ℕ) (y : X) (b : Bool) → f ≡ picked n → f ≡ At j → j < length items → y ≡ get_or items j y → true ≡ p x → b ≡ before x y
+        → g ≡ cond b (At n) (At j) → g ≡ picked (n + 1)
+    item_beside f g j y b e w l z k m o = turn n f g e (rw (w, ← (k ∙ ap p here), ← here, ← get_or_read items j y l z none, ← m) o)
+
+  -- over the first n items
+  pub pick_front : (n : ℕ) → n ≤ length items → pick_in (take n items) p before none ≡ picked n
+  unfolding pick_in
+  pick_front n h = rw (length-take-le n items h)
+      (pick_same (λ i. p (get_or (take n items) i none)) (λ i. p (get_or items i none))
+      (λ i j. before (get_or (take n items) i none) (get_or (take n items) j none)) (λ i j. before (get_or items i none) (get_or items j none)) n
+      (λ i b. rw (get_or-take n items i none b))
+      (λ i j b c _ _. rw (get_or-take n items i none b, get_or-take n items j none c)))
+
+-- of two places below a bound the one that is taken
+pub below : (i j k n : ℕ) (b : Bool) → i < n → j < n → cond b (At i) (At j) ≡ At k → k < n
+below i j k n true h l e = let w : i ≡ k = at_same e in omega arith
+below i j k n false h l e = let w : j ≡ k = at_same e in omega arith
+
+-- the highest level among the first n
+module _ (m : List Summary) (requester : Rank) where
+  abbrev pub top_below : ℕ → ℕ
+  top_below n = at_found
+      (picked m (λ x. held_so x.holders (above requester)) (λ x y. ltb (level_at y.holders) (level_at x.holders)) no_summary n)
+      (λ i. level_at (get_or m i no_summary).holders)
+      0
+
+  top_turn : (n top new : ℕ) → top ≡ top_below n → new ≡ cond (held_so (get_or m n no_summary).holders (above requester)) (max top (level_at (get_or m n no_summary).holders)) top → new ≡ top_below (n + 1)
+  top_turn n top new e k = k ∙ rw e (sym (most_turn (λ i. held_so (get_or m i no_summary).holders (above requester)) (λ i. level_at (get_or m i no_summary).holders) n (held_so (get_or m n no_summary).holders (above requester)) refl))
+
+  -- the same along the list's front
+  abbrev higher : ℕ → Holders → ℕ
+  higher top w = max top w.rank.level
+
+  one : (top : ℕ) (o : Option Holders) (x : Slot) (own : Bool)
+      → fold higher top (filter (above requester) (filter_map (λ (y : Summary). y.holders) (record { slot = x; holders = o; own = own } ∷ [])))
+      ≡ cond (held_so o (above requester)) (max top (level_at o)) top
+  one top None x own = refl
+  one top (Some w) x own = go (above requester w)
     where
-      go : (b : Bool) (f : Found) → considered b f n (λ slot other. before n (at_found f (λ i. i) 0)) ≡ considered b f n before
-      go false f = refl
-      go true Nowhere = refl
-      go true (At i) = refl
+      go : (b : Bool) → fold higher top (cond b (w ∷ []) []) ≡ cond b (max top w.rank.level) top
+      go true = refl
+      go false = refl
 
-  place_under : (n j : ℕ) (f : Found) → n ≤ 64 → f ≡ pick_below n p before → j ≡ at_found f (λ i. i) 0 → j < 64
-  place_under n j f h e k = rw k (go f e)
-    where
-      go : (f : Found) → f ≡ pick_below n p before → at_found f (λ i. i) 0 < 64
-      go Nowhere e = omega arith
-      go (At i) e = omega (arith, (pick_is p before n i (sym e)).0)
+  top_front : (n : ℕ) → n ≤ length m → fold higher 0 (filter (above requester) (filter_map (λ (y : Summary). y.holders) (take n m))) ≡ top_below n
+  unfolding pick_below
+  top_front zero h = refl
+  top_front (suc n) h =
+      let x = get_or m n no_summary in
+      rw (← add-one n, take_more m n no_summary (omega arith), filter_map-append, filter-append, fold-append)
+      (top_turn n _ _ (top_front n (omega arith)) (one _ x.holders x.slot x.own) ∙ ap top_below (add-one n))
 
-module _ (slots : List Slot) (holders : List Holders) where
-  abbrev dormant_at : ℕ → Bool
-  dormant_at i = dormant_test (get_or slots i empty_slot) (get_or holders i no_holders).held
-
-  abbrev sooner : ℕ → ℕ → Bool
-  sooner i j = dormant_before (get_or slots i empty_slot) (get_or slots j empty_slot)
-
-  pub dormant_none : Nowhere ≡ dormant_in slots 0 holders
-  unfolding dormant_in pick_below
-  dormant_none = refl
-
-  pub dormant_turn : (n j : ℕ) (f g : Found) → f ≡ dormant_in slots n holders → j ≡ at_found f (λ i. i) 0 → g ≡ considered (dormant_at n) f n (λ slot other. sooner n j)
-      → g ≡ dormant_in slots (n + 1) holders
-  unfolding dormant_in
-  dormant_turn n j f g e p q = place_turn dormant_at sooner n j f g e p q
-
-  pub dormant_below : (n j : ℕ) (f : Found) → n ≤ 64 → f ≡ dormant_in slots n holders → j ≡ at_found f (λ i. i) 0 → j < 64
-  unfolding dormant_in
-  dormant_below n j f h e p = place_under dormant_at sooner n j f h e p
-
-module _ (m : List Summary) (step : Step) (top : ℕ) where
-  abbrev passes : ℕ → Bool
-  passes i = in_step step top (get_or m i no_summary)
-
-  abbrev before : ℕ → ℕ → Bool
-  before i j = step_before step (get_or m i no_summary) (get_or m j no_summary)
-
-  pub search_none : Nowhere ≡ step_from m 0 step top
-  unfolding step_from pick_below
-  search_none = refl
-
-  pub search_turn : (n j : ℕ) (f g : Found) → f ≡ step_from m n step top → j ≡ at_found f (λ i. i) 0 → g ≡ considered (passes n) f n (λ slot other. before n j)
-      → g ≡ step_from m (n + 1) step top
-  unfolding step_from
-  search_turn n j f g e p q = place_turn passes before n j f g e p q
-
-  pub found_below : (n i : ℕ) (f : Found) → f ≡ step_from m n step top → f ≡ At i → i < n
-  unfolding step_from
-  found_below n i f e a = (pick_is passes before n i (sym e ∙ a)).0
-
-  pub place_below : (n j : ℕ) (f : Found) → n ≤ 64 → f ≡ step_from m n step top → j ≡ at_found f (λ i. i) 0 → j < 64
-  unfolding step_from
-  place_below n j f h e p = place_under passes before n j f h e p
-
--- the steps one after the other, from what each search gives
-or_assoc : (f g h : Found) → or_else (or_else f g) h ≡ or_else f (or_else g h)
-or_assoc Nowhere g h = refl
-or_assoc (At i) g h = refl
-
-pub held_last : (m : List Summary) (n top : ℕ) (c d e f : Found) → top ≡ top_from m n → c ≡ step_from m n C top → d ≡ or_else c (step_from m n D top)
-    → e ≡ or_else d (step_from m n E top) → f ≡ or_else e (step_from m n F top) → f ≡ held_from m n
-unfolding held_from
-held_last m n top c d e f t u v w x = simp (x, w, v, u, t, or_assoc)
+  pub top_is : top_from m requester ≡ top_below (length m)
+  unfolding top_from
+  top_is = ap (λ (l : List Summary). fold higher 0 (filter (above requester) (filter_map (λ (y : Summary). y.holders) l))) (sym (take-length m)) ∙ top_front (length m) (omega arith)

@@ -1,44 +1,35 @@
 // The search for a page and the choice of a slot, steps a to g of document 01, on a state by value.
-#![tactic(auto)]
+#![tactic(auto, unfolding(model::specs::Parties::better))]
 
-ghost use Rattle.std.specs.Prelude.{◌≡◌, ◌<◌, ◌≤◌, max};
-ghost use Rattle.seq.specs.Below.{considered, at_found};
-ghost use Rattle.model.specs.Words.{page_in, dirty_in, lowest_in, has_page, page_slot};
-ghost use Rattle.rules.specs.Choice.{dirty_number, or_else, chosen};
-ghost use Rattle.choice.specs.Inner.Summary.{ranks_of, no_holders, joined_level, holders_with, survey_of, summary_with, summaries_in};
-ghost use Rattle.choice.specs.Inner.Search.{empty_in, dormant_before, dormant_test, dormant_in, in_step, higher, held_before, step_before, step_from, top_from, held_from, filled_in};
+ghost use Rattle.std.specs.Prelude.{◌≡◌, ◌<◌, ◌≤◌, Bool};
+ghost use Rattle.model.specs.Words.{dirty_in, lowest_in, page_slot};
+ghost use Rattle.rules.specs.Choice.{chosen};
+ghost use Rattle.choice.specs.Inner.Summary.{ranks_of, joined_level, holders_with, holders_below, above, beside, summary_of, SummariesOf};
+ghost use Rattle.choice.specs.Inner.Search.{Tests, Orders, pick_in, is_dormant, dormant_before, held_before, top_from, held_from};
 
 use model::{Content, Holding, Rank, Row, Slot, State};
 use seq::Found;
 
-// One slot more in a search: a slot that passes is taken where none was found before, or where it comes before that one.
-fn consider(passes: bool, f: Found, i: usize, before: bool) -> Found
-    ensures { result ≡ considered passes f i (λ slot other. before) }
+// Of the items that pass the test the one that comes before the others, of equals the first. It answers a Found, which document 01 names, not an Option.
+fn search<X, T: Fn(&X) -> bool, B: Fn(&X, &X) -> bool>(items: &[X], test: T, before: B) -> Found
+    requires tests { T.IsAlwaysCallable test }
+    requires orders { B.IsAlwaysCallable before }
+    ensures { (p : X → Bool) (q : X → X → Bool) (d : X) → Tests T.Fn test p → Orders B.Fn before q → result ≡ pick_in items.now p q d }
 {
-    if passes {
-        let Found::At(j) = f else {
-            return Found::At(i);
-        };
-        if before {
-            return Found::At(i);
+    let mut found = Found::Nowhere;
+    for (i, x) in items.iter().enumerate() {
+        if !test(x) {
+            continue;
         }
-        return Found::At(j);
+        let Found::At(j) = found else {
+            found = Found::At(i);
+            continue;
+        };
+        if before(x, &items[j]) {
+            found = Found::At(i);
+        }
     }
-    f
-}
-
-fn has_page(page: u32, c: Content) -> bool
-    ensures { result ≡ has_page page c }
-{
-    match c {
-        Content::Empty => false,
-        Content::Filled {
-            page: p,
-            arrival: _,
-            dirty: _,
-            lowest: _,
-        } => p == page,
-    }
+    found
 }
 
 // The slot that has a page, or nowhere.
@@ -46,485 +37,223 @@ pub fn find_page(slots: [Slot; 64], size: usize, page: u32) -> Found
     requires { size ≤ 64 }
     ensures { result ≡ page_slot slots size page }
 {
-    let mut f = Found::Nowhere;
-    for i in 0..size {
-        let x = slots[i];
-        let c = x.content;
-        f = consider(has_page(page, c), f, i, false);
-    }
-    f
-}
-
-// The holders of a slot: whether there is one; the best of them and its rank; the latest touch by holders of its level; whether a row of that level
-// pins the slot.
-#[derive(Clone, Copy)]
-pub struct Holders {
-    pub best: usize,
-    pub rank: Rank,
-    pub latest: u64,
-    pub held: bool,
-    pub pinned: bool,
-}
-
-// What the choice asks for a requester: its rank, the holders of each slot, and whether the requester pins it.
-#[derive(Clone, Copy)]
-pub struct Survey {
-    pub requester: Rank,
-    pub holders: [Holders; 64],
-    pub own: [bool; 64],
-}
-
-// What steps c to f ask of a slot. above: it is held only above the requester's level; beside: its seen holders are all of that level, none better
-// than the requester; own: the requester pins it.
-#[derive(Clone, Copy)]
-pub struct Summary {
-    pub holders: Holders,
-    pub page: u32,
-    pub above: bool,
-    pub beside: bool,
-    pub own: bool,
-}
-
-// What a search over the held slots is for: a step, or M, the level of steps c and d.
-#[derive(Clone, Copy)]
-pub enum Step {
-    M,
-    C,
-    D,
-    E,
-    F,
+    let has_page = |x: &Slot| matches!(x.content, Content::Filled { page: p, .. } if p == page);
+    search(&slots[..size], has_page, |_, _| false)
 }
 
 // The ranks of all rows.
 pub fn ranks(rows: [Row; 32], places: [usize; 32]) -> [Rank; 32]
     ensures { result ≡ ranks_of rows places }
 {
-    let mut out = [Rank {
-        level: 0,
-        deadline: 0,
-        place: 0,
-    }; 32];
-    for r in 0..32usize {
-        let x = rows[r];
-        out[r] = model::rank_of(r, x.deadline, places[r]);
-    }
-    out
+    std::array::from_fn(|r| model::rank_of(r, rows[r].deadline, places[r]))
 }
 
-fn larger(a: u64, b: u64) -> u64
-    ensures { result ≡ max a b }
-{
-    if a < b {
-        return b;
+// The holders of a slot: the best of them and its rank; the latest touch by holders of its level; whether a row of that level pins the slot.
+#[derive(Clone, Copy)]
+struct Holders {
+    best: usize,
+    rank: Rank,
+    latest: u64,
+    pinned: bool,
+}
+
+impl Holders {
+    // The slot is held only above the requester's level.
+    fn is_above(&self, requester: Rank) -> bool
+        ensures { result ≡ above requester self.now }
+    {
+        requester.level < self.rank.level
     }
-    a
+
+    // The slot's seen holders are all of the requester's level, none better than the requester.
+    fn is_beside(&self, requester: Rank) -> bool
+        ensures { result ≡ beside requester self.now }
+    {
+        self.rank.level == requester.level && self.rank >= requester
+    }
+}
+
+// What steps b to f ask of a slot: what it has, its holders if it has any, and whether the requester pins it.
+#[derive(Clone, Copy, Default)]
+struct Summary {
+    slot: Slot,
+    holders: Option<Holders>,
+    own: bool,
 }
 
 // A row of the best holder's level joins the holders.
-fn join_level(w: Holders, row: usize, rank: Rank, touch: u64, pin: bool) -> Holders
-    ensures { result ≡ joined_level w row rank touch pin }
+fn join_level(w: Holders, row: usize, rank: Rank, h: &Holding) -> Holders
+    ensures { result ≡ joined_level w row rank h.now }
 {
-    let v = w.rank;
-    let latest = larger(w.latest, touch);
-    let pinned = w.pinned | pin;
-    if model::is_better(rank, v) {
-        return Holders {
-            held: true,
+    let joined = Holders {
+        latest: w.latest.max(h.touch),
+        pinned: w.pinned | model::is_pin(h.pin),
+        ..w
+    };
+    if rank < w.rank {
+        Holders {
             best: row,
             rank,
-            latest,
-            pinned,
-        };
-    }
-    Holders {
-        held: true,
-        best: w.best,
-        rank: v,
-        latest,
-        pinned,
+            ..joined
+        }
+    } else {
+        joined
     }
 }
 
 // One row more among the holders of a slot. Rows come in rising order, so a holder that is not of the best one's level is of a higher one.
-fn holders_with(w: Holders, row: usize, rank: Rank, h: Holding) -> Holders
-    ensures { result ≡ holders_with w row rank h }
+fn holders_with(holders: Option<Holders>, row: usize, rank: Rank, h: &Holding) -> Option<Holders>
+    ensures { result ≡ holders_with holders row rank h.now }
 {
-    let p = h.pin;
-    let v = w.rank;
-    if model::is_held(p) {
-        let pin = model::is_pin(p);
-        if w.held {
-            if rank.level == v.level {
-                return join_level(w, row, rank, h.touch, pin);
-            }
-            return w;
-        }
-        return Holders {
-            held: true,
+    if !model::is_held(h.pin) {
+        return holders;
+    }
+    let Some(w) = holders else {
+        return Some(Holders {
             best: row,
             rank,
             latest: h.touch,
-            pinned: pin,
-        };
-    }
-    w
-}
-
-fn page_in(c: Content) -> u32
-    ensures { result ≡ page_in c }
-{
-    match c {
-        Content::Empty => 0,
-        Content::Filled {
-            page,
-            arrival: _,
-            dirty: _,
-            lowest: _,
-        } => page,
-    }
-}
-
-fn lowest_in(c: Content) -> usize
-    ensures { result ≡ lowest_in c }
-{
-    match c {
-        Content::Empty => 0,
-        Content::Filled {
-            page: _,
-            arrival: _,
-            dirty: _,
-            lowest,
-        } => lowest,
-    }
-}
-
-fn dirty_in(c: Content) -> bool
-    ensures { result ≡ dirty_in c }
-{
-    match c {
-        Content::Empty => false,
-        Content::Filled {
-            page: _,
-            arrival: _,
-            dirty,
-            lowest: _,
-        } => dirty,
-    }
-}
-
-fn summary_with(x: Slot, w: Holders, own: bool, requester: Rank) -> Summary
-    ensures { result ≡ summary_with x w own requester }
-{
-    let c = x.content;
-    let v = w.rank;
-    let better = model::is_better(v, requester);
-    Summary {
-        holders: w,
-        page: page_in(c),
-        above: w.held & (requester.level < v.level),
-        beside: w.held & (v.level == requester.level) & !better,
-        own,
-    }
-}
-
-fn no_holders() -> Holders
-    ensures { result ≡ no_holders }
-{
-    Holders {
-        held: false,
-        best: 0,
-        rank: Rank {
-            level: 0,
-            deadline: 0,
-            place: 0,
-        },
-        latest: 0,
-        pinned: false,
-    }
-}
-
-// The holders of the slots and the requester's pins, in one pass over the holdings. Its loops stand together since a function that takes the state
-// copies it.
-fn survey_holdings(s: State, me: usize) -> Survey
-    requires { (s.size ≤ 64) × (me < 32) }
-    ensures { result ≡ survey_of s me }
-{
-    let n = s.size;
-    let rows = s.rows;
-    let places = s.places;
-    let rank = ranks(rows, places);
-    let requester = rank[me];
-    let mut holders = [no_holders(); 64];
-    let mut own = [false; 64];
-    for i in 0..n {
-        let mut w = no_holders();
-        for r in 0..32usize {
-            let h = s.holdings[i * 32 + r];
-            let x = rank[r];
-            w = holders_with(w, r, x, h);
-        }
-        let h = s.holdings[i * 32 + me];
-        let p = h.pin;
-        holders[i] = w;
-        own[i] = model::is_pin(p);
-    }
-    Survey {
-        requester,
-        holders,
-        own,
-    }
-}
-
-// The summaries of the slots for a requester.
-fn summaries(
-    slots: [Slot; 64],
-    n: usize,
-    holders: [Holders; 64],
-    own: [bool; 64],
-    requester: Rank,
-) -> [Summary; 64]
-    requires { n ≤ 64 }
-    ensures { result ≡ summaries_in slots n holders own requester }
-{
-    let empty = Slot {
-        content: Content::Empty,
-        touch: 0,
+            pinned: model::is_pin(h.pin),
+        });
     };
-    let none = summary_with(empty, no_holders(), false, requester);
-    let mut out = [none; 64];
-    for i in 0..n {
-        let x = slots[i];
-        let w = holders[i];
-        out[i] = summary_with(x, w, own[i], requester);
+    if rank.level == w.rank.level {
+        return Some(join_level(w, row, rank, h));
     }
-    out
+    holders
 }
 
-// Clean before dirty.
-fn dirty_number(dirty: bool) -> u32
-    ensures { result ≡ dirty_number dirty }
+// The holders of a slot, by the ranks of all rows.
+fn holders_of(s: &State, ranks: &[Rank; 32], slot: usize) -> Option<Holders>
+    requires { (slot < 64) × (ranks.now ≡ ranks_of s.now.rows s.now.places) }
+    ensures { result ≡ holders_below s.now slot 32 }
 {
-    if dirty {
-        return 1;
+    let mut holders = None;
+    for (r, h) in s.holdings[slot * 32..slot * 32 + 32].iter().enumerate() {
+        holders = holders_with(holders, r, ranks[r], h);
     }
-    0
+    holders
 }
 
-// The place that was found, or 0.
-fn place_of(f: Found) -> usize
-    ensures { result ≡ at_found f (λ i. i) 0 }
+// The summary of a slot for a requester.
+fn summary_of(s: &State, ranks: &[Rank; 32], requester: usize, slot: usize) -> Summary
+    requires { (slot < 64) × (requester < 32) × (ranks.now ≡ ranks_of s.now.rows s.now.places) }
+    ensures { result ≡ summary_of s.now requester slot }
 {
-    match f {
-        Found::Nowhere => 0,
-        Found::At(i) => i,
+    let own = s.holdings[slot * 32 + requester];
+    Summary {
+        slot: s.slots[slot],
+        holders: holders_of(s, ranks, slot),
+        own: model::is_pin(own.pin),
     }
 }
 
-// Step a: the empty slot of the smallest number, or nowhere.
-fn find_empty(slots: [Slot; 64], n: usize) -> Found
-    requires { n ≤ 64 }
-    ensures { result ≡ empty_in slots n }
+// The summaries of the slots started with. By value: a reference to a state that is passed by value copies it, and so it is copied only where no slot is
+// empty.
+fn summaries(s: State, requester: usize) -> [Summary; 64]
+    requires { (s.size ≤ 64) × (requester < 32) }
+    ensures { SummariesOf s requester s.size result }
 {
-    let mut f = Found::Nowhere;
-    for i in 0..n {
-        let x = slots[i];
-        let c = x.content;
-        f = consider(!model::is_filled(c), f, i, false);
+    let ranks = ranks(s.rows, s.places);
+    let mut all = [Summary::default(); 64];
+    for (i, x) in all[..s.size].iter_mut().enumerate() {
+        *x = summary_of(&s, &ranks, requester, i);
     }
-    f
+    all
+}
+
+// What orders dormant slots: the lowest level, clean before dirty, the touch.
+fn dormant_key(x: Slot) -> (usize, bool, u64)
+    ensures { result ≡ (lowest_in x.content, dirty_in x.content, x.touch) }
+{
+    match x.content {
+        Content::Empty => (0, false, x.touch),
+        Content::Filled { dirty, lowest, .. } => (lowest, dirty, x.touch),
+    }
 }
 
 // Of two dormant slots the first comes before the second.
-fn is_dormant_before(x: Slot, y: Slot) -> bool
-    ensures { result ≡ dormant_before x y }
+fn is_dormant_before(x: &Summary, y: &Summary) -> bool
+    ensures { result ≡ dormant_before x.now.slot y.now.slot }
 {
-    let c = x.content;
-    let d = y.content;
-    let lowest = lowest_in(c);
-    let least = lowest_in(d);
-    if lowest != least {
-        return lowest < least;
-    }
-    let clean = dirty_number(dirty_in(c));
-    let other = dirty_number(dirty_in(d));
-    if clean != other {
-        return clean < other;
-    }
-    x.touch < y.touch
+    dormant_key(x.slot) < dormant_key(y.slot)
 }
 
-// One slot more in the search for a dormant one: the slot x, held or not, and the slot y found before.
-fn with_dormant(f: Found, i: usize, x: Slot, held: bool, y: Slot) -> Found
-    ensures { result ≡ considered (dormant_test x held) f i (λ slot other. dormant_before x y) }
+fn is_dormant(x: &Summary) -> bool
+    ensures { result ≡ is_dormant x.now }
 {
-    let c = x.content;
-    if model::is_filled(c) {
-        if held {
-            return f;
-        }
-        return consider(true, f, i, is_dormant_before(x, y));
-    }
-    f
-}
-
-// Step b: the dormant slot that comes first, or nowhere.
-fn find_dormant(slots: [Slot; 64], n: usize, holders: [Holders; 64]) -> Found
-    requires { n ≤ 64 }
-    ensures { result ≡ dormant_in slots n holders }
-{
-    let mut f = Found::Nowhere;
-    for i in 0..n {
-        let x = slots[i];
-        let w = holders[i];
-        let j = place_of(f);
-        let y = slots[j];
-        f = with_dormant(f, i, x, w.held, y);
-    }
-    f
-}
-
-// The slot is in the step.
-fn is_in(step: Step, top: usize, x: Summary) -> bool
-    ensures { result ≡ in_step step top x }
-{
-    let w = x.holders;
-    let v = w.rank;
-    let above = x.above & (v.level == top);
-    match step {
-        Step::M => x.above,
-        Step::C => above & !w.pinned,
-        Step::D => above & w.pinned,
-        Step::E => x.beside & !w.pinned,
-        Step::F => x.beside & w.pinned & !x.own,
-    }
-}
-
-// The best holder of the first slot is of a higher level.
-fn is_higher(x: Summary, y: Summary) -> bool
-    ensures { result ≡ higher x y }
-{
-    let v = x.holders;
-    let w = y.holders;
-    let p = v.rank;
-    let q = w.rank;
-    q.level < p.level
+    model::is_filled(x.slot.content) && x.holders.is_none()
 }
 
 // Of two held slots the first is taken before the second.
-fn is_held_before(x: Summary, y: Summary) -> bool
-    ensures { result ≡ held_before x y }
+fn is_held_before(x: &Summary, y: &Summary) -> bool
+    ensures { result ≡ held_before x.now y.now }
 {
-    let v = x.holders;
-    let w = y.holders;
-    if v.best != w.best {
-        let p = v.rank;
-        let q = w.rank;
-        return model::is_better(q, p);
-    }
-    if v.latest != w.latest {
-        return v.latest < w.latest;
-    }
-    x.page < y.page
-}
-
-// Of two slots in a step the first comes before the second, whatever their slot numbers.
-fn is_before(step: Step, x: Summary, y: Summary) -> bool
-    ensures { result ≡ step_before step x y }
-{
-    match step {
-        Step::M => is_higher(x, y),
-        Step::C => is_held_before(x, y),
-        Step::D => is_held_before(x, y),
-        Step::E => is_held_before(x, y),
-        Step::F => is_held_before(x, y),
-    }
-}
-
-// One slot more in a search: its summary x, and the summary y of the slot found before.
-fn with_slot(step: Step, top: usize, f: Found, i: usize, x: Summary, y: Summary) -> Found
-    ensures { result ≡ considered (in_step step top x) f i (λ slot other. step_before step x y) }
-{
-    if is_in(step, top, x) {
-        return consider(true, f, i, is_before(step, x, y));
-    }
-    f
-}
-
-// What was found before, or else the slot of a step.
-fn search(found: Found, m: [Summary; 64], n: usize, step: Step, top: usize) -> Found
-    requires { n ≤ 64 }
-    ensures { result ≡ or_else found (step_from m n step top) }
-{
-    if let Found::At(i) = found {
-        return Found::At(i);
-    }
-    let mut f = Found::Nowhere;
-    for i in 0..n {
-        let x = m[i];
-        let j = place_of(f);
-        let y = m[j];
-        f = with_slot(step, top, f, i, x, y);
-    }
-    f
-}
-
-// The highest level of a best holder among the slots held only above the requester's level.
-fn top_level(m: [Summary; 64], n: usize) -> usize
-    requires { n ≤ 64 }
-    ensures { result ≡ top_from m n }
-{
-    let Found::At(i) = search(Found::Nowhere, m, n, Step::M, 0) else {
-        return 0;
+    let (Some(v), Some(w)) = (x.holders, y.holders) else {
+        return false;
     };
-    let x = m[i];
-    let w = x.holders;
-    let v = w.rank;
-    v.level
+    if v.best != w.best {
+        return w.rank < v.rank;
+    }
+    (v.latest, model::page_in(x.slot.content)) < (w.latest, model::page_in(y.slot.content))
+}
+
+// M: the highest level of a best holder among the slots held only above the requester's level.
+#[tactic(auto, unfolding(crate::specs::Inner::Search::top_from))]
+fn top_level(m: &[Summary], requester: Rank) -> usize
+    ensures { result ≡ top_from m.now requester }
+{
+    m.iter()
+        .filter_map(|x| x.holders)
+        .filter(|w| w.is_above(requester))
+        .map(|w| w.rank.level)
+        .max()
+        .unwrap_or(0)
 }
 
 // Steps c to f: the held slot that a requester takes, or nowhere.
-fn choose_held(
-    slots: [Slot; 64],
-    n: usize,
-    holders: [Holders; 64],
-    own: [bool; 64],
-    requester: Rank,
-) -> Found
-    requires { n ≤ 64 }
-    ensures { result ≡ held_from (summaries_in slots n holders own requester) n }
+fn choose_held(m: &[Summary], requester: Rank) -> Found
+    ensures { result ≡ held_from m.now requester }
 {
-    let m = summaries(slots, n, holders, own, requester);
-    let top = top_level(m, n);
-    let c = search(Found::Nowhere, m, n, Step::C, top);
-    let d = search(c, m, n, Step::D, top);
-    let e = search(d, m, n, Step::E, top);
-    search(e, m, n, Step::F, top)
-}
-
-// Steps b to f: a dormant slot, or else a held one.
-fn choose_filled(slots: [Slot; 64], n: usize, x: Survey) -> Found
-    requires { n ≤ 64 }
-    ensures { result ≡ filled_in slots n x }
-{
-    let holders = x.holders;
-    let Found::At(i) = find_dormant(slots, n, holders) else {
-        let own = x.own;
-        let requester = x.requester;
-        return choose_held(slots, n, holders, own, requester);
-    };
-    Found::At(i)
+    let top = top_level(m, requester);
+    let is_top = |w: &Holders| w.is_above(requester) && w.rank.level == top;
+    let c = |x: &Summary| x.holders.is_some_and(|w| is_top(&w) && !w.pinned);
+    let d = |x: &Summary| x.holders.is_some_and(|w| is_top(&w) && w.pinned);
+    let e = |x: &Summary| x
+        .holders
+        .is_some_and(|w| w.is_beside(requester) && !w.pinned);
+    let f = |x: &Summary| x
+        .holders
+        .is_some_and(|w| w.is_beside(requester) && w.pinned && !x.own);
+    if let Found::At(i) = search(m, c, is_held_before) {
+        return Found::At(i);
+    }
+    if let Found::At(i) = search(m, d, is_held_before) {
+        return Found::At(i);
+    }
+    if let Found::At(i) = search(m, e, is_held_before) {
+        return Found::At(i);
+    }
+    search(m, f, is_held_before)
 }
 
 // The slot that a requester takes for a page that is in no slot, or nowhere. The holdings are asked only where no slot is empty.
+// Slots, rows and places are copied before one is read: to index them in the state copies all of it.
 pub fn choose(s: State, row: usize) -> Found
     requires { (s.size ≤ 64) × (row < 32) }
     ensures { result ≡ chosen s row }
 {
     let n = s.size;
     let slots = s.slots;
-    let Found::At(i) = find_empty(slots, n) else {
-        let x = survey_holdings(s, row);
-        return choose_filled(slots, n, x);
-    };
-    Found::At(i)
+    let empty = search(&slots[..n], |x| !model::is_filled(x.content), |_, _| false);
+    if let Found::At(i) = empty {
+        return Found::At(i);
+    }
+    let all = summaries(s, row);
+    let m = &all[..n];
+    if let Found::At(i) = search(m, is_dormant, is_dormant_before) {
+        return Found::At(i);
+    }
+    let rows = s.rows;
+    let places = s.places;
+    choose_held(m, model::rank_of(row, rows[row].deadline, places[row]))
 }

@@ -10,7 +10,7 @@ use lib.Dec.{eqb}
 use Rattle.seq.proofs.Tests.{true_false, and_left, and_right, parts, or_true_right, not_true_false}
 use Rattle.model.specs.declared.Answer.{Answer}
 use Rattle.model.specs.declared.Answer.TheVariants.{Ready, Fetch, Wait, RowIdle, RowFetching}
-use Rattle.model.specs.declared.Back.{Back}
+use Rattle.std.specs.Prelude.{Option}
 use Rattle.model.specs.declared.Condition.{Condition}
 use Rattle.model.specs.declared.Condition.TheVariants.{Free, Idle, Fetching, Waiting, Killed}
 use Rattle.model.specs.declared.Mode.{Mode}
@@ -55,7 +55,7 @@ may_use_arrived a c f e =
 
 -- ready comes only to a request; then, in the area that it leaves, the row holds the slot of the page asked for
 -- with the pin asked for or a stronger one, holding and page have arrived, and so has every other page that the row holds
-pub ready_arrived : (a : List ℕ) (c : Call) → Fits c → (slot : ℕ) (back : Back) → answer_on a c ≡ Ready slot back
+pub ready_arrived : (a : List ℕ) (c : Call) → Fits c → (slot : ℕ) (back : Option ℕ) → answer_on a c ≡ Ready slot back
     → (row : ℕ) × (page : ℕ) × (mode : Mode) × Asks c row page mode × PinnedAndArrived (decoded (area_after a c)) row page mode slot × AllArrived (decoded (area_after a c)) row
 unfolding word
 ready_arrived a c f slot back e =
@@ -116,7 +116,7 @@ pub course_waits : (a : List ℕ) → fit_area a ≡ true → (c : Call) (u : St
 course_waits a z = Waits.course_waits (decoded a) (fit_area_lem a z).sound_state
 
 -- On any area: a fetch is due after the clock, and the row is fetching until then.
-pub fetch_due : (a : List ℕ) (c : Call) → Fits c → (due slot : ℕ) (back : Back) → answer_on a c ≡ Fetch due slot back
+pub fetch_due : (a : List ℕ) (c : Call) → Fits c → (due slot : ℕ) (back : Option ℕ) → answer_on a c ≡ Fetch due slot back
     → (row : ℕ) × (page : ℕ) × (mode : Mode) × Asks c row page mode × ((decoded a).clock < due) × ((row_at (decoded (area_after a c)) row).condition ≡ Fetching due)
 unfolding word
 fetch_due a c f due slot back e =

@@ -11,7 +11,7 @@ use Rattle.seq.proofs.Tests.{true_false, and_true}
 use Rattle.seq.specs.Machine.{last_of, throughout}
 use Rattle.model.specs.declared.Answer.{Answer}
 use Rattle.model.specs.declared.Answer.TheVariants.{Started, Clock}
-use Rattle.model.specs.declared.Back.{Back}
+use Rattle.std.specs.Prelude.{Option}
 use Rattle.model.specs.declared.Mode.{Mode}
 use Rattle.model.specs.declared.Outcome.{Outcome}
 use Rattle.model.specs.declared.State.{State}
@@ -43,7 +43,7 @@ use Rattle.sabre.proofs.SoundAreas.{encode_sound, sound_fit, fit_area_lem, fit_o
 -- ---- a refused call leaves the state
 
 -- a served request is not refused
-granted_accepted : (u : State) (row slot : ℕ) (mode : Mode) (arrival : ℕ) (back : Back) → is_refused (granted u row slot mode arrival back).answer ≡ false
+granted_accepted : (u : State) (row slot : ℕ) (mode : Mode) (arrival : ℕ) (back : Option ℕ) → is_refused (granted u row slot mode arrival back).answer ≡ false
 unfolding word
 granted_accepted u row slot mode arrival back =
     granted_answer_lem u row slot mode arrival back (granted u row slot mode arrival back).answer refl

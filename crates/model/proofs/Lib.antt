@@ -12,6 +12,8 @@ pub mod Ranges
 pub mod SameRows
 pub mod Releasing
 pub mod ChangedLaws
+pub mod ElementLaws
 pub mod InPlace
 pub mod PlaceLaws
 pub mod BordersLaws
+pub mod SlotHoldings

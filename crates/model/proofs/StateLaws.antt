@@ -1,14 +1,15 @@
 -- What stands at a row, a slot and a holding of a state with one of them replaced, and of the fresh state.
 use mathlib.Core.Path.{◌≡◌, sym, ◌∙◌, ap}
-use mathlib.Core.Bool.{Bool, cond, ◌&&◌}
+use mathlib.Core.Bool.{Bool, false, cond, ◌&&◌}
 use Prim.Native.Nat.{ℕ, ◌+◌, ◌*◌, ◌/◌, ◌%◌, ◌<◌}
 use native.Mathlib.Omega.{arith}
 use native.Mathlib.Decide.{ℕ_discrete}
 use borrow.Author.Tests.{eq-eqb, ne_eqb}
 use lib.Dec.{eqb}
-use lib.ListN.{length-set, length-replicate}
+use lib.ListN.{replicate, length-set, length-replicate}
 use Rattle.seq.proofs.EachLaws.{set_at, replicate_at}
 use Rattle.model.specs.Ranges.{Sized}
+use Rattle.model.specs.Parties.{usual_borders}
 use Rattle.model.specs.State.{free_row, empty_slot, empty_holding, empty_holdings, fresh, row_at, slot_at, holding_at, with_begun, put_row, put_slot, put_holding}
 use Rattle.model.specs.declared.Row.{Row}
 use Rattle.model.specs.declared.Slot.{Slot}
@@ -56,6 +57,21 @@ module _ (s : State) (z : Sized s) where
 
   pub sized_begun : Sized (with_begun s)
   sized_begun = record { rows = z.rows; slots = z.slots; holdings = z.holdings; places = z.places }
+
+-- the fresh state, made of a row, a slot and a holding
+pub fresh_is : (slots delay : ℕ) (r : Row) (t : Slot) (h : Holding) → r ≡ free_row → t ≡ empty_slot → h ≡ empty_holding → record {
+  size = slots;
+  delay = delay;
+  clock = 0;
+  rows = replicate 32 r;
+  slots = replicate 64 t;
+  holdings = replicate 2048 h;
+  borders = usual_borders;
+  begun = false;
+  places = replicate 32 0;
+} ≡ fresh slots delay
+unfolding fresh empty_holdings
+fresh_is slots delay r t h a b e = rw (a, b, e)
 
 -- the fresh state, at each place
 module _ (slots delay : ℕ) where

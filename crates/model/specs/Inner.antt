@@ -1,1 +1,2 @@
 pub mod Changed
+pub mod Holdings

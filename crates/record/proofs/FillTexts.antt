@@ -9,8 +9,7 @@ use lib.Seq.{drop-append-add}
 use Rattle.words.specs.Bytes.{joined}
 use Rattle.words.proofs.JoinLaws.{joined_same, joined_add}
 use Rattle.model.specs.declared.Answer.TheVariants.{Clock}
-use Rattle.model.specs.declared.Back.{Back}
-use Rattle.model.specs.declared.Back.TheVariants.{Nothing, Page}
+use Rattle.std.specs.Prelude.{Option, None, Some}
 use Rattle.model.specs.declared.Call.TheVariants.{Tick}
 use Rattle.model.specs.Parties.{level_of, number_of}
 use Rattle.rules.specs.Answers.{word, value, slot_told, back_told, page_back}
@@ -19,7 +18,7 @@ use Rattle.rules.specs.Tries.{Fill, entry_bytes, entries, list_bytes}
 use Rattle.rules.proofs.Leaves.ListLaws.{fills_most, entries_length}
 use Rattle.area.specs.Layout.{decoded}
 use Rattle.sabre.specs.Lent.{answer_on, list_after, answer_numbers}
-use Rattle.record.specs.declared.Input.TheVariants.{Good}
+use Rattle.std.specs.Prelude.{Some}
 use Rattle.record.specs.declared.Progress.{Progress}
 use Rattle.record.specs.Record.{big_endian, field, list_length, record_of}
 use Rattle.record.specs.Text.{line_of, fill_numbers, fill_line, fill_lines}
@@ -65,24 +64,24 @@ two_bytes_lem : (x : ℕ) → x ≡ (0 * 256 + x / 256) * 256 + x % 256
 two_bytes_lem x = omega arith
 
 -- the numbers of the first entry
-entry_numbers : (row slot page : ℕ) (back : Back) (rest : List ℕ)
+entry_numbers : (row slot page : ℕ) (back : Option ℕ) (rest : List ℕ)
     → 20 ∷ row ∷ (slot + 1) ∷ page_back back ∷ [] ≡ fill_numbers (entry_bytes (record { row = row; slot = slot; page = page; back = back }) ++ rest) 0
 unfolding field big_endian entry_bytes
 entry_numbers row slot page back rest = go back
   where
-    bytes : Back → List ℕ
+    bytes : Option ℕ → List ℕ
     bytes back = entry_bytes (record { row = row; slot = slot; page = page; back = back }) ++ rest
 
     r : row ≡ level_of row * 8 + number_of row
     r = omega arith
 
-    go : (back : Back) → 20 ∷ row ∷ (slot + 1) ∷ page_back back ∷ [] ≡ fill_numbers (bytes back) 0
-    go Nothing =
+    go : (back : Option ℕ) → 20 ∷ row ∷ (slot + 1) ∷ page_back back ∷ [] ≡ fill_numbers (bytes back) 0
+    go None =
         ap (λ (n : ℕ). 20 ∷ n ∷ (slot + 1) ∷ 0 ∷ []) r
-        ∙ fill_alone (bytes Nothing) 0 (level_of row) (number_of row) slot 1 (one_byte (level_of row)) (one_byte (number_of row)) (one_byte slot) (one_byte 1) (λ q. omega arith)
-    go (Page written) =
+        ∙ fill_alone (bytes None) 0 (level_of row) (number_of row) slot 1 (one_byte (level_of row)) (one_byte (number_of row)) (one_byte slot) (one_byte 1) (λ q. omega arith)
+    go (Some written) =
         ap (λ (n : ℕ). 20 ∷ n ∷ (slot + 1) ∷ (written + 1) ∷ []) r
-        ∙ fill_back (bytes (Page written)) 0 (level_of row) (number_of row) slot 2 (one_byte (level_of row)) (one_byte (number_of row)) (one_byte slot) (one_byte 2) written (two_bytes_lem written) refl
+        ∙ fill_back (bytes (Some written)) 0 (level_of row) (number_of row) slot 2 (one_byte (level_of row)) (one_byte (number_of row)) (one_byte slot) (one_byte 2) written (two_bytes_lem written) refl
 
 -- ---- the lines
 
@@ -92,9 +91,9 @@ module _ (number : ℕ) where
   unfolding fill_line fill_text field big_endian entry_bytes
   first_line f rest = go f.back
     where
-      go : (back : Back) → let g : Fill = record { row = f.row; slot = f.slot; page = f.page; back = back } in fill_line number (entry_bytes g ++ rest) 0 ≡ fill_text number g
-      go Nothing = ap (line_of number) (sym (entry_numbers f.row f.slot f.page Nothing rest))
-      go (Page written) = ap (line_of number) (sym (entry_numbers f.row f.slot f.page (Page written) rest))
+      go : (back : Option ℕ) → let g : Fill = record { row = f.row; slot = f.slot; page = f.page; back = back } in fill_line number (entry_bytes g ++ rest) 0 ≡ fill_text number g
+      go None = ap (line_of number) (sym (entry_numbers f.row f.slot f.page None rest))
+      go (Some written) = ap (line_of number) (sym (entry_numbers f.row f.slot f.page (Some written) rest))
 
   -- and those of the others
   next_line : (xs list : List ℕ) → length xs ≡ 8 → (i : ℕ) → fill_line number (xs ++ list) (1 + i) ≡ fill_line number list i
@@ -140,7 +139,7 @@ module _ (number : ℕ) where
       rw append_assoc (entry_lines 32 fs (256 - length (entries fs)) rest h (omega (arith, entries_length fs)))
 
 -- the record of a tick that is accepted
-pub tick_printed : (t : Progress) (a bytes : List ℕ) (clock : ℕ) → t.over ≡ false → t.started ≡ true → record_of bytes ≡ Good (Tick list_length) → answer_on a (Tick list_length) ≡ Clock clock
+pub tick_printed : (t : Progress) (a bytes : List ℕ) (clock : ℕ) → t.over ≡ false → t.started ≡ true → record_of bytes ≡ Some (Tick list_length) → answer_on a (Tick list_length) ≡ Clock clock
     → (played_one t a bytes).text ≡ line_of t.number (8 ∷ clock ∷ 0 ∷ 0 ∷ []) ++ fill_texts t.number (fills_of (decoded a) (Tick list_length))
 unfolding played_one played_record admitted answer_to list_with list_after answer_numbers word value slot_told back_told
 tick_printed t a bytes clock o s r e =

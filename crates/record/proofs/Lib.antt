@@ -1,5 +1,6 @@
 pub mod RecordLaws
 pub mod TextLaws
+pub mod SheetLaws
 pub mod FillTexts
 pub mod DecimalLaws
 pub mod PlayLaws

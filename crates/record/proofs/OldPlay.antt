@@ -41,8 +41,7 @@ use Rattle.layout32.specs.Sound32.{last_clock32, sound_area32}
 use Rattle.layout32.proofs.OldAreas.{old_area, old_made}
 use Rattle.sabre.specs.Lent.{sound_area, fit_area, unfit, answer_on, is_refused, area_after, list_after}
 use Rattle.sabre.proofs.SoundAreas.{sound_area_lem, encode_sound, sound_fit}
-use Rattle.record.specs.declared.Input.{Input}
-use Rattle.record.specs.declared.Input.TheVariants.{Bad, Good}
+use Rattle.std.specs.Prelude.{Option, None, Some}
 use Rattle.record.specs.declared.Progress.{Progress}
 use Rattle.record.specs.Record.{big_endian, field, long_mark, short_mark, short_width, record_width, record_of}
 use Rattle.record.specs.ShortRecord.{short_kinds, short_is_whole, short_record_of, short_first, short_records_of, NoneLong}
@@ -176,52 +175,52 @@ record OneSame (last : ℕ) (p q : Played) : Type 0 where
   areas : p.progress.over ≡ false → Paired last p.progress.started p.area q.area
 
 -- a deadline of 32 bits
-abbrev Small : Input → Type 0
-Small Bad = Unit {0}
-Small (Good c) = (fields c).deadline < 2 ^ 32
+abbrev Small : Option Call → Type 0
+Small None = Unit {0}
+Small (Some c) = (fields c).deadline < 2 ^ 32
 
 module _ (k m : ℕ) (v : Rises k m) (over : Bool) (number : ℕ) where
   abbrev at : Bool → Progress
   at started = record { started = started; over = over; number = number }
 
-  bad_same : (started : Bool) (a b : List ℕ) → OneSame m (played_record (at started) a Bad) (old_played_record (at started) b Bad)
+  bad_same : (started : Bool) (a b : List ℕ) → OneSame m (played_record (at started) a None) (old_played_record (at started) b None)
   unfolding played_record old_played_record answer_to old_answer_to area_with old_area_with list_with old_list_with next_progress
   bad_same started a b = record { text = refl; progress = refl; areas = λ e. true_false e }
 
-  call_same : (a b : List ℕ) → OneState k a b → (c : Call) → Small (Good c) → MadeBefore last_clock32 (decoded a) c
-      → OneSame m (played_record (at true) a (Good c)) (old_played_record (at true) b (Good c))
+  call_same : (a b : List ℕ) → OneState k a b → (c : Call) → Small (Some c) → MadeBefore last_clock32 (decoded a) c
+      → OneSame m (played_record (at true) a (Some c)) (old_played_record (at true) b (Some c))
   unfolding played_record old_played_record answer_to old_answer_to area_with old_area_with list_with old_list_with next_progress
   call_same a b x c small early =
       let e : answer_on a c ≡ old_answer_on b c = answered k a b x c early ∙ sym (old_answered k a b x c early) in
       record { text = rw (e, same_list k a b x c early zero_list); progress = refl; areas = λ _. next_same k a b x c early m v small }
 
-  start_played : (a : List ℕ) (slots delay : ℕ) → OneSame m (played_record (at false) a (Good (Start slots delay))) (old_played_record (at false) a (Good (Start slots delay)))
+  start_played : (a : List ℕ) (slots delay : ℕ) → OneSame m (played_record (at false) a (Some (Start slots delay))) (old_played_record (at false) a (Some (Start slots delay)))
   unfolding played_record old_played_record answer_to old_answer_to area_with old_area_with list_with old_list_with next_progress
   start_played a slots delay =
       let x = start_same m v.most a slots delay in
       record { text = rw x.0; progress = rw x.0; areas = λ _. x.1 }
 
-  admitted_same : (started : Bool) (a b r : List ℕ) (i : Input) → Paired k started a b → Small i → IsOld a r (admitted started i)
+  admitted_same : (started : Bool) (a b r : List ℕ) (i : Option Call) → Paired k started a b → Small i → IsOld a r (admitted started i)
       → OneSame m (played_record (at started) a (admitted started i)) (old_played_record (at started) b (admitted started i))
   unfolding admitted
-  admitted_same true a b r Bad x small h = bad_same true a b
-  admitted_same true a b r (Good c) x small h = call_same a b x c small h.1
-  admitted_same false a b r Bad x small h = bad_same false a b
-  admitted_same false a b r (Good c) x small h = go (is_start c) refl
+  admitted_same true a b r None x small h = bad_same true a b
+  admitted_same true a b r (Some c) x small h = call_same a b x c small h.1
+  admitted_same false a b r None x small h = bad_same false a b
+  admitted_same false a b r (Some c) x small h = go (is_start c) refl
     where
-      go : (start : Bool) → is_start c ≡ start → OneSame m (played_record (at false) a (cond start (Good c) Bad)) (old_played_record (at false) b (cond start (Good c) Bad))
+      go : (start : Bool) → is_start c ≡ start → OneSame m (played_record (at false) a (cond start (Some c) None)) (old_played_record (at false) b (cond start (Some c) None))
       go true e =
-          subst (λ (d : List ℕ). OneSame m (played_record (at false) a (Good c)) (old_played_record (at false) d (Good c))) x
-          (subst (λ (d : Call). OneSame m (played_record (at false) a (Good d)) (old_played_record (at false) a (Good d))) (sym (start_is c e)) (start_played a (fields c).slots (fields c).delay))
+          subst (λ (d : List ℕ). OneSame m (played_record (at false) a (Some c)) (old_played_record (at false) d (Some c))) x
+          (subst (λ (d : Call). OneSame m (played_record (at false) a (Some d)) (old_played_record (at false) a (Some d))) (sym (start_is c e)) (start_played a (fields c).slots (fields c).delay))
       go false e = bad_same false a b
 
 -- ---- the bytes of a record
 
-abbrev AllSmall : List Input → Type 0
+abbrev AllSmall : List (Option Call) → Type 0
 AllSmall [] = Unit {0}
 AllSmall (i ∷ is) = Small i × AllSmall is
 
-each_small : (is : List Input) → AllSmall is → (k : ℕ) → Small (get_or is k Bad)
+each_small : (is : List (Option Call)) → AllSmall is → (k : ℕ) → Small (get_or is k None)
 each_small [] h k = tt
 each_small (i ∷ is) h zero = h.0
 each_small (i ∷ is) h (suc k) = each_small is h.1 k
@@ -234,7 +233,7 @@ short_small r u = go (short_is_whole r)
     z : 0 < 2 ^ 32
     z = lit< tt
 
-    go : (b : Bool) → Small (cond b (get_or (short_kinds (field r 3 1) (field r 4 1) (field r 5 1) (field r 6 2) (field r 8 4)) (field r 2 1) Bad) Bad)
+    go : (b : Bool) → Small (cond b (get_or (short_kinds (field r 3 1) (field r 4 1) (field r 5 1) (field r 6 2) (field r 8 4)) (field r 2 1) None) None)
     go true = each_small (short_kinds (field r 3 1) (field r 4 1) (field r 5 1) (field r 6 2) (field r 8 4))
         (z, (omega (arith, four_under r 8 u), (z, (z, (z, (tt, (z, (z, (z, (z, (z, tt))))))))))) (field r 2 1)
     go false = tt
@@ -255,18 +254,18 @@ one_same k m v t a b x r u e h = rw (short_record r u e) (go t.over x (rw (short
     go false y o = admitted_same k m v t.over t.number t.started a b r (short_record_of r) (y refl) (short_small r u) (o refl)
 
 -- one with it is bad in both readings, or no old one
-bad_admitted : (started : Bool) → admitted started Bad ≡ Bad
+bad_admitted : (started : Bool) → admitted started None ≡ None
 unfolding admitted
 bad_admitted true = refl
 bad_admitted false = refl
 
-long_bad : (r : List ℕ) → field r 0 2 ≡ long_mark → Bad ≡ short_record_of r
+long_bad : (r : List ℕ) → field r 0 2 ≡ long_mark → None ≡ short_record_of r
 unfolding short_record_of short_is_whole
 long_bad r e = rw (and_false_right (eqb (length r) short_width) (eqb (field r 0 2) short_mark) (rw e))
 
-long_old : (a r : List ℕ) → field r 0 2 ≡ long_mark → (i : Input) → IsOld a r i → i ≡ Bad
-long_old a r e Bad k = refl
-long_old a r e (Good c) k = absurd (k.0 e)
+long_old : (a r : List ℕ) → field r 0 2 ≡ long_mark → (i : Option Call) → IsOld a r i → i ≡ None
+long_old a r e None k = refl
+long_old a r e (Some c) k = absurd (k.0 e)
 
 long_same : (t : Progress) (a b r q : List ℕ) → field r 0 2 ≡ long_mark → field q 0 2 ≡ long_mark → (t.over ≡ false → IsOld a r (admitted t.started (record_of r)))
     → ((played_one t a r).text ≡ (old_played_one t b q).text) × ((played_one t a r).progress.over ≡ true) × ((old_played_one t b q).progress.over ≡ true)
@@ -317,7 +316,7 @@ plays (suc n) (d ∷ ds) u t a b x k = elim (ℕ_discrete (field (d ∷ ds) 0 2)
       λ i. y.0 i ++ (ap (λ (z : Played). z.text) f ∙ sym (ap (λ (z : Played). z.text) g)) i
   | no e ↦
       let l = d ∷ ds in
-      let w : short_width ≡ record_width l = short_width_lem l (field l 0 2) refl e in
+      let w : short_width ≡ record_width l = short_width_lem l e in
       let r = take short_width l in
       let h = rw (← w) at k in
       let y = one_same last_clock32 last_clock32 until t a b x r (under_take 256 short_width l u) (λ z. e (sym (front short_width l (omega arith)) ∙ z)) h.0 in
@@ -338,14 +337,14 @@ old_records_play a input u h = ap (λ (l : List ℕ). header ++ l) (plays (lengt
 start_no_tick : (c : Call) → is_start c ≡ true → is_tick c ≡ true → ⊥
 start_no_tick c e f = omega (arith, eqb-true (fields c).kind 0 e, eqb-true (fields c).kind 6 f)
 
-one_old : (k : ℕ) → k < last_clock32 → (started : Bool) (a b r : List ℕ) → Paired k started a b → (field r 0 2 ≡ long_mark → ⊥) → (i : Input) → IsOld a r (admitted started i)
+one_old : (k : ℕ) → k < last_clock32 → (started : Bool) (a b r : List ℕ) → Paired k started a b → (field r 0 2 ≡ long_mark → ⊥) → (i : Option Call) → IsOld a r (admitted started i)
 unfolding admitted
-one_old k h true a b r x e Bad = tt
-one_old k h true a b r x e (Good c) = (e, λ _. omega (arith, x.early))
-one_old k h false a b r x e Bad = tt
-one_old k h false a b r x e (Good c) = go (is_start c) refl
+one_old k h true a b r x e None = tt
+one_old k h true a b r x e (Some c) = (e, λ _. omega (arith, x.early))
+one_old k h false a b r x e None = tt
+one_old k h false a b r x e (Some c) = go (is_start c) refl
   where
-    go : (start : Bool) → is_start c ≡ start → IsOld a r (cond start (Good c) Bad)
+    go : (start : Bool) → is_start c ≡ start → IsOld a r (cond start (Some c) None)
     go true s = (e, λ f. absurd (start_no_tick c s f))
     go false s = tt
 
@@ -357,7 +356,7 @@ few (suc n) [] u h k l t a b x = tt
 few (suc n) (d ∷ ds) u h k l t a b x =
     let bytes = d ∷ ds in
     let r = take short_width bytes in
-    let w : short_width ≡ record_width bytes = short_width_lem bytes (field bytes 0 2) refl (λ e. h.0 (front short_width bytes (omega arith) ∙ e)) in
+    let w : short_width ≡ record_width bytes = short_width_lem bytes (λ e. h.0 (front short_width bytes (omega arith) ∙ e)) in
     let rises : Rises k (k + 1) = record { least = omega arith; most = omega (arith, l); before = λ n e _. omega arith } in
     let old : t.over ≡ false → IsOld a r (admitted t.started (record_of r)) = λ e. one_old k (omega (arith, l)) t.started a b r (x e) h.0 (record_of r) in
     let y = one_same k (k + 1) rises t a b x r (under_take 256 short_width bytes u) h.0 old in

@@ -39,7 +39,7 @@ same_kinds level number mode page value h =
 pub short_record : (r : List ℕ) → AllUnder 256 r → (field r 0 2 ≡ long_mark → ⊥) → record_of r ≡ short_record_of r
 unfolding record_of is_whole has_mark of_kind short_record_of short_is_whole
 short_record r u h =
-    rw (← short_width_lem r (field r 0 2) refl h, ne_eqb (field r 0 2) long_mark h, or_none, same_kinds (field r 3 1) (field r 4 1) (field r 5 1) (field r 6 2) (field r 8 4) (four_under r 8 u))
+    rw (← short_width_lem r h, ne_eqb (field r 0 2) long_mark h, or_none, same_kinds (field r 3 1) (field r 4 1) (field r 5 1) (field r 6 2) (field r 8 4) (four_under r 8 u))
 
 short_first_lem : (n : ℕ) (bytes : List ℕ) → NoneLong (short_first n bytes) → first_records n bytes ≡ short_first n bytes
 unfolding first_records short_first
@@ -47,7 +47,7 @@ short_first_lem zero bytes h = refl
 short_first_lem (suc n) [] h = refl
 short_first_lem (suc n) (b ∷ bs) h =
     let l = b ∷ bs in
-    let w : short_width ≡ record_width l = short_width_lem (take short_width l) (field (take short_width l) 0 2) refl h.0 ∙ same_width (take short_width l) l (take-take 2 short_width l (omega arith)) in
+    let w : short_width ≡ record_width l = short_width_lem (take short_width l) h.0 ∙ same_width (take short_width l) l (take-take 2 short_width l (omega arith)) in
     rw (← w) (ap (λ (rs : List (List ℕ)). take short_width l ∷ rs) (short_first_lem n (drop short_width l) h.1))
 
 -- an input none of whose parts of 12 bytes begins with the mark C3 5B has these parts for its records

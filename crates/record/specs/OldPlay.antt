@@ -1,5 +1,5 @@
 -- The player before document 02, T-07: areas of the last 32-bit layout, an earlier last tick of the clock, and records of 12 bytes; and the inputs that it played as they are played now. What T-07 left as it was, the other calls and the text of a line, is taken from where it stands.
-use Rattle.std.specs.Prelude.{◌≡◌, Bool, false, cond, not, List, [], ◌∷◌, ◌++◌, ℕ, ltb, length, drop}
+use Rattle.std.specs.Prelude.{◌≡◌, Bool, false, cond, not, List, [], ◌∷◌, ◌++◌, ℕ, ltb, length, drop, Option, None, Some}
 use Rattle.model.specs.declared.Answer.{Answer}
 use Rattle.model.specs.declared.Answer.TheVariants.{Refused}
 use Rattle.model.specs.declared.Call.{Call}
@@ -15,8 +15,6 @@ use Rattle.layout32.specs.Layout as Old
 use Rattle.layout32.specs.Sound32.{last_clock32, sound_area32}
 use Rattle.sabre.specs.Lent.{is_refused, answer_numbers}
 use Rattle.record.specs.declared.Progress.{Progress}
-use Rattle.record.specs.declared.Input.{Input}
-use Rattle.record.specs.declared.Input.TheVariants.{Bad, Good}
 use Rattle.record.specs.Record.{field, long_mark, record_of}
 use Rattle.record.specs.ShortRecord.{short_record_of, short_records_of}
 use Rattle.record.specs.Text.{line_of, fill_lines, header}
@@ -45,19 +43,19 @@ old_list_after a c list = cond (is_clock (old_answer_on a c)) (list_bytes (all_t
 
 -- ---- a record, and records one after another
 
-unfoldable pub old_answer_to : List ℕ → Input → Answer
-old_answer_to a Bad = Refused 18
-old_answer_to a (Good c) = old_answer_on a c
+unfoldable pub old_answer_to : List ℕ → Option Call → Answer
+old_answer_to a None = Refused 18
+old_answer_to a (Some c) = old_answer_on a c
 
-unfoldable pub old_area_with : List ℕ → Input → List ℕ
-old_area_with a Bad = a
-old_area_with a (Good c) = old_area_after a c
+unfoldable pub old_area_with : List ℕ → Option Call → List ℕ
+old_area_with a None = a
+old_area_with a (Some c) = old_area_after a c
 
-unfoldable pub old_list_with : List ℕ → List ℕ → Input → List ℕ
-old_list_with a list Bad = list
-old_list_with a list (Good c) = cond (is_tick c) (old_list_after a c list) list
+unfoldable pub old_list_with : List ℕ → List ℕ → Option Call → List ℕ
+old_list_with a list None = list
+old_list_with a list (Some c) = cond (is_tick c) (old_list_after a c list) list
 
-unfoldable pub old_played_record : Progress → List ℕ → Input → Played
+unfoldable pub old_played_record : Progress → List ℕ → Option Call → Played
 old_played_record t a r = record {
   progress = next_progress t r (word (old_answer_to a r));
   area = old_area_with a r;
@@ -78,9 +76,9 @@ old_printed a input = header ++ (old_played first_progress a (short_records_of i
 -- ---- the inputs that play now as they did
 
 -- a record that is good does not begin with the mark C3 5B, and if it is a tick, the clock before it is below 4,000,000,000; one that is bad may be any
-abbrev pub IsOld : (area bytes : List ℕ) → Input → Type 0
-IsOld a bytes Bad = Unit {0}
-IsOld a bytes (Good c) = (field bytes 0 2 ≡ long_mark → ⊥) × MadeBefore last_clock32 (decoded a) c
+abbrev pub IsOld : (area bytes : List ℕ) → Option Call → Type 0
+IsOld a bytes None = Unit {0}
+IsOld a bytes (Some c) = (field bytes 0 2 ≡ long_mark → ⊥) × MadeBefore last_clock32 (decoded a) c
 
 -- each record is so, as the records are played now, until the run is over
 abbrev pub AllOld : Progress → List ℕ → List (List ℕ) → Type 0

@@ -1,43 +1,43 @@
 -- Document 01, "The player", and document 02, T-04 and T-07: records played one after another on an area, and the text that comes out.
-use Rattle.std.specs.Prelude.{◌≡◌, Bool, true, false, cond, not, ◌||◌, List, [], ◌∷◌, ◌++◌, ℕ, zero, suc, ◌+◌, eqb, length, take, drop, replicate}
+use Rattle.std.specs.Prelude.{◌≡◌, Bool, true, false, cond, not, ◌||◌, List, [], ◌∷◌, ◌++◌, ℕ, zero, suc, ◌+◌, eqb, length, take, drop, replicate, Option, None, Some}
 use Rattle.model.specs.declared.Answer.{Answer}
 use Rattle.model.specs.declared.Answer.TheVariants.{Refused}
+use Rattle.model.specs.declared.Call.{Call}
 use Rattle.rules.specs.Answers.{word}
 use Rattle.rules.specs.Content.{is_start, is_tick}
 use Rattle.sabre.specs.Lent.{answer_on, area_after, list_after, answer_numbers}
 use Rattle.record.specs.declared.Progress.{Progress}
-use Rattle.record.specs.declared.Input.{Input}
-use Rattle.record.specs.declared.Input.TheVariants.{Bad, Good}
 use Rattle.record.specs.Record.{record_width, list_length, record_of}
 use Rattle.record.specs.Text.{line_of, fill_lines, header}
 
-abbrev pub is_bad : Input → Bool
-is_bad Bad = true
-is_bad (Good c) = false
+-- a record is the call that it names, None where it is bad
+abbrev pub is_bad : Option Call → Bool
+is_bad None = true
+is_bad (Some c) = false
 
 -- before an accepted start every record of another kind is bad
-unfoldable pub admitted : Bool → Input → Input
+unfoldable pub admitted : Bool → Option Call → Option Call
 admitted true r = r
-admitted false Bad = Bad
-admitted false (Good c) = cond (is_start c) (Good c) Bad
+admitted false None = None
+admitted false (Some c) = cond (is_start c) (Some c) None
 
 -- refusal 18 comes before any call; else the call is made
-unfoldable pub answer_to : List ℕ → Input → Answer
-answer_to a Bad = Refused 18
-answer_to a (Good c) = answer_on a c
+unfoldable pub answer_to : List ℕ → Option Call → Answer
+answer_to a None = Refused 18
+answer_to a (Some c) = answer_on a c
 
-unfoldable pub area_with : List ℕ → Input → List ℕ
-area_with a Bad = a
-area_with a (Good c) = area_after a c
+unfoldable pub area_with : List ℕ → Option Call → List ℕ
+area_with a None = a
+area_with a (Some c) = area_after a c
 
 -- the list as the player lends it
 unfoldable pub zero_list : List ℕ
 zero_list = replicate list_length 0
 
 -- the list after a record: only a tick is lent it
-unfoldable pub list_with : List ℕ → List ℕ → Input → List ℕ
-list_with a list Bad = list
-list_with a list (Good c) = cond (is_tick c) (list_after a c list) list
+unfoldable pub list_with : List ℕ → List ℕ → Option Call → List ℕ
+list_with a list None = list
+list_with a list (Some c) = cond (is_tick c) (list_after a c list) list
 
 -- where a run stands, what it has made of the area, and what it has printed
 pub record Played : Type 0 where
@@ -46,11 +46,11 @@ pub record Played : Type 0 where
   pub text : List ℕ
 
 -- the progress after a record answered with a word: whether a start was accepted, whether the run is over, the next record's number
-unfoldable pub next_progress : Progress → Input → ℕ → Progress
+unfoldable pub next_progress : Progress → Option Call → ℕ → Progress
 next_progress t r word = record { started = t.started || not (eqb word 0); over = is_bad r; number = t.number + 1 }
 
 -- a record that was admitted: its line and those of what it filled, and the run ends after a bad one
-unfoldable pub played_record : Progress → List ℕ → Input → Played
+unfoldable pub played_record : Progress → List ℕ → Option Call → Played
 played_record t a r = record {
   progress = next_progress t r (word (answer_to a r));
   area = area_with a r;

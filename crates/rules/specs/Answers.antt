@@ -1,9 +1,7 @@
 -- Document 01, "The player", and document 02, T-02: the word and the value of an answer, and what is told to the server alone, as numbers.
-use Rattle.std.specs.Prelude.{Bool, ◌||◌, ℕ, ◌+◌, eqb}
+use Rattle.std.specs.Prelude.{Bool, ◌||◌, ℕ, ◌+◌, eqb, Option, None, Some}
 use Rattle.model.specs.declared.Cause.{Cause}
 use Rattle.model.specs.declared.Cause.TheVariants.{Late, Taken}
-use Rattle.model.specs.declared.Back.{Back}
-use Rattle.model.specs.declared.Back.TheVariants.{Nothing, Page}
 use Rattle.model.specs.declared.Answer.{Answer}
 use Rattle.model.specs.declared.Answer.TheVariants.{
   Refused,
@@ -139,9 +137,9 @@ slot_told (Open count) = 0
 slot_told Bordered = 0
 
 -- the page to write back plus one, and 0 if none
-abbrev pub page_back : Back → ℕ
-page_back Nothing = 0
-page_back (Page page) = page + 1
+abbrev pub page_back : Option ℕ → ℕ
+page_back None = 0
+page_back (Some page) = page + 1
 
 unfoldable pub back_told : Answer → ℕ
 back_told (Refused number) = 0

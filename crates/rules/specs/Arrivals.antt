@@ -1,7 +1,6 @@
 -- Document 01, "The calls", request, steps 3 and 4: when a page arrives that the requester does not see, and which pages of a row have arrived, where it is told ready or found idle.
-use Rattle.std.specs.Prelude.{◌≡◌, true, ℕ, ◌+◌, ◌<◌, ◌≤◌}
+use Rattle.std.specs.Prelude.{◌≡◌, true, ℕ, ◌+◌, ◌<◌, ◌≤◌, Option}
 use Rattle.model.specs.declared.Answer.TheVariants.{Fetch, Wait}
-use Rattle.model.specs.declared.Back.{Back}
 use Rattle.model.specs.declared.Condition.TheVariants.{Fetching}
 use Rattle.model.specs.declared.Mode.{Mode}
 use Rattle.model.specs.declared.Outcome.{Outcome}
@@ -12,7 +11,7 @@ use Rattle.model.specs.Words.{has_page, arrival_in, pin_of, strength, holds}
 -- the row waits, or its page is charged as one that is read from disk, whether a slot has it or not: it is due at clock + delay, and the row is fetching until then
 pub data Charged (s : State) (row : ℕ) (o : Outcome) : Type 0 where
   waits : o.answer ≡ Wait → Charged s row o
-  fetches : (slot : ℕ) (back : Back) → o.answer ≡ Fetch (s.clock + s.delay) slot back → (row_at o.state row).condition ≡ Fetching (s.clock + s.delay)
+  fetches : (slot : ℕ) (back : Option ℕ) → o.answer ≡ Fetch (s.clock + s.delay) slot back → (row_at o.state row).condition ≡ Fetching (s.clock + s.delay)
       → (holding_at o.state slot row).arrival ≡ s.clock + s.delay → Charged s row o
 
 -- every page that the row holds has arrived: the holding and the slot

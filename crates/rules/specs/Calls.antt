@@ -1,5 +1,5 @@
 -- Document 01, "The calls": the answer and the next state of each call but tick, and the three steps of a tick, its late rows as T-01 of document 02 has them; T-02's call for borders, and the begin orders of T-06.
-use Rattle.std.specs.Prelude.{Bool, true, false, cond, ◌&&◌, not, ℕ, zero, suc, ◌+◌, min, leb, eqb, set}
+use Rattle.std.specs.Prelude.{Bool, true, false, cond, ◌&&◌, not, ℕ, zero, suc, ◌+◌, min, leb, eqb, set, Option, None, Some}
 use Rattle.seq.specs.Below.{any_below, count_below, at_found}
 use Rattle.seq.specs.Each.{each}
 use Rattle.seq.specs.declared.Found.{Found}
@@ -17,8 +17,6 @@ use Rattle.model.specs.declared.Holding.{Holding}
 use Rattle.model.specs.declared.Borders.{Borders}
 use Rattle.model.specs.declared.State.{State}
 use Rattle.model.specs.declared.Outcome.{Outcome}
-use Rattle.model.specs.declared.Back.{Back}
-use Rattle.model.specs.declared.Back.TheVariants.{Nothing, Page}
 use Rattle.model.specs.declared.Answer.{Answer}
 use Rattle.model.specs.declared.Answer.TheVariants.{
   Refused,
@@ -153,7 +151,7 @@ abbrev pub touched : State → ℕ → ℕ → State
 touched s row slot = put_slot s slot (record { content = with_lowest (level_of row) (slot_at s slot).content; touch = s.clock })
 
 -- step 4: ready, the row idle, if arrival ≤ clock, else fetching until then
-unfoldable pub granted : State → ℕ → ℕ → Mode → ℕ → Back → Outcome
+unfoldable pub granted : State → ℕ → ℕ → Mode → ℕ → Option ℕ → Outcome
 granted s row slot mode arrival back =
     let own = holding_at s slot row in
     record {
@@ -178,23 +176,23 @@ must_wait s row slot mode =
 unfoldable pub step1 : State → ℕ → ℕ → ℕ → Mode → Outcome
 step1 s row slot page mode =
     cond (must_wait s row slot mode) (waiting s row page mode)
-    (granted (killed (conflicts s row slot mode) Taken s) row slot mode (least_arrival s (level_of row) slot) Nothing)
+    (granted (killed (conflicts s row slot mode) Taken s) row slot mode (least_arrival s (level_of row) slot) None)
 
 -- step 2, level 3, dormant page: arrival is the slot's
 unfoldable pub step2 : State → ℕ → ℕ → Mode → Outcome
-step2 s row slot mode = granted s row slot mode (arrival_in (slot_at s slot).content) Nothing
+step2 s row slot mode = granted s row slot mode (arrival_in (slot_at s slot).content) None
 
 -- step 3, not seen: arrival = clock + delay; if a slot has the page, use that slot, its own arrival unchanged, and kill conflicting pins
 unfoldable pub step3 : State → ℕ → ℕ → Mode → Outcome
-step3 s row slot mode = granted (killed (conflicts s row slot mode) Taken s) row slot mode (s.clock + s.delay) Nothing
+step3 s row slot mode = granted (killed (conflicts s row slot mode) Taken s) row slot mode (s.clock + s.delay) None
 
 -- rows that pin the chosen slot are killed
 unfoldable pub pinners_killed : State → ℕ → State
 pinners_killed s slot = killed (pins s slot) Taken s
 
 -- a dirty page is reported for write-back
-unfoldable pub write_back : Slot → Back
-write_back x = cond (dirty_in x.content) (Page (page_in x.content)) Nothing
+unfoldable pub write_back : Slot → Option ℕ
+write_back x = cond (dirty_in x.content) (Some (page_in x.content)) None
 
 -- the other holders lose the slot; the new page is clean, and its slot's arrival is the new holding's
 unfoldable pub filled : State → ℕ → ℕ → ℕ → State

@@ -1,6 +1,5 @@
 -- Document 02, T-04, "8 bytes for each row so made ready or fetching, in turn (level, row, slot, back flag 1 for none or 2, then big-endian page and page written back or 0), the rest zero": what the bytes of a list say, read back.
-use Rattle.std.specs.Prelude.{cond, List, [], ◌∷◌, ℕ, zero, suc, ◌+◌, ◌*◌, eqb, get_or, drop}
-use Rattle.model.specs.declared.Back.TheVariants.{Nothing, Page}
+use Rattle.std.specs.Prelude.{cond, List, [], ◌∷◌, ℕ, zero, suc, ◌+◌, ◌*◌, eqb, get_or, drop, None, Some}
 use Rattle.model.specs.Parties.{row_of}
 use Rattle.rules.specs.Tries.{Fill}
 
@@ -14,7 +13,7 @@ entry_in bytes = record {
   row = row_of (get_or bytes 0 0) (get_or bytes 1 0);
   slot = get_or bytes 2 0;
   page = two_bytes bytes 4;
-  back = cond (eqb (get_or bytes 3 0) 2) (Page (two_bytes bytes 6)) Nothing;
+  back = cond (eqb (get_or bytes 3 0) 2) (Some (two_bytes bytes 6)) None;
 }
 
 -- the entries at n places of 8 bytes, in turn, up to the first place whose flag is 0

@@ -42,13 +42,13 @@ EachFill P [] = Unit {0}
 EachFill P (f ∷ fs) = P f × EachFill P fs
 
 -- a property of some entry
-abbrev pub Some : (Fill → Type 0) → List Fill → Type 0
-Some P [] = ⊥
-Some P (f ∷ fs) = P f ⊎ Some P fs
+abbrev pub SomeFill : (Fill → Type 0) → List Fill → Type 0
+SomeFill P [] = ⊥
+SomeFill P (f ∷ fs) = P f ⊎ SomeFill P fs
 
 -- an entry is of the row
 abbrev pub HasRow : ℕ → List Fill → Type 0
-HasRow row fs = Some (λ f. f.row ≡ row) fs
+HasRow row fs = SomeFill (λ f. f.row ≡ row) fs
 
 -- no row has two entries
 abbrev pub OnceEach : List Fill → Type 0

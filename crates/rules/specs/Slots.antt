@@ -1,7 +1,6 @@
 -- Document 01, "The calls" and "Choosing a slot", and document 02, T-04: a page that a row holds, a slot that is dirty, a page that is reported for write-back and why, a slot that was given a new page, and a row that was left alone.
-use Rattle.std.specs.Prelude.{◌≡◌, Bool, true, false, ◌&&◌, ◌⊎◌, ℕ, ◌+◌, ◌<◌, ◌≤◌}
+use Rattle.std.specs.Prelude.{◌≡◌, Bool, true, false, ◌&&◌, ◌⊎◌, ℕ, ◌+◌, ◌<◌, ◌≤◌, Some}
 use Rattle.seq.specs.declared.Found.TheVariants.{At, Nowhere}
-use Rattle.model.specs.declared.Back.TheVariants.{Page}
 use Rattle.model.specs.declared.Cause.TheVariants.{Taken}
 use Rattle.model.specs.declared.Condition.TheVariants.{Killed}
 use Rattle.model.specs.declared.Mode.{Mode}
@@ -12,7 +11,7 @@ use Rattle.model.specs.Words.{dirty_in, has_page, holds, pins, slot_of}
 use Rattle.rules.specs.Choice.{chosen}
 use Rattle.model.specs.declared.Call.{Call}
 use Rattle.rules.specs.Answers.{slot_told, back_told}
-use Rattle.rules.specs.Listed.{Some}
+use Rattle.rules.specs.Listed.{SomeFill}
 use Rattle.rules.specs.Requests.{Serves}
 use Rattle.rules.specs.Run.{outcome, fills_of}
 
@@ -29,7 +28,7 @@ pub record Dirty (s : State) (slot page : ℕ) : Type 0 where
 abbrev pub Reported : State → Call → ℕ → ℕ → Type 0
 Reported s c slot page =
     ((slot_told (outcome s c).answer ≡ slot + 1) × (back_told (outcome s c).answer ≡ page + 1))
-    ⊎ Some (λ f. (f.slot ≡ slot) × (f.back ≡ Page page)) (fills_of s c)
+    ⊎ SomeFill (λ f. (f.slot ≡ slot) × (f.back ≡ Some page)) (fills_of s c)
 
 -- a row with a write pin on the slot, whose page had arrived on u, is taken on t
 pub record WriterTaken (u t : State) (slot : ℕ) : Type 0 where

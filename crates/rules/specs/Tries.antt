@@ -1,12 +1,10 @@
 -- Document 02, T-04: after the three steps of a tick each waiting row is tried a single time, best priority first, skipping rows killed on the way; and the list of what was filled.
-use Rattle.std.specs.Prelude.{List, [], ◌∷◌, ◌++◌, ℕ, ◌+◌, ◌-◌, ◌/◌, ◌%◌, length, replicate}
+use Rattle.std.specs.Prelude.{List, [], ◌∷◌, ◌++◌, ℕ, ◌+◌, ◌-◌, ◌/◌, ◌%◌, length, replicate, Option, None, Some, unwrap_or}
 use Rattle.seq.specs.Below.{sorted_below}
 use Rattle.model.specs.declared.Condition.{Condition}
 use Rattle.model.specs.declared.Condition.TheVariants.{Free, Idle, Fetching, Waiting, Killed}
 use Rattle.model.specs.declared.State.{State}
 use Rattle.model.specs.declared.Outcome.{Outcome}
-use Rattle.model.specs.declared.Back.{Back}
-use Rattle.model.specs.declared.Back.TheVariants.{Nothing, Page}
 use Rattle.model.specs.declared.Answer.{Answer}
 use Rattle.model.specs.declared.Answer.TheVariants.{
   Refused,
@@ -42,7 +40,7 @@ pub record Fill : Type 0 where
   pub row : ℕ
   pub slot : ℕ
   pub page : ℕ
-  pub back : Back
+  pub back : Option ℕ
 
 -- what tries leave, and what they filled, in turn
 pub record Tried : Type 0 where
@@ -108,13 +106,12 @@ ticked s room =
     (record { state = (all_tried (three_steps s)).state; answer = Clock (s.clock + 1) })
 
 -- the back flag, 1 for none or 2, and the page written back, or 0
-abbrev pub back_flag : Back → ℕ
-back_flag Nothing = 1
-back_flag (Page page) = 2
+abbrev pub back_flag : Option ℕ → ℕ
+back_flag None = 1
+back_flag (Some page) = 2
 
-abbrev pub back_or_zero : Back → ℕ
-back_or_zero Nothing = 0
-back_or_zero (Page page) = page
+abbrev pub back_or_zero : Option ℕ → ℕ
+back_or_zero back = unwrap_or back 0
 
 -- the 8 bytes of a row that was filled: level, row, slot, back flag, and big-endian page and page written back or 0
 unfoldable pub entry_bytes : Fill → List ℕ

@@ -9,7 +9,7 @@ use Rattle.model.specs.Parties.{level_of}
 use Rattle.model.specs.State.{row_at, slot_at, holding_at}
 use Rattle.model.specs.Words.{is_live, has_page, holds, pins, outranks, slot_of}
 use Rattle.rules.specs.Calls.{viewed_in}
-use Rattle.rules.specs.Listed.{is_idle_or_fetching, PinnedFor, Some}
+use Rattle.rules.specs.Listed.{is_idle_or_fetching, PinnedFor, SomeFill}
 use Rattle.rules.specs.Taken.{InConflict}
 use Rattle.rules.specs.Tries.{Fill}
 
@@ -44,9 +44,9 @@ WaitReason s row page mode = BetterPins s row page mode ⊎ NoSlot s row page
 -- or the list has an entry by which it is granted the page in the mode; or it is late; or it is taken, and the list has an entry of a better row
 pub data AfterWaiting (s t : State) (fills : List Fill) (row page : ℕ) (mode : Mode) : Type 0 where
   waits_on : (row_at t row).condition ≡ Waiting page mode → WaitReason t row page mode → AfterWaiting s t fills row page mode
-  is_granted : Some (λ f. (f.row ≡ row) × (f.page ≡ page) × PinnedFor t mode f) fills → AfterWaiting s t fills row page mode
+  is_granted : SomeFill (λ f. (f.row ≡ row) × (f.page ≡ page) × PinnedFor t mode f) fills → AfterWaiting s t fills row page mode
   gone_late : (row_at s row).deadline < t.clock → (row_at t row).condition ≡ Killed Late → AfterWaiting s t fills row page mode
-  is_taken : (row_at t row).condition ≡ Killed Taken → Some (λ f. outranks s f.row row ≡ true) fills → AfterWaiting s t fills row page mode
+  is_taken : (row_at t row).condition ≡ Killed Taken → SomeFill (λ f. outranks s f.row row ≡ true) fills → AfterWaiting s t fills row page mode
 
 -- the best live row of all
 pub record BestLive (s : State) (row : ℕ) : Type 0 where

@@ -15,7 +15,7 @@ use Rattle.model.specs.declared.State.{State}
 use Rattle.model.specs.declared.Outcome.{Outcome}
 use Rattle.model.specs.declared.Reply.{Reply}
 use Rattle.model.specs.declared.Cause.TheVariants.{Late, Taken}
-use Rattle.model.specs.declared.Back.{Back}
+use Rattle.std.specs.Prelude.{Option}
 use Rattle.model.specs.declared.Answer.{Answer}
 use Rattle.model.specs.declared.Answer.TheVariants.{
   Refused,
@@ -57,6 +57,8 @@ use Rattle.rules.proofs.Facts.SoundFacts.{facts}
 use Rattle.rules.proofs.Promises.Granting.{grant_fetch, grant_ready}
 use Rattle.rules.proofs.Promises.CallCases.{is_served}
 use Rattle.rules.proofs.Promises.WaitFetch.{granted_alone}
+use Rattle.calls.specs.declared.Refusal.{Refusal}
+use Rattle.calls.specs.Inner.Refused.{refusal_number}
 use Rattle.area.specs.Layout.{encoded, decoded, version_in, exact_as}
 use Rattle.sabre.specs.Lent.{unfit, is_refused, answer_on, area_after, list_after, status, answer_numbers, fit_area}
 use Rattle.sabre.proofs.SoundAreas.{fit_area_lem}
@@ -122,12 +124,12 @@ fits_slot s z c = go (outcome s c).answer refl
     told : (slot : ℕ) → slot < 64 → slot + 1 ≤ 64
     told slot h = omega arith
 
-    fetched : (due slot : ℕ) (back : Back) → (outcome s c).answer ≡ Fetch due slot back → slot < 64
+    fetched : (due slot : ℕ) (back : Option ℕ) → (outcome s c).answer ≡ Fetch due slot back → slot < 64
     fetched due slot back w =
         let x = granted_alone s z c (ap is_served w) (λ e. let n : ◌≡◌ {A = ℕ} 0 1 = cc in omega arith) in
         (grant_fetch s x.0 x.1 x.2 x.4 (outcome s c) x.5 due slot back w).2
 
-    readied : (slot : ℕ) (back : Back) → (outcome s c).answer ≡ Ready slot back → slot < 64
+    readied : (slot : ℕ) (back : Option ℕ) → (outcome s c).answer ≡ Ready slot back → slot < 64
     readied slot back w =
         let x = granted_alone s z c (ap is_served w) (λ e. let n : ◌≡◌ {A = ℕ} 0 1 = cc in omega arith) in
         (grant_ready s x.0 x.1 x.2 x.4 (outcome s c) x.5 slot back w).0
@@ -155,11 +157,11 @@ fits_slot s z c = go (outcome s c).answer refl
     go (Open count) e = omega arith
     go Bordered e = omega arith
 
-pub ready_slot : (x : Answer) (slot : ℕ) (back : Back) → x ≡ Ready slot back → slot_told x ≤ 64 → slot + 1 ≤ 64
+pub ready_slot : (x : Answer) (slot : ℕ) (back : Option ℕ) → x ≡ Ready slot back → slot_told x ≤ 64 → slot + 1 ≤ 64
 unfolding slot_told
 ready_slot x slot back e h = rw e at h
 
-pub fetch_slot : (x : Answer) (due slot : ℕ) (back : Back) → x ≡ Fetch due slot back → slot_told x ≤ 64 → slot + 1 ≤ 64
+pub fetch_slot : (x : Answer) (due slot : ℕ) (back : Option ℕ) → x ≡ Fetch due slot back → slot_told x ≤ 64 → slot + 1 ≤ 64
 unfolding slot_told
 fetch_slot x due slot back e h = rw e at h
 
@@ -253,6 +255,29 @@ module _ (a : List ℕ) (c : Call) (s : State) (e : s ≡ decoded a) where
 pub unfit_list : (a : List ℕ) (c : Call) (l : List ℕ) → unfit a c ≡ true → l ≡ list_after a c l
 unfolding list_after answer_on word
 unfit_list a c l u = rw u
+
+-- no refusal has the number 0
+pub refusal_positive : (e : Refusal) → refusal_number e ≡ 0 → ⊥
+refusal_positive Refusal.Area k = omega (arith, k)
+refusal_positive Refusal.Slots k = omega (arith, k)
+refusal_positive Refusal.Delay k = omega (arith, k)
+refusal_positive Refusal.Level k = omega (arith, k)
+refusal_positive Refusal.Row k = omega (arith, k)
+refusal_positive Refusal.Page k = omega (arith, k)
+refusal_positive Refusal.Mode k = omega (arith, k)
+refusal_positive Refusal.NotFree k = omega (arith, k)
+refusal_positive Refusal.Free k = omega (arith, k)
+refusal_positive Refusal.Killed k = omega (arith, k)
+refusal_positive Refusal.Busy k = omega (arith, k)
+refusal_positive Refusal.Past k = omega (arith, k)
+refusal_positive Refusal.ReadAbove k = omega (arith, k)
+refusal_positive Refusal.WriteBelow k = omega (arith, k)
+refusal_positive Refusal.NotPinned k = omega (arith, k)
+refusal_positive Refusal.LastClock k = omega (arith, k)
+refusal_positive Refusal.Record k = omega (arith, k)
+refusal_positive Refusal.Borders k = omega (arith, k)
+refusal_positive Refusal.HasBegun k = omega (arith, k)
+refusal_positive Refusal.List k = omega (arith, k)
 
 -- a start that is refused by its numbers, and one that is accepted
 module _ (a : List ℕ) (slots delay r : ℕ) (ns b : List ℕ) (l : 65536 ≤ length a) where

@@ -1,5 +1,5 @@
 // The exported calls, over the calls on a state by value. This crate and `area` alone write the lent area. `make` reads it as a state, has it tested by
-// `sound`, which reads the holdings from the area, makes the call on the state, and has what it changes written over the area. Look, view and count, which
+// `sound`, makes the call on the state, and has what it changes written over the area. Look, view and count, which
 // change nothing, go by `ask`. A tick, which is lent a list too, goes by `tick`, and a start, which takes any bytes, by `start`: these write the whole of the
 // next state.
 #![tactic(auto)]
@@ -12,10 +12,12 @@ ghost use Rattle.model.specs.declared.Answer.TheVariants.{Refused};
 ghost use Rattle.model.specs.declared.Call.TheVariants.{Start, Begin, Request, Unpin, End, Tick, Look, View, Count, Borders};
 ghost use Rattle.model.specs.Inner.Changed.{changed};
 ghost use Rattle.area.specs.Layout.{encoded, decoded, version_in, exact_as};
+ghost use Rattle.calls.specs.Inner.Refused.{refusal_number};
 ghost use Rattle.layout32.specs.Known.{known};
 ghost use Rattle.sabre.specs.Lent.{is_refused, answer_on, area_after, list_after, status, answer_numbers};
 
-use model::{Answer, Back, Call, Cause, Outcome, Reply, State};
+use calls::Refusal;
+use model::{Answer, Call, Cause, Outcome, Reply, State};
 
 fn cause_word(cause: Cause) -> u64
     ensures { result ≡ cause_word cause }
@@ -26,13 +28,10 @@ fn cause_word(cause: Cause) -> u64
     }
 }
 
-fn back_number(back: Back) -> u64
+fn back_number(back: Option<u32>) -> u64
     ensures { result ≡ page_back back }
 {
-    match back {
-        Back::Nothing => 0,
-        Back::Page(page) => page as u64 + 1,
-    }
+    back.map_or(0, |page| u64::from(page) + 1)
 }
 
 // The word, the value, and for the server alone slot + 1 and page to write back + 1, 0 if none.
@@ -41,7 +40,7 @@ fn answer_numbers(x: Answer) -> [u64; 4]
     ensures { result ≡ answer_numbers x }
 {
     match x {
-        Answer::Refused(number) => [0, number as u64, 0, 0],
+        Answer::Refused(number) => [0, u64::from(number), 0, 0],
         Answer::Started => [1, 0, 0, 0],
         Answer::Begun => [2, 0, 0, 0],
         Answer::Ready { slot, back } => {
@@ -74,7 +73,8 @@ fn answer_numbers(x: Answer) -> [u64; 4]
     }
 }
 
-// The answer told: refused where its word is 0, and its value is then the refusal's number.
+// The answer told, as C reads it: refused where its word is 0, and its value is then the refusal's number. That a slot told is at most 64 is asked, here and
+// below, since an Answer is made of any numbers and has no invariant.
 fn tell(answer: &mut [u64; 4], x: Answer) -> u32
     requires { slot_told x ≤ 64 }
     ensures { (result ≡ status x) × (answer.new ≡ answer_numbers x) }
@@ -87,28 +87,26 @@ fn tell(answer: &mut [u64; 4], x: Answer) -> u32
     0
 }
 
-// Refusal 1.
-fn refuse(answer: &mut [u64; 4]) -> u32
-    ensures { (result ≡ status (Refused 1)) × (answer.new ≡ answer_numbers (Refused 1)) }
+fn refuse(answer: &mut [u64; 4], refusal: Refusal) -> u32
+    ensures { (result ≡ status (Refused (refusal_number refusal))) × (answer.new ≡ answer_numbers (Refused (refusal_number refusal))) }
 {
-    tell(answer, Answer::Refused(1))
+    tell(answer, Answer::Refused(u32::from(refusal)))
 }
 
-// Whether an area of at least 65,536 bytes is sound, or was in the last 32-bit layout: its bytes are exactly those of the state that it names, its version
-// is known, and that state is sound.
-fn is_area_sound(area: &[u8], exact: bool, s: State) -> bool
-    requires { (65536 ≤ length area.now) × (s ≡ decoded area.now) }
-    ensures { result ≡ exact && known (version_in area.now) s.clock s.rows && sound s }
+// Whether an area is sound, or was in the last 32-bit layout: its bytes are exactly those of the state that it names, its version is known, and that
+// state is sound.
+fn is_area_sound(area: &[u8], exact: bool, s: &State) -> bool
+    requires { 65536 ≤ length area.now }
+    ensures { result ≡ exact && known (version_in area.now) s.now.clock s.now.rows && sound s.now }
 {
-    let version = area::version_of(area);
-    let rows = s.rows;
-    if seq::both(exact, layout32::is_known(version, s.clock, rows)) {
-        return sound::is_sound(area, s);
+    if exact & layout32::is_known(area::version_of(area), s.clock, s.rows) {
+        return sound::is_sound(s);
     }
     false
 }
 
-// The answer told and, where the call is accepted, what it changes written over the area.
+// The answer told and, where the call is accepted, what it changes written over the area. It and settle are not one function of a closure that writes:
+// a writer asks for the area as it is lent, and its clause would be longer than both.
 fn finish(area: &mut [u8], answer: &mut [u64; 4], r: Reply) -> u32
     requires { (exact_as (version_in area.old) area.old ≡ true) × (slot_told r.answer ≤ 64) }
     ensures { (result ≡ status r.answer) × (answer.new ≡ answer_numbers r.answer) × (area.new ≡ cond (is_refused r.answer) area.old (encoded (changed (decoded area.old) r.change) ++ drop 65536 area.old)) }
@@ -130,11 +128,10 @@ fn start(area: &mut [u8], slots: u32, delay: u64, answer: &mut [u64; 4]) -> u32
     ensures left { area.new ≡ area_after area.old (Start slots delay) }
 {
     if area.len() < 65536 {
-        return refuse(answer);
+        return refuse(answer, Refusal::Area);
     }
-    let number = calls::start_refusal(slots, delay);
-    if number != 0 {
-        return tell(answer, Answer::Refused(number));
+    if let Err(e) = calls::check_start(slots, delay) {
+        return refuse(answer, e);
     }
     let s = model::fresh_state(slots as usize, delay);
     area::encode(area, s);
@@ -157,7 +154,8 @@ fn settle(area: &mut [u8], answer: &mut [u64; 4], o: Outcome) -> u32
     n
 }
 
-// A tick made on an area, with the first bytes of a list.
+// A tick made on an area, with the first bytes of a list. The area is opened here, in make and in ask alike: a function that answers the state in an
+// Option took up to 1.4 times as long (area::decode).
 pub fn tick(area: &mut [u8], list: &mut [u8], room: usize, answer: &mut [u64; 4]) -> u32
     requires { room ≤ length list.old }
     ensures returned { result ≡ status (answer_on area.old (Tick room)) }
@@ -166,15 +164,15 @@ pub fn tick(area: &mut [u8], list: &mut [u8], room: usize, answer: &mut [u64; 4]
     ensures listed { list.new ≡ list_after area.old (Tick room) list.old }
 {
     if area.len() < 65536 {
-        return refuse(answer);
+        return refuse(answer, Refusal::Area);
     }
     let mut exact = false;
     let s = area::decode(area, &mut exact);
-    if is_area_sound(area, exact, s) {
+    if is_area_sound(area, exact, &s) {
         let o = calls::tick(s, room, list);
         return settle(area, answer, o);
     }
-    refuse(answer)
+    refuse(answer, Refusal::Area)
 }
 
 // A call made on an area, which is not a tick.
@@ -191,15 +189,15 @@ pub fn make(area: &mut [u8], c: Call, answer: &mut [u64; 4]) -> u32
         return ask(area, c, answer);
     }
     if area.len() < 65536 {
-        return refuse(answer);
+        return refuse(answer, Refusal::Area);
     }
     let mut exact = false;
     let s = area::decode(area, &mut exact);
-    if is_area_sound(area, exact, s) {
+    if is_area_sound(area, exact, &s) {
         let r = calls::make(s, c);
         return finish(area, answer, r);
     }
-    refuse(answer)
+    refuse(answer, Refusal::Area)
 }
 
 // A look, view or count, which leave the area.
@@ -209,15 +207,15 @@ fn ask(area: &[u8], c: Call, answer: &mut [u64; 4]) -> u32
     ensures told { answer.new ≡ answer_numbers (answer_on area.now c) }
 {
     if area.len() < 65536 {
-        return refuse(answer);
+        return refuse(answer, Refusal::Area);
     }
     let mut exact = false;
     let s = area::decode(area, &mut exact);
-    if is_area_sound(area, exact, s) {
+    if is_area_sound(area, exact, &s) {
         let x = calls::ask(s, c);
         return tell(answer, x);
     }
-    refuse(answer)
+    refuse(answer, Refusal::Area)
 }
 
 pub fn sabre_start(area: &mut [u8], slots: u32, delay: u64, answer: &mut [u64; 4]) -> u32

@@ -21,9 +21,6 @@ module _ (p : ℕ → Bool) where
   pub any_test_turn : (n : ℕ) (a t b : Bool) → a ≡ any_below n p → t ≡ p n → b ≡ a || t → b ≡ any_below (n + 1) p
   any_test_turn n a t b e f q = rw (any_more n, ← e, ← f) q
 
-  pub any_turn : (n : ℕ) (a b : Bool) → a ≡ any_below n p → b ≡ a || p n → b ≡ any_below (n + 1) p
-  any_turn n a b e q = any_test_turn n a (p n) b e refl q
-
   pub any_none : (n i : ℕ) → any_below n p ≡ false → i < n → p i ≡ false
   unfolding any_below
   any_none zero i e h = absurd (omega arith)
@@ -98,9 +95,6 @@ module _ (p : ℕ → Bool) where
   pub count_more : (n : ℕ) → count_below (n + 1) p ≡ count_below n p + cond (p n) 1 0
   unfolding count_below
   count_more n = rw add-one
-
-  pub count_turn : (n a : ℕ) (t : Bool) (b : ℕ) → a ≡ count_below n p → t ≡ p n → b ≡ a + cond t 1 0 → b ≡ count_below (n + 1) p
-  count_turn n a t b e f q = rw (count_more n, ← e, ← f) q
 
   pub count_at_most : (n : ℕ) → count_below n p ≤ n
   unfolding count_below

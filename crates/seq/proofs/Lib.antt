@@ -3,6 +3,7 @@ pub mod BelowLaws
 pub mod CountLaws
 pub mod OrderLaws
 pub mod PickLaws
+pub mod IterLaws
 pub mod SortLaws
 pub mod SortOrder
 pub mod SortPick

@@ -3,21 +3,20 @@ use mathlib.Core.Path.{◌≡◌, refl, sym, ◌∙◌, ap}
 use mathlib.Core.Bool.{Bool, true, false, cond, ◌&&◌, ◌||◌}
 use mathlib.Core.List.{List}
 use Prim.Native.Nat.{ℕ, ◌+◌, ◌<◌}
-use native.Mathlib.Omega.{arith}
-use lib.ListN.{length, get_or, set}
+use lib.ListN.{length, get_or}
 use lib.Seq.{ext_get_or}
 use Rattle.seq.specs.Below.{any_below}
-use Rattle.seq.specs.Each.{each, each_below}
+use Rattle.seq.specs.Each.{each}
 use Rattle.seq.proofs.BelowLaws.{any_more}
-use Rattle.seq.proofs.EachLaws.{each_length, each_at, each_still, each_below_none, each_below_later, each_below_more, each_below_all}
+use Rattle.seq.proofs.EachLaws.{each_length, each_at, each_still}
 use Rattle.model.specs.declared.Content.{Content}
 use Rattle.model.specs.declared.Content.TheVariants.{Empty, Filled}
 use Rattle.model.specs.declared.Slot.{Slot}
 use Rattle.model.specs.declared.State.{State}
 use Rattle.model.specs.State.{empty_slot, holding_at}
 use Rattle.model.specs.Changes.{written, dirtied, released}
-use Rattle.model.specs.Inner.Changed.{marked, lost_by}
-use Rattle.model.specs.Ranges.{Sized}
+use Rattle.model.specs.Inner.Changed.{marked}
+use Rattle.serve.specs.Inner.SlotHoldings.{row_dirtied}
 
 twice : (x : Slot) → dirtied (dirtied x) ≡ dirtied x
 unfolding dirtied
@@ -45,32 +44,12 @@ module _ (s : State) (marks : List Bool) where
   abbrev pub Released : ℕ → List Slot → Type 0
   Released n left = left ≡ each (dirty_below n) s.slots
 
-  -- and of row r the slots below i are looked at
-  abbrev dirty_row : ℕ → ℕ → Slot → Slot
-  dirty_row r slot x = cond (written s.clock (holding_at s slot r)) (dirtied x) x
-
-  abbrev pub Releasing : ℕ → ℕ → List Slot → List Slot → Type 0
-  Releasing r i before left = left ≡ each_below i (dirty_row r) before
-
   pub released_none : Released 0 s.slots
   unfolding any_below
   released_none = sym (each_still (dirty_below 0) s.slots empty_slot (λ i h. refl))
 
-  pub releasing_none : (r : ℕ) (before : List Slot) → Releasing r 0 before before
-  releasing_none r before = each_below_none (dirty_row r) before
-
-  module _ (z : Sized s) (r : ℕ) (before : List Slot) (e : Released r before) where
-    long : length before ≡ 64
-    long = ap length e ∙ each_length (dirty_below r) s.slots ∙ z.slots
-
-    pub releasing_turn : (i : ℕ) (left : List Slot) (w : Bool) (y : Slot) → i < 64 → Releasing r i before left → w ≡ written s.clock (holding_at s i r)
-        → y ≡ cond w (dirtied (get_or left i empty_slot)) (get_or left i empty_slot) → Releasing r (i + 1) before (set left i y)
-    releasing_turn i left w y h q f k =
-        let b : i < length before = rw long h in
-        let same : get_or left i empty_slot ≡ get_or before i empty_slot = ap (λ (l : List Slot). get_or l i empty_slot) q ∙ each_below_later (dirty_row r) before i i empty_slot (omega arith) b in
-        rw (k, f, same, q) (each_below_more (dirty_row r) before i empty_slot b)
-
-    -- a row that goes, and one that stays
+  -- one row more
+  module _ (r : ℕ) (before : List Slot) (e : Released r before) where
     turned : (b : Bool) → marked marks r ≡ b → each (λ slot x. cond (b && written s.clock (holding_at s slot r)) (dirtied x) x) before ≡ each (dirty_below (r + 1)) s.slots
     turned b m = rw e (ext_get_or empty_slot _ _ (each_length _ below ∙ each_length (dirty_below r) s.slots ∙ sym (each_length (dirty_below (r + 1)) s.slots)) at)
       where
@@ -90,13 +69,11 @@ module _ (s : State) (marks : List Bool) where
             ∙ ap (λ (x : Bool). cond x (dirtied (get_or s.slots i empty_slot)) (get_or s.slots i empty_slot)) (sym (any_more (wrote i) r))
             ∙ sym (each_at (dirty_below (r + 1)) s.slots i empty_slot q)
 
-    pub releasing_all : (i : ℕ) (left : List Slot) → i ≡ lost_by (marked marks r) → Releasing r i before left → Released (r + 1) left
-    unfolding lost_by
-    releasing_all i left n q = go (marked marks r) refl n
-      where
-        go : (b : Bool) → marked marks r ≡ b → i ≡ cond b 64 0 → Released (r + 1) left
-        go true m k = q ∙ each_below_all (dirty_row r) before i empty_slot (rw long (omega arith)) ∙ turned true m
-        go false m k = q ∙ rw k (sym (each_below_none (dirty_row r) before)) ∙ sym (each_still (λ slot x. x) before empty_slot (λ j h. refl)) ∙ turned false m
+    pub released_more : (after : List Slot) → marked marks r ≡ true → after ≡ each (row_dirtied s r) before → Released (r + 1) after
+    released_more after m q = q ∙ turned true m
+
+    pub released_same : marked marks r ≡ false → Released (r + 1) before
+    released_same m = sym (each_still (λ slot x. x) before empty_slot (λ j h. refl)) ∙ turned false m
 
   pub released_all : (n : ℕ) (left : List Slot) → n ≡ 32 → Released n left → left ≡ (released (marked marks) s).slots
   unfolding released

@@ -4,3 +4,4 @@ pub mod DirtyLaws
 pub mod ReplyLaws
 pub mod StepLaws
 pub mod ServeLaws
+pub mod LeastLaws

@@ -2,60 +2,40 @@
 use mathlib.Core.Path.{◌≡◌, refl, sym, ◌∙◌, ap}
 use mathlib.Core.Bool.{Bool, true, false, ◌&&◌}
 use mathlib.Core.List.{List}
-use Prim.Native.Nat.{ℕ, ◌+◌, ◌<◌}
+use Prim.Native.Nat.{ℕ, ◌<◌}
 use native.Mathlib.Omega.{arith}
-use borrow.Author.Tests.{le-leb, eq-eqb}
-use lib.Dec.{leb, ltb, eqb}
-use lib.ListN.{length, get_or, set, replicate, length-replicate}
+use borrow.Author.Tests.{le-leb}
+use lib.Dec.{leb, ltb}
+use lib.Seq.{ext_get_or}
+use lib.ListN.{length, get_or, replicate, length-replicate}
 use Rattle.seq.specs.Below.{any_below}
-use Rattle.seq.specs.Each.{each_below}
+use Rattle.seq.specs.Each.{each}
 use Rattle.seq.proofs.Tests.{and_false_right}
 use Rattle.seq.proofs.BelowLaws.{any_same}
 use Rattle.seq.proofs.PickLaws.{picked_same}
-use Rattle.seq.proofs.EachLaws.{each_length, each_below_none}
-use Rattle.seq.proofs.BuildLaws.{build_turn, build_all, build_at}
+use Rattle.seq.proofs.EachLaws.{each_length}
+use Rattle.seq.proofs.BuildLaws.{build_at}
 use Rattle.model.specs.declared.Cause.TheVariants.{Taken}
 use Rattle.model.specs.declared.Holding.{Holding}
 use Rattle.model.specs.declared.Mode.{Mode}
-use Rattle.model.specs.declared.Slot.{Slot}
 use Rattle.model.specs.declared.State.{State}
 use Rattle.model.specs.Parties.{level_of, better}
-use Rattle.model.specs.State.{empty_holding, slot_at, holding_at}
-use Rattle.model.specs.Words.{is_filled, is_held, holds, pins, seen_holder, seen, dormant, sees_dormant, outranks, least_arrival}
+use Rattle.model.specs.State.{slot_at, holding_at}
+use Rattle.model.specs.Words.{is_held, holds, pins, seen_holder, seen, dormant, sees_dormant, outranks, least_arrival}
 use Rattle.model.specs.Changes.{killed}
 use Rattle.model.specs.Inner.Changed.{marked}
+use Rattle.model.proofs.SlotHoldings.{at_row}
 use Rattle.model.proofs.PriorityLaws.{level_outranks}
 use Rattle.model.specs.Ranges.{Sized}
 use Rattle.model.proofs.SameRows.{killed_same}
 use Rattle.rules.specs.Calls.{conflicts, must_wait, pinners_killed}
 use Rattle.choice.specs.Inner.Summary.{no_rank, ranks_of}
 use Rattle.choice.proofs.SummaryLaws.{rank_at_lem}
-use Rattle.serve.specs.declared.Kills.{Kills}
-use Rattle.serve.specs.declared.Kills.TheVariants.{Pinning, Conflicting}
-use Rattle.serve.specs.Inner.SlotHoldings.{holdings_on, held_by, seen_test, seen_in, least_in, sees_dormant_in, kill_test, marks_of, must_wait_in}
+use Rattle.serve.specs.Inner.SlotHoldings.{holdings_on, held_by, seen_test, seen_in, least_in, sees_dormant_in, pinning, conflicting, marks_of, must_wait_in}
 
 module _ (s : State) (slot : ℕ) where
-  -- the holdings of the slot read one row after another
-  abbrev pub Read : ℕ → List Holding → Type 0
-  Read r held = held ≡ each_below r (λ row _. holding_at s slot row) (replicate 32 empty_holding)
-
-  pub read_none : (held : List Holding) → held ≡ replicate 32 empty_holding → Read 0 held
-  read_none held e = e ∙ each_below_none (λ row _. holding_at s slot row) (replicate 32 empty_holding)
-
-  pub read_turn : (r : ℕ) (held : List Holding) → r < 32 → Read r held → Read (r + 1) (set held r (holding_at s slot r))
-  read_turn r held h e = build_turn (holding_at s slot) 32 empty_holding r held (holding_at s slot r) h e refl
-
-  pub read_all : (r : ℕ) (held : List Holding) → r ≡ 32 → Read r held → held ≡ holdings_on s slot
-  unfolding holdings_on
-  read_all r held = build_all (holding_at s slot) 32 empty_holding r held
-
   pub held_by_lem : (row : ℕ) → row < 32 → held_by (holdings_on s slot) row ≡ holding_at s slot row
-  unfolding holdings_on
-  held_by_lem row h = build_at (holding_at s slot) 32 empty_holding row empty_holding h
-
-  pub held_long : length (holdings_on s slot) ≡ 32
-  unfolding holdings_on
-  held_long = each_length (λ row _. holding_at s slot row) (replicate 32 empty_holding) ∙ length-replicate 32 empty_holding
+  held_by_lem row h = at_row s slot row h
 
   seen_test_lem : (level row : ℕ) → row < 32 → seen_test level row (held_by (holdings_on s slot) row) ≡ seen_holder s level slot row
   unfolding seen_test seen_holder
@@ -81,30 +61,30 @@ module _ (s : State) (slot : ℕ) where
   dormant_in_lem level = rw (any_same (λ row. is_held (held_by (holdings_on s slot) row).pin) (holds s slot) 32 (λ row h. rw (held_by_lem row h)))
 
   -- the rows that are killed
-  marked_is : (kills : Kills) (row : ℕ) → row < 32 → marked (marks_of (holdings_on s slot) kills) row ≡ kill_test kills row (holding_at s slot row)
+  marked_is : (test : ℕ → Holding → Bool) (row : ℕ) → row < 32 → marked (marks_of (holdings_on s slot) test) row ≡ test row (holding_at s slot row)
   unfolding marks_of
-  marked_is kills row h = build_at (λ r. kill_test kills r (held_by (holdings_on s slot) r)) 32 false row false h ∙ ap (kill_test kills row) (held_by_lem row h)
+  marked_is test row h = build_at (λ r. test r (held_by (holdings_on s slot) r)) 32 false row false h ∙ ap (test row) (held_by_lem row h)
 
-  pub conflicts_killed : Sized s → (row : ℕ) (mode : Mode) → killed (marked (marks_of (holdings_on s slot) (Conflicting row mode))) Taken s ≡ killed (conflicts s row slot mode) Taken s
+  pub conflicts_killed : Sized s → (row : ℕ) (mode : Mode) → killed (marked (marks_of (holdings_on s slot) (conflicting row mode))) Taken s ≡ killed (conflicts s row slot mode) Taken s
   unfolding conflicts
-  conflicts_killed z row mode = killed_same (marked (marks_of (holdings_on s slot) (Conflicting row mode))) (conflicts s row slot mode) s (marked_is (Conflicting row mode)) z Taken
+  conflicts_killed z row mode = killed_same (marked (marks_of (holdings_on s slot) (conflicting row mode))) (conflicts s row slot mode) s (marked_is (conflicting row mode)) z Taken
 
-  pub pinners_killed_lem : Sized s → killed (marked (marks_of (holdings_on s slot) Pinning)) Taken s ≡ pinners_killed s slot
+  pub pinners_killed_lem : Sized s → killed (marked (marks_of (holdings_on s slot) pinning)) Taken s ≡ pinners_killed s slot
   unfolding pinners_killed
-  pinners_killed_lem z = killed_same (marked (marks_of (holdings_on s slot) Pinning)) (pins s slot) s (marked_is Pinning) z Taken
+  pinners_killed_lem z = killed_same (marked (marks_of (holdings_on s slot) pinning)) (pins s slot) s (marked_is pinning) z Taken
 
   -- a row of better priority is of the requester's level or a lower one
-  pub must_wait_in_lem : (row : ℕ) (mode : Mode) → row < 32 → must_wait_in (marks_of (holdings_on s slot) (Conflicting row mode)) (ranks_of s.rows s.places) row ≡ must_wait s row slot mode
+  pub must_wait_in_lem : (row : ℕ) (mode : Mode) → row < 32 → must_wait_in (marks_of (holdings_on s slot) (conflicting row mode)) (ranks_of s.rows s.places) row ≡ must_wait s row slot mode
   unfolding must_wait_in must_wait conflicts outranks
   must_wait_in_lem row mode h = any_same
-      (λ other. marked (marks_of (holdings_on s slot) (Conflicting row mode)) other && better (get_or (ranks_of s.rows s.places) other no_rank) (get_or (ranks_of s.rows s.places) row no_rank))
+      (λ other. marked (marks_of (holdings_on s slot) (conflicting row mode)) other && better (get_or (ranks_of s.rows s.places) other no_rank) (get_or (ranks_of s.rows s.places) row no_rank))
       (λ other. leb (level_of other) (level_of row) && conflicts s row slot mode other && outranks s other row) 32
       (λ other k. told other k ∙ go other (outranks s other row) refl)
     where
       told : (other : ℕ) → other < 32
-          → marked (marks_of (holdings_on s slot) (Conflicting row mode)) other && better (get_or (ranks_of s.rows s.places) other no_rank) (get_or (ranks_of s.rows s.places) row no_rank)
+          → marked (marks_of (holdings_on s slot) (conflicting row mode)) other && better (get_or (ranks_of s.rows s.places) other no_rank) (get_or (ranks_of s.rows s.places) row no_rank)
           ≡ conflicts s row slot mode other && outranks s other row
-      told other k = rw (marked_is (Conflicting row mode) other k, rank_at_lem s.rows s.places (ranks_of s.rows s.places) other refl k, rank_at_lem s.rows s.places (ranks_of s.rows s.places) row refl h)
+      told other k = rw (marked_is (conflicting row mode) other k, rank_at_lem s.rows s.places (ranks_of s.rows s.places) other refl k, rank_at_lem s.rows s.places (ranks_of s.rows s.places) row refl h)
 
       go : (other : ℕ) (b : Bool) → outranks s other row ≡ b
           → conflicts s row slot mode other && outranks s other row ≡ leb (level_of other) (level_of row) && conflicts s row slot mode other && outranks s other row
@@ -118,17 +98,11 @@ seen_by_3 held =
     any_same (λ row. leb (level_of row) 3 && is_held (held_by held row).pin) (λ row. is_held (held_by held row).pin) 32
     (λ row h. rw (le-leb (level_of row) 3 (omega arith)))
 
--- level 3 and a dormant page, by what the loop found
-pub not_dormant : (held : List Holding) (x : Slot) (level : ℕ) (found : Bool) → found ≡ seen_in held 3 → found ≡ true → false ≡ sees_dormant_in held x level
-unfolding sees_dormant_in
-not_dormant held x level found e f =
-    rw (← seen_by_3 held, ← e, f)
-    (sym (and_false_right (eqb level 3) (is_filled x.content && false) (and_false_right (is_filled x.content) false refl)))
-
-pub is_dormant : (held : List Holding) (x : Slot) (level : ℕ) (found filled : Bool) → level ≡ 3 → found ≡ seen_in held 3 → found ≡ false → filled ≡ is_filled x.content → filled ≡ sees_dormant_in held x level
-unfolding sees_dormant_in
-is_dormant held x level found filled l e f g = rw (eq-eqb level 3 l, ← seen_by_3 held, ← e, f, ← g) (and_true_right filled)
-  where
-    and_true_right : (b : Bool) → b ≡ b && true
-    and_true_right true = refl
-    and_true_right false = refl
+-- the marks of a test, row by row
+pub marks_are : (held : List Holding) (test : ℕ → Holding → Bool) (marks : List Bool) → length marks ≡ 32
+    → ((row : ℕ) → row < 32 → get_or marks row false ≡ test row (held_by held row)) → marks ≡ marks_of held test
+unfolding marks_of
+marks_are held test marks l h =
+    let f : ℕ → Bool = λ row. test row (held_by held row) in
+    ext_get_or false marks (each (λ k _. f k) (replicate 32 false)) (l ∙ sym (each_length (λ k _. f k) (replicate 32 false) ∙ length-replicate 32 false))
+    (λ i b. let k : i < 32 = rw l at b in h i k ∙ sym (build_at f 32 false i false k))

@@ -1,20 +1,20 @@
 // How a request, the call's own or one that a tick tries, is served, steps 1 to 4 of document 01, on a state by value.
 #![tactic(auto)]
 
-ghost use Rattle.std.specs.Prelude.{◌≡◌, ◌+◌, ◌<◌, ◌≤◌, ◌^◌, min, get_or, replicate};
-ghost use Rattle.model.specs.declared.Setting.TheVariants.{Left};
-ghost use Rattle.model.specs.State.{empty_slot, empty_holding};
+ghost use Rattle.std.specs.Prelude.{◌≡◌, ℕ, false, ◌+◌, ◌<◌, ◌≤◌, ◌^◌, get_or, replicate};
+ghost use Rattle.seq.specs.Each.{each};
+ghost use Rattle.model.specs.State.{empty_holding};
 ghost use Rattle.model.specs.Words.{arrival_in};
-ghost use Rattle.model.specs.Parties.{level_of};
-ghost use Rattle.model.specs.Inner.Changed.{outcome_of};
+ghost use Rattle.model.specs.Changes.{released};
+ghost use Rattle.model.specs.Inner.Changed.{marked, outcome_of};
 ghost use Rattle.rules.specs.Calls.{write_back, served};
-ghost use Rattle.serve.specs.Inner.SlotHoldings.{seen_test, seen_in, lesser, least_in, sees_dormant_in, kill_test, marks_of, must_wait_in};
-ghost use Rattle.serve.specs.Inner.Granted.{held_now, filled_slot, touched_slot, granted_row, granted_answer};
-ghost use Rattle.serve.specs.Inner.Replies.{wait_reply, planned, rows_taken, slot_filled, granting};
+ghost use Rattle.serve.specs.Inner.SlotHoldings.{holdings_on, seen_test, seen_in, least_in, sees_dormant_in, must_wait_in, row_dirtied};
+ghost use Rattle.serve.specs.Inner.Granted.{held_now, touched_slot, granted_row, granted_answer};
+ghost use Rattle.serve.specs.Inner.Replies.{wait_reply, planned, taken, entered, granting};
 
 use model::{
-    Answer, Back, Cause, Change, Condition, Content, Holding, Mode, Pin, Rank, Reply, Row, Setting,
-    Slot, State,
+    Answer, Cause, Change, Condition, Content, Holding, Mode, Rank, Reply, Row, Setting, Slot,
+    State,
 };
 use seq::Found;
 
@@ -23,507 +23,309 @@ pub fn arrival_in(c: Content) -> u64
 {
     match c {
         Content::Empty => 0,
-        Content::Filled {
-            page: _,
-            arrival,
-            dirty: _,
-            lowest: _,
-        } => arrival,
+        Content::Filled { arrival, .. } => arrival,
     }
 }
 
 // The row is of the level or a lower one, and has a holding.
+#[tactic(auto, unfolding(crate::specs::Inner::SlotHoldings::seen_test))]
 pub fn is_seen(level: usize, row: usize, h: Holding) -> bool
     ensures { result ≡ seen_test level row h }
 {
-    let p = h.pin;
-    let held = model::is_held(p);
-    (row / 8 <= level) & held
-}
-
-// The least arrival so far, with one holding more where it passes.
-fn lesser_arrival(passes: bool, arrival: u64, found: bool, least: u64) -> u64
-    ensures { result ≡ lesser passes arrival found least }
-{
-    if passes {
-        if found {
-            if arrival < least {
-                return arrival;
-            }
-            return least;
-        }
-        return arrival;
-    }
-    least
+    row / 8 <= level && model::is_held(h.pin)
 }
 
 // The level sees the slot.
 pub fn see(held: [Holding; 32], level: usize) -> bool
     ensures { result ≡ seen_in held level }
 {
-    let mut found = false;
-    for r in 0..32usize {
-        let h = held[r];
-        let t = is_seen(level, r, h);
-        found = found | t;
-    }
-    found
+    held.iter().enumerate().any(|(r, h)| is_seen(level, r, *h))
 }
 
 // The least arrival among the holdings that the level sees.
 pub fn least_arrival(held: [Holding; 32], level: usize) -> u64
     ensures { result ≡ least_in held level }
 {
-    let mut found = false;
-    let mut least: u64 = 0;
-    for r in 0..32usize {
-        let h = held[r];
-        let t = is_seen(level, r, h);
-        least = lesser_arrival(t, h.arrival, found, least);
-        found = found | t;
-    }
-    least
+    held.iter()
+        .enumerate()
+        .filter(|(r, h)| is_seen(level, *r, **h))
+        .map(|(_, h)| h.arrival)
+        .min()
+        .unwrap_or(0)
 }
 
 // Level 3 sees the slot's dormant page.
+#[tactic(auto, using(crate::proofs::SlotLaws::seen_by_3), unfolding(crate::specs::Inner::SlotHoldings::sees_dormant_in))]
 pub fn see_dormant(held: [Holding; 32], x: Slot, level: usize) -> bool
     ensures { result ≡ sees_dormant_in held x level }
 {
-    let c = x.content;
-    if level == 3 {
-        if see(held, 3) {
-            return false;
-        }
-        return model::is_filled(c);
-    }
-    false
+    level == 3 && model::is_filled(x.content) && !see(held, 3)
 }
 
-// The rows that a request kills at a slot: those that pin it, or those other than the requester whose pin conflicts with its mode.
+// A request of a row, and the tick at which a page arrives that is fetched for it.
 #[derive(Clone, Copy)]
-enum Kills {
-    Pinning,
-    Conflicting { row: usize, mode: Mode },
+struct Request {
+    row: usize,
+    page: u32,
+    mode: Mode,
+    due: u64,
+    ghost in_range: { row < 32 },
 }
 
-fn is_killed(kills: Kills, other: usize, h: Holding) -> bool
-    ensures { result ≡ kill_test kills other h }
+// The 32 holdings of a slot, by row. A slot stays a plain number, as Found and Change have it: a type of its own would be taken apart at each use.
+#[tactic(auto, using(model::proofs::SlotHoldings::long_lem))]
+pub fn held_on(s: &State, slot: usize) -> [Holding; 32]
+    requires { slot < 64 }
+    ensures { result ≡ holdings_on s.now slot }
 {
-    let p = h.pin;
-    match kills {
-        Kills::Pinning => model::is_pin(p),
-        Kills::Conflicting { row, mode } => {
-            let own = model::pin_of(mode);
-            let conflict = model::is_conflict(own, p);
-            (other != row) & conflict
-        }
-    }
+    let mut held = [Holding::default(); 32];
+    held.copy_from_slice(model::holdings_on(s, slot));
+    held
 }
 
-// The rows that are killed, by row.
-fn mark_rows(held: [Holding; 32], kills: Kills) -> [bool; 32]
-    ensures { result ≡ marks_of held kills }
+// The rows whose holdings pass, by row.
+fn mark_rows<F: Fn(usize, Holding) -> bool>(held: &[Holding; 32], test: F) -> [bool; 32]
+    requires { F.IsAlwaysCallable test }
+    ensures { (row : ℕ) → row < 32 → F.post test row (get_or held.now row empty_holding) (get_or result row false) }
 {
-    let mut marks = [false; 32];
-    for r in 0..32usize {
-        let h = held[r];
-        let t = is_killed(kills, r, h);
-        marks[r] = t;
-    }
-    marks
+    std::array::from_fn(|r| test(r, held[r]))
 }
 
 // Step 1: a marked row, which has a conflicting pin, is of better priority. Such a row is of the requester's level or a lower one, so the pin is seen.
-fn must_wait(marks: [bool; 32], ranks: [Rank; 32], row: usize) -> bool
-    requires { row < 32 }
-    ensures { result ≡ must_wait_in marks ranks row }
+fn must_wait(marks: &[bool; 32], ranks: &[Rank; 32], q: Request) -> bool
+    ensures { result ≡ must_wait_in marks.now ranks.now q.row }
 {
-    let requester = ranks[row];
-    let mut wait = false;
-    for r in 0..32usize {
-        let marked = marks[r];
-        let rank = ranks[r];
-        let better = model::is_better(rank, requester);
-        wait = wait | (marked & better);
-    }
-    wait
+    let requester = ranks[q.row];
+    marks.iter().zip(ranks).any(|(marked, rank)| *marked && model::is_better(*rank, requester))
 }
 
 // Step 4: a row's own holding keeps its arrival and the stronger pin.
+#[tactic(auto, unfolding(crate::specs::Inner::Granted::held_now))]
 fn hold(own: Holding, mode: Mode, arrival: u64, clock: u64) -> Holding
     ensures { result ≡ held_now own mode arrival clock }
 {
-    let p = own.pin;
-    let q = model::pin_of(mode);
-    if model::is_held(p) {
-        let stronger = model::stronger_pin(p, q);
-        return Holding {
-            pin: stronger,
-            arrival: own.arrival,
+    let asked = model::pin_of(mode);
+    if model::is_held(own.pin) {
+        Holding {
+            pin: model::stronger_pin(own.pin, asked),
             touch: clock,
-        };
+            ..own
+        }
+    } else {
+        Holding {
+            pin: asked,
+            arrival,
+            touch: clock,
+        }
     }
-    Holding {
-        pin: q,
-        arrival,
-        touch: clock,
-    }
-}
-
-fn lower(level: usize, other: usize) -> usize
-    ensures { result ≡ min level other }
-{
-    if level <= other {
-        return level;
-    }
-    other
 }
 
 // The slot's lowest level and latest touch.
+#[tactic(auto, unfolding(crate::specs::Inner::Granted::touched_slot))]
 fn touch_slot(x: Slot, level: usize, clock: u64) -> Slot
     ensures { result ≡ touched_slot x level clock }
 {
-    let c = x.content;
-    match c {
-        Content::Empty => {
-            return Slot {
-                content: Content::Empty,
-                touch: clock,
-            };
-        }
-        Content::Filled {
-            page,
-            arrival,
-            dirty,
-            lowest,
-        } => {
-            let least = lower(lowest, level);
-            return Slot {
-                content: Content::Filled {
-                    page,
-                    arrival,
-                    dirty,
-                    lowest: least,
-                },
-                touch: clock,
-            };
-        }
+    let mut n = Slot { touch: clock, ..x };
+    if let Content::Filled { lowest, .. } = &mut n.content {
+        *lowest = level.min(*lowest);
     }
+    n
 }
 
 // Idle, if arrival ≤ clock, else fetching until then.
+#[tactic(auto, unfolding(crate::specs::Inner::Granted::granted_row))]
 fn grant_row(x: Row, arrival: u64, clock: u64) -> Row
     ensures { result ≡ granted_row x arrival clock }
 {
-    if arrival <= clock {
-        return Row {
-            condition: Condition::Idle,
-            deadline: x.deadline,
-        };
-    }
-    Row {
-        condition: Condition::Fetching(arrival),
-        deadline: x.deadline,
-    }
+    let condition = if arrival <= clock {
+        Condition::Idle
+    } else {
+        Condition::Fetching(arrival)
+    };
+    Row { condition, ..x }
 }
 
-// Ready, if arrival ≤ clock, else fetch.
-fn grant_answer(slot: usize, arrival: u64, clock: u64, back: Back) -> Answer
+// Ready, if arrival ≤ clock, else fetch; apart from the row, as `granted_row` and `granted_answer` are.
+#[tactic(auto, unfolding(crate::specs::Inner::Granted::granted_answer))]
+fn grant_answer(slot: usize, arrival: u64, clock: u64, back: Option<u32>) -> Answer
     ensures { result ≡ granted_answer slot arrival clock back }
 {
     if arrival <= clock {
-        return Answer::Ready { slot, back };
-    }
-    Answer::Fetch {
-        due: arrival,
-        slot,
-        back,
+        Answer::Ready { slot, back }
+    } else {
+        Answer::Fetch {
+            due: arrival,
+            slot,
+            back,
+        }
     }
 }
 
 // Step 4 on what the steps before it make of the state: the holding, the slot and the row of a request that is granted, and its answer.
-fn grant(c: Change, row: usize, mode: Mode, arrival: u64, back: Back) -> Reply
-    requires { (c.slot < 64) × (row < 32) }
-    ensures { result ≡ granting c row mode arrival back }
+#[tactic(auto, unfolding(crate::specs::Inner::Replies::granting))]
+fn grant(mut c: Change, q: Request, arrival: u64, back: Option<u32>) -> Reply
+    requires { c.slot < 64 }
+    ensures { result ≡ granting c q.row q.mode arrival back }
 {
-    let clock = c.clock;
-    let slot = c.slot;
-    let mut rows = c.rows;
-    let y = rows[row];
-    let y2 = grant_row(y, arrival, clock);
-    rows[row] = y2;
-    let mut slots = c.slots;
-    let x = slots[slot];
-    let x2 = touch_slot(x, row / 8, clock);
-    slots[slot] = x2;
-    let mut held = c.held;
-    let own = held[row];
-    let h = hold(own, mode, arrival, clock);
-    held[row] = h;
-    let gone = c.gone;
-    let answer = grant_answer(slot, arrival, clock, back);
-    let setting = c.setting;
-    let change = Change {
-        clock,
-        rows,
-        slots,
-        gone,
-        slot,
-        held,
-        setting,
-    };
-    Reply { change, answer }
+    c.rows[q.row] = grant_row(c.rows[q.row], arrival, c.clock);
+    c.slots[c.slot] = touch_slot(c.slots[c.slot], q.row / 8, c.clock);
+    c.held[q.row] = hold(c.held[q.row], q.mode, arrival, c.clock);
+    let answer = grant_answer(c.slot, arrival, c.clock, back);
+    Reply { change: c, answer }
 }
 
 // A wait alters only the row's own condition.
-fn wait(clock: u64, rows: [Row; 32], slots: [Slot; 64], row: usize, page: u32, mode: Mode) -> Reply
-    requires { row < 32 }
-    ensures { result ≡ wait_reply clock rows slots row page mode }
+#[tactic(auto, unfolding(crate::specs::Inner::Replies::wait_reply))]
+fn wait(s: &State, q: Request) -> Reply
+    ensures { result ≡ wait_reply s.now q.row q.page q.mode }
 {
-    let x = rows[row];
-    let mut n = rows;
-    n[row] = Row {
-        condition: Condition::Waiting { page, mode },
-        deadline: x.deadline,
+    let mut rows = s.rows;
+    rows[q.row].condition = Condition::Waiting {
+        page: q.page,
+        mode: q.mode,
     };
-    let change = model::drop_holdings(clock, n, slots, [false; 32], Setting::Left);
+    let change = model::drop_holdings(s.clock, rows, s.slots, [false; 32], Setting::Left);
     Reply {
         change,
         answer: Answer::Wait,
     }
 }
 
-// No holding of any row.
-fn no_held() -> [Holding; 32]
-    ensures { result ≡ replicate 32 empty_holding }
-{
-    [Holding {
-        pin: Pin::Absent,
-        arrival: 0,
-        touch: 0,
-    }; 32]
-}
-
-// A slot newly given to a page.
-fn fill(page: u32, arrival: u64, level: usize, clock: u64) -> Slot
-    ensures { result ≡ filled_slot page arrival level clock }
-{
-    Slot {
-        content: Content::Filled {
-            page,
-            arrival,
-            dirty: false,
-            lowest: level,
-        },
-        touch: clock,
-    }
-}
-
 // A dirty page is reported for write-back.
-fn write_back(x: Slot) -> Back
+#[tactic(auto, unfolding(rules::specs::Calls::write_back))]
+fn write_back(x: Slot) -> Option<u32>
     ensures { result ≡ write_back x }
 {
-    let c = x.content;
-    match c {
-        Content::Empty => {
-            return Back::Nothing;
-        }
+    match x.content {
         Content::Filled {
             page,
-            arrival: _,
-            dirty,
-            lowest: _,
-        } => {
-            if dirty {
-                return Back::Page(page);
-            }
-            return Back::Nothing;
-        }
+            dirty: true,
+            ..
+        } => Some(page),
+        _ => None,
     }
 }
 
-// What steps 1 to 3 come to in the slot that has the page: the row waits, or the marked rows are killed and the page arrives at a tick.
+// What steps 1 to 3 come to in the slot that has the page, unless the row waits: the marked rows are killed, and the page arrives at a tick.
 #[derive(Clone, Copy)]
 struct Plan {
-    wait: bool,
     marks: [bool; 32],
     arrival: u64,
 }
 
 // Step 1, page seen through a holding; step 2, level 3, dormant page; step 3, not seen.
-fn plan_steps(
-    held: [Holding; 32],
-    rows: [Row; 32],
-    places: [usize; 32],
-    x: Slot,
-    row: usize,
-    mode: Mode,
-    due: u64,
-) -> Plan
-    requires { row < 32 }
-    ensures { result ≡ planned held rows places x row mode due }
+fn plan_steps(s: &State, held: &[Holding; 32], x: Slot, q: Request) -> Option<Plan>
+    ensures { result ≡ planned held.now s.now.rows s.now.places x q.row q.mode q.due }
 {
-    let level = row / 8;
-    let marks = mark_rows(held, Kills::Conflicting { row, mode });
-    if see(held, level) {
-        let ranks = choice::ranks(rows, places);
-        let wait = must_wait(marks, ranks, row);
-        let arrival = least_arrival(held, level);
-        return Plan {
-            wait,
-            marks,
-            arrival,
-        };
+    let level = q.row / 8;
+    let asked = model::pin_of(q.mode);
+    let marks = mark_rows(held, |other, h| {
+        other != q.row && model::is_conflict(asked, h.pin)
+    });
+    if see(*held, level) {
+        let ranks = choice::ranks(s.rows, s.places);
+        if must_wait(&marks, &ranks, q) {
+            return None;
+        }
+        let arrival = least_arrival(*held, level);
+        return Some(Plan { marks, arrival });
     }
-    if see_dormant(held, x, level) {
-        let c = x.content;
-        let arrival = arrival_in(c);
-        return Plan {
-            wait: false,
+    if see_dormant(*held, x, level) {
+        return Some(Plan {
             marks: [false; 32],
-            arrival,
-        };
+            arrival: arrival_in(x.content),
+        });
     }
-    Plan {
-        wait: false,
+    Some(Plan {
         marks,
-        arrival: due,
+        arrival: q.due,
+    })
+}
+
+// The slots, dirty where a holding of the row had written the page.
+fn mark_written(s: &State, row: usize, slots: &mut [Slot; 64])
+    requires { row < 32 }
+    ensures { slots.new ≡ each (row_dirtied s.now row) slots.old }
+{
+    for (i, x) in slots.iter_mut().enumerate() {
+        let wrote = model::is_written(s.clock, s.holdings[i * 32 + row]);
+        *x = model::marked_slot(wrote, *x);
     }
 }
 
-// The rows that a change marks are killed as taken, and lose the slot with their other holdings.
-fn take_rows(c: Change) -> Change
-    ensures { result ≡ rows_taken c }
+// The slots once the marked rows have lost all their holdings. model::released_slots takes the state by value, a copy for each request and each try.
+fn release(s: &State, gone: &[bool; 32]) -> [Slot; 64]
+    ensures { result ≡ (released (marked gone.now) s.now).slots }
 {
-    let gone = c.gone;
-    let before = c.rows;
-    let rows = model::kill_rows(before, gone, Cause::Taken);
-    let all = c.held;
-    let held = model::remaining_holdings(all, gone);
-    let slots = c.slots;
-    let setting = c.setting;
-    Change {
-        clock: c.clock,
-        rows,
-        slots,
-        gone,
-        slot: c.slot,
-        held,
-        setting,
+    let mut slots = s.slots;
+    for (r, g) in gone.iter().enumerate() {
+        if *g {
+            mark_written(s, r, &mut slots);
+        }
     }
+    slots
 }
 
-// The holders of the slot lose it, and it is given to the page.
-fn fill_slot(c: Change, page: u32, due: u64, level: usize) -> Change
-    requires { c.slot < 64 }
-    ensures { result ≡ slot_filled c page due level }
+// What the steps before step 4 make of the state, where a slot has the holdings given: the marked rows are killed as taken, and lose all their holdings.
+#[tactic(auto, unfolding(crate::specs::Inner::Replies::taken))]
+fn take_rows(s: &State, gone: [bool; 32], slot: usize, held: [Holding; 32]) -> Change
+    ensures { result ≡ taken s.now gone slot held }
 {
-    let slot = c.slot;
-    let mut slots = c.slots;
-    let x = fill(page, due, level, c.clock);
-    slots[slot] = x;
-    let rows = c.rows;
-    let gone = c.gone;
-    let held = no_held();
-    let setting = c.setting;
     Change {
-        clock: c.clock,
-        rows,
-        slots,
+        clock: s.clock,
+        rows: model::kill_rows(s.rows, gone, Cause::Taken),
+        slots: release(s, &gone),
         gone,
         slot,
-        held,
-        setting,
-    }
-}
-
-// Step 3, not seen, in a chosen slot: rows that pin it are killed, other holders lose it, and it is given to the page, which is due at a tick.
-fn into_slot(c: Change, row: usize, page: u32, mode: Mode, due: u64) -> Reply
-    requires { (c.slot < 64) × (row < 32) }
-    ensures { result ≡ granting (slot_filled (rows_taken c) page due (level_of row)) row mode due (write_back (get_or c.slots c.slot empty_slot)) }
-{
-    let slots = c.slots;
-    let slot = c.slot;
-    let x = slots[slot];
-    let back = write_back(x);
-    let taken = take_rows(c);
-    let filled = fill_slot(taken, page, due, row / 8);
-    grant(filled, row, mode, due, back)
-}
-
-// What the steps before step 4 make of the state: some rows lose all their holdings, and a slot has the holdings given.
-fn before_grant(
-    clock: u64,
-    rows: [Row; 32],
-    slots: [Slot; 64],
-    gone: [bool; 32],
-    slot: usize,
-    held: [Holding; 32],
-) -> Change
-    ensures { result ≡ record { clock = clock; rows = rows; slots = slots; gone = gone; slot = slot; held = held; setting = Left } }
-{
-    Change {
-        clock,
-        rows,
-        slots,
-        gone,
-        slot,
-        held,
+        held: model::remaining_holdings(held, gone),
         setting: Setting::Left,
     }
 }
 
-// The request of a row for a page: the search for the page, and steps 1 to 4. The holdings of the slot, and those of the rows that are killed, are read
-// here, in loops of its own, since a function that takes the state copies it: once for a chosen slot, and once for the slot that has the page.
+// Step 3, not seen, in a chosen slot: rows that pin it are killed, other holders lose it, and it is given to the page.
+fn into_slot(s: &State, slot: usize, q: Request) -> Reply
+    requires { slot < 64 }
+    ensures { result ≡ entered s.now slot q.row q.page q.mode q.due }
+{
+    let held = held_on(s, slot);
+    let gone = mark_rows(&held, |_, h| model::is_pin(h.pin));
+    let mut c = take_rows(s, gone, slot, held);
+    let back = write_back(c.slots[slot]);
+    c.slots[slot] = Slot {
+        content: Content::Filled {
+            page: q.page,
+            arrival: q.due,
+            dirty: false,
+            lowest: q.row / 8,
+        },
+        touch: s.clock,
+    };
+    c.held = [Holding::default(); 32];
+    grant(c, q, q.due, back)
+}
+
+// The request of a row for a page: the search for the page, and steps 1 to 4.
 pub fn serve(s: State, row: usize, page: u32, mode: Mode) -> Reply
     requires { (s.size ≤ 64) × (row < 32) × (s.clock + s.delay < 2 ^ 64) }
     ensures { outcome_of s result ≡ served s row page mode }
 {
-    let clock = s.clock;
     let due = s.clock + s.delay;
-    let rows = s.rows;
-    let mut slots = s.slots;
-    let mut held = no_held();
-    let Found::At(slot) = choice::find_page(slots, s.size, page) else {
-        let Found::At(chosen) = choice::choose(s, row) else {
-            return wait(clock, rows, slots, row, page, mode);
-        };
-        for r in 0..32usize {
-            let h = s.holdings[chosen * 32 + r];
-            held[r] = h;
-        }
-        let gone = mark_rows(held, Kills::Pinning);
-        for r in 0..32usize {
-            for i in 0..model::slots_lost(gone[r]) {
-                let h = s.holdings[i * 32 + r];
-                let x = slots[i];
-                let y = model::marked_slot(model::is_written(clock, h), x);
-                slots[i] = y;
-            }
-        }
-        let c = before_grant(clock, rows, slots, gone, chosen, held);
-        return into_slot(c, row, page, mode, due);
+    let q = Request {
+        row,
+        page,
+        mode,
+        due,
     };
-    for r in 0..32usize {
-        let h = s.holdings[slot * 32 + r];
-        held[r] = h;
-    }
-    let x = slots[slot];
-    let places = s.places;
-    let p = plan_steps(held, rows, places, x, row, mode, due);
-    if p.wait {
-        return wait(clock, rows, slots, row, page, mode);
-    }
-    let gone = p.marks;
-    for r in 0..32usize {
-        for i in 0..model::slots_lost(gone[r]) {
-            let h = s.holdings[i * 32 + r];
-            let old = slots[i];
-            let y = model::marked_slot(model::is_written(clock, h), old);
-            slots[i] = y;
-        }
-    }
-    let c = before_grant(clock, rows, slots, gone, slot, held);
-    let taken = take_rows(c);
-    grant(taken, row, mode, p.arrival, Back::Nothing)
+    let Found::At(slot) = choice::find_page(s.slots, s.size, page) else {
+        let Found::At(chosen) = choice::choose(s, row) else {
+            return wait(&s, q);
+        };
+        return into_slot(&s, chosen, q);
+    };
+    let held = held_on(&s, slot);
+    let Some(plan) = plan_steps(&s, &held, s.slots[slot], q) else {
+        return wait(&s, q);
+    };
+    let c = take_rows(&s, plan.marks, slot, held);
+    grant(c, q, plan.arrival, None)
 }

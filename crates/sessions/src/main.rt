@@ -10,71 +10,59 @@ use std::rt::Files;
 use std::{io, str};
 
 // The most pairs that are read of a file.
-const MOST: usize = 4095;
+const MOST: u64 = 4095;
 
-// The records, which stand from a byte of the file on, played on the first n bytes of the area.
-fn play_records<F: Read + Seek, W: Write>(
-    file: &mut F,
-    writer: &mut W,
-    records: u64,
-    area: &mut [u8],
-    n: usize,
-    started: bool,
-) -> io::Result<()> {
-    if n > area.len() {
-        return Ok(());
-    }
-    let _ = file.seek(SeekFrom::Start(records));
-    stream::play_input(file, writer, &mut area[..n], started)
+// A stored file that is played, and where its text goes.
+#[derive(Drop)]
+struct Session<F, W> {
+    file: F,
+    writer: W,
 }
 
-// A pair is a byte of the area and the word to put there; or, past the area, how many of its bytes are lent to the records, after which it is zero again.
-fn take_pair<F: Read + Seek, W: Write>(
-    file: &mut F,
-    writer: &mut W,
-    records: u64,
-    area: &mut [u8],
-    at: usize,
-    value: usize,
-) -> io::Result<()>
-    requires { 65536 ≤ length area.old }
-{
-    if at < 65529 {
-        words::put_word(area, at, value as u64);
-        return Ok(());
+impl<F: Read + Seek, W: Write> Session<F, W> {
+    // The records, which stand from a byte of the file on, played on the first n bytes of the area.
+    fn play_records(
+        &mut self,
+        records: u64,
+        area: &mut [u8],
+        n: usize,
+        started: bool,
+    ) -> io::Result<()> {
+        if n > area.len() {
+            return Ok(());
+        }
+        let _ = self.file.seek(SeekFrom::Start(records));
+        stream::play_input(&mut self.file, &mut self.writer, &mut area[..n], started)
     }
-    play_records(file, writer, records, area, value, at > 65536)?;
-    words::put_zeros(area, 0, 8192);
-    Ok(())
-}
 
-fn play_areas<F: Read + Seek, W: Write>(
-    file: &mut F,
-    writer: &mut W,
-    head: &[u8],
-    number: usize,
-) -> io::Result<()>
-    requires number_bound { number ≤ 4095 }
-    requires in_bounds { 65536 ≤ length head.now }
-{
-    let mut area = [0; 65536];
-    let records = (number * 16 + 8) as u64;
-    for i in 0..number {
-        let at = words::word(head, i * 16 + 8) as usize;
-        let value = words::word(head, i * 16 + 16) as usize;
-        take_pair(file, writer, records, &mut area, at, value)?;
+    // A pair is a byte of the area and the word to put there; or, past the area, how many of its bytes are lent to the records, after which it is zero again.
+    fn take_pair(&mut self, records: u64, area: &mut [u8], at: usize, value: u64) -> io::Result<()>
+        requires { 65536 ≤ length area.old }
+    {
+        if at < 65529 {
+            words::put_word(area, at, value);
+            return Ok(());
+        }
+        self.play_records(records, area, value as usize, at > 65536)?;
+        words::put_zeros(area, 0, 8192);
+        Ok(())
     }
-    Ok(())
-}
 
-fn play_file<F: Read + Seek, W: Write>(file: &mut F, writer: &mut W) -> io::Result<()> {
-    let mut head = [0; 65536];
-    stream::read_full(file, &mut head)?;
-    let number = words::word(&head, 0) as usize;
-    if number > MOST {
-        return Ok(());
+    fn play(&mut self) -> io::Result<()> {
+        let mut head = [0; 65536];
+        stream::read_full(&mut self.file, &mut head)?;
+        let number = words::word(&head, 0);
+        if number > MOST {
+            return Ok(());
+        }
+        let mut area = [0; 65536];
+        let records = number * 16 + 8;
+        for pair in head[8..records as usize].chunks_exact(16) {
+            let at = words::word(pair, 0) as usize;
+            self.take_pair(records, &mut area, at, words::word(pair, 8))?;
+        }
+        Ok(())
     }
-    play_areas(file, writer, &head, number)
 }
 
 // A file that cannot be opened is told on standard error, and the next argument has its turn.
@@ -82,9 +70,11 @@ fn play_named<R: Files + Print + Eprint>(rt: &R, name: &str) -> io::Result<()> {
     match File::open(rt, name) {
         Ok(file) => {
             rt.println(name)?;
-            let mut file = file;
-            let mut writer = io::writer(rt);
-            play_file(&mut file, &mut writer)
+            let mut session = Session {
+                file,
+                writer: io::writer(rt),
+            };
+            session.play()
         }
         Err(e) => eprintln!(rt; "{name}: {e}"),
     }
@@ -104,6 +94,7 @@ fn play_argument<R: Env + Files + Print + Eprint>(rt: &R, i: usize) -> io::Resul
     Ok(true)
 }
 
+// Arguments are asked for by number: std's list of them allocates.
 fn main(rt: HostRuntime) -> io::Result<()> {
     for i in 1..usize::MAX {
         if !play_argument(&rt, i)? {

@@ -1,3 +1,4 @@
+pub mod RangeLaws
 pub mod PageLaws
 pub mod ElementLaws
 pub mod PinLaws

@@ -1,129 +1,78 @@
 // The test whether a state is sound: document 01, "State", and document 02, T-01, T-02 and T-06.
 #![tactic(auto)]
 
-ghost use Rattle.std.specs.Prelude.{◌≡◌, cond, ◌&&◌, not, ◌+◌, ◌<◌, ◌≤◌, ◌^◌, length, get_or};
-ghost use Rattle.seq.specs.Below.{all_below};
+ghost use Rattle.std.specs.Prelude.{◌≡◌, ◌&&◌, ◌||◌, not, ◌+◌, ◌*◌, ◌<◌, ◌≤◌, leb, eqb, get_or};
+ghost use Rattle.seq.specs.Below.{all_below, count_below};
 ghost use Rattle.model.specs.Parties.{class_of};
-ghost use Rattle.model.specs.State.{free_row, empty_slot};
-ghost use Rattle.model.specs.Words.{is_free, is_live, is_filled, page_in};
-ghost use Rattle.area.specs.Layout.{decoded};
-ghost use Rattle.rules.specs.Sound.{pin_allowed, sound_row, sound_holding, sound_pins, sound};
-ghost use Rattle.sound.specs.Inner.Tests.{in_range, slot_test, place_in, no_pages, place_taken, due_in, arrived_test, awaits_test, fetching_test, waiting_test, row_test, fit_test, held_test, holding_test, borders_test, place_test, order_test, pin_weight};
+ghost use Rattle.model.specs.State.{free_row, empty_slot, row_at, slot_at, holding_at};
+ghost use Rattle.model.specs.Words.{is_free, is_filled, is_held, page_in};
+ghost use Rattle.model.specs.Changes.{rows_not_free};
+ghost use Rattle.rules.specs.Sound.{pin_allowed, arrived, awaits, sound_slot, sound_row, sound_holding, sound_pins, sound_place, same_place, sound_order, sound_borders, sound};
+ghost use Rattle.sound.specs.Inner.Tests.{lengths_test, in_range, place_in, no_pages, place_taken, pin_weight};
 
-use model::{Borders, Condition, Content, Holding, Mode, Pin, Row, Slot, State};
+use model::{Condition, Content, Holding, Mode, Pin, Row, Slot, State};
 
-fn unless(a: bool, b: bool) -> bool
-    ensures { result ≡ a && not b }
+fn is_in_range(s: &State) -> bool
+    ensures { result ≡ in_range s.now.size s.now.delay s.now.clock }
 {
-    if a {
-        if b {
-            return false;
-        }
-        return true;
-    }
-    false
+    (1..=64).contains(&s.size) & (1..=255).contains(&s.delay) & (s.clock <= 9000000000000000000)
 }
 
-// The count, one more where an element passed.
-fn counted(n: usize, b: bool) -> usize
-    requires { n < 64 }
-    ensures { result ≡ n + cond b 1 0 }
+// The arrays are as long as the definition says; their types have it so.
+fn are_whole(
+    rows: &[Row; 32],
+    slots: &[Slot; 64],
+    holdings: &[Holding; 2048],
+    places: &[usize; 32],
+) -> bool
+    ensures { result ≡ lengths_test rows.now slots.now holdings.now places.now }
 {
-    if b {
-        return n + 1;
-    }
-    n
+    (rows.len() == 32) & (slots.len() == 64) & (holdings.len() == 2048) & (places.len() == 32)
 }
 
-fn is_in_range(size: usize, delay: u64, clock: u64) -> bool
-    ensures { result ≡ in_range size delay clock }
+// An arrival is at most clock + delay.
+fn may_arrive(s: &State, arrival: u64) -> bool
+    ensures { result ≡ leb arrival (s.now.clock + s.now.delay) }
 {
-    if size < 1 {
-        return false;
-    }
-    if 64 < size {
-        return false;
-    }
-    if delay < 1 {
-        return false;
-    }
-    if 255 < delay {
-        return false;
-    }
-    clock <= 9000000000000000000
+    arrival <= s.clock.saturating_add(s.delay)
 }
 
-// The tick clock + delay, which no arrival of a sound state passes.
-fn latest_arrival(clock: u64, delay: u64) -> u64
-    requires { clock + delay < 2 ^ 64 }
-    ensures { result ≡ clock + delay }
+fn is_slot_sound(s: &State, slot: usize) -> bool
+    requires { slot < 64 }
+    ensures { result ≡ sound_slot s.now slot }
 {
-    clock + delay
-}
-
-fn is_slot_sound(x: Slot, slot: usize, size: usize, clock: u64, latest: u64) -> bool
-    ensures { result ≡ slot_test x slot size clock latest }
-{
-    let c = x.content;
-    match c {
-        Content::Empty => {
-            return x.touch == 0;
-        }
+    let x = &s.slots[slot];
+    match x.content {
+        Content::Empty => x.touch == 0,
         Content::Filled {
             page,
             arrival,
-            dirty: _,
             lowest,
+            ..
         } => {
-            if 4095 < page {
-                return false;
-            }
-            if 3 < lowest {
-                return false;
-            }
-            if clock < x.touch {
-                return false;
-            }
-            if latest < arrival {
-                return false;
-            }
-            return slot < size;
+            (page <= 4095)
+                & (lowest <= 3)
+                & (x.touch <= s.clock)
+                & may_arrive(s, arrival)
+                & (slot < s.size)
         }
     }
 }
 
-fn are_slots_sound(slots: [Slot; 64], size: usize, clock: u64, latest: u64) -> bool
-    ensures { result ≡ all_below 64 (λ slot. slot_test (get_or slots slot empty_slot) slot size clock latest) }
+// By number, here and below, as the clauses of sound name slots, rows and levels.
+fn are_slots_sound(s: &State) -> bool
+    ensures { result ≡ all_below 64 (sound_slot s.now) }
 {
-    let mut ok = true;
-    for i in 0..64usize {
-        let x = slots[i];
-        let t = is_slot_sound(x, i, size, clock, latest);
-        ok = seq::both(ok, t);
-    }
-    ok
+    (0..64usize).all(|i| is_slot_sound(s, i))
 }
 
 // Where the page of a slot is noted: at its number, and at 4096 where the slot has no page below 4096.
-fn place_of(x: Slot) -> usize
-    ensures { (result ≡ place_in x.content) × (result < 4097) }
+fn place_of(c: Content) -> usize
+    ensures { (result ≡ place_in c) × (result < 4097) }
 {
-    let c = x.content;
     match c {
-        Content::Empty => {
-            return 4096;
-        }
-        Content::Filled {
-            page,
-            arrival: _,
-            dirty: _,
-            lowest: _,
-        } => {
-            if page < 4096 {
-                return page as usize;
-            }
-            return 4096;
-        }
+        Content::Filled { page, .. } if page < 4096 => page as usize,
+        _ => 4096,
     }
 }
 
@@ -134,248 +83,117 @@ fn no_pages() -> [bool; 4097]
 }
 
 // No page below 4096 is in two slots.
-fn are_pages_apart(slots: [Slot; 64]) -> bool
-    ensures { result ≡ all_below 64 (λ slot. not (place_taken slots slot)) }
+fn are_pages_apart(slots: &[Slot; 64]) -> bool
+    ensures { result ≡ all_below 64 (λ slot. not (place_taken slots.now slot)) }
 {
     let mut seen = no_pages();
-    let mut ok = true;
-    for i in 0..64usize {
-        let x = slots[i];
-        let k = place_of(x);
-        let taken = seen[k];
+    for x in slots {
+        let k = place_of(x.content);
+        if seen[k] {
+            return false;
+        }
         seen[k] = k < 4096;
-        ok = unless(ok, taken);
-    }
-    ok
-}
-
-// The due tick of a fetching row, and 0 of another.
-fn due_of(c: Condition) -> u64
-    ensures { result ≡ due_in c }
-{
-    match c {
-        Condition::Free => 0,
-        Condition::Idle => 0,
-        Condition::Fetching(due) => due,
-        Condition::Waiting { page: _, mode: _ } => 0,
-        Condition::Killed(_) => 0,
-    }
-}
-
-fn has_arrived(h: Holding, clock: u64) -> bool
-    ensures { result ≡ arrived_test clock h }
-{
-    let p = h.pin;
-    if model::is_held(p) {
-        return h.arrival <= clock;
     }
     true
 }
 
-fn is_awaited(h: Holding, due: u64) -> bool
-    ensures { result ≡ awaits_test due h }
+// The holding has arrived, or is none.
+fn has_arrived(s: &State, h: &Holding) -> bool
+    ensures { result ≡ not (is_held h.now.pin) || leb h.now.arrival s.now.clock }
 {
-    let p = h.pin;
-    if model::is_pin(p) {
-        return h.arrival == due;
-    }
-    false
+    !model::is_held(h.pin) | (h.arrival <= s.clock)
 }
 
-// A fetching row, by whether its deadline is past, whether all its holdings have arrived or are awaited, and how many are awaited.
-fn is_fetching_sound(due: u64, past: bool, clock: u64, expected: bool, number: usize) -> bool
-    ensures { result ≡ fetching_test due past clock expected number }
+// All holdings of a row have arrived.
+fn is_settled(s: &State, row: usize) -> bool
+    requires { row < 32 }
+    ensures { result ≡ all_below 64 (λ slot. arrived s.now slot row) }
 {
-    if past {
-        return false;
-    }
-    if due <= clock {
-        return false;
-    }
-    if number == 1 {
-        return expected;
-    }
-    false
+    (0..64usize).all(|slot| has_arrived(s, &s.holdings[slot * 32 + row]))
 }
 
-// A waiting row, by whether its deadline is past, and whether all its holdings have arrived.
-fn is_waiting_sound(
-    b: Borders,
-    page: u32,
-    mode: Mode,
-    past: bool,
-    level: usize,
-    settled: bool,
-) -> bool
-    ensures { result ≡ waiting_test b page mode past level settled }
+// A row pins one page that arrives when it is due, and its other holdings have arrived. Its holdings lie 32 apart, so they go by the numbers of the slots.
+fn awaits_one(s: &State, row: usize, due: u64) -> bool
+    requires { row < 32 }
+    ensures { result ≡ eqb (count_below 64 (awaits s.now row due)) 1 && all_below 64 (λ slot. arrived s.now slot row || awaits s.now row due slot) }
 {
-    if past {
-        return false;
-    }
-    if settled {
-        if page <= 4095 {
-            let class = model::class_of(b, page);
-            return model::may_access(level, class, mode);
+    let mut number = 0usize;
+    for slot in 0..64usize {
+        let h = &s.holdings[slot * 32 + row];
+        let awaited = model::is_pin(h.pin) & (h.arrival == due);
+        if !(has_arrived(s, h) | awaited) {
+            return false;
         }
-        return false;
+        number += usize::from(awaited);
     }
-    false
+    number == 1
 }
 
-// A row, by whether all its holdings have arrived, whether all have arrived or are awaited, and how many are awaited.
-fn is_row_sound(
-    b: Borders,
-    x: Row,
-    level: usize,
-    clock: u64,
-    settled: bool,
-    expected: bool,
-    number: usize,
-) -> bool
-    ensures { result ≡ row_test b x level clock settled expected number }
+fn is_row_sound(s: &State, row: usize) -> bool
+    requires { row < 32 }
+    ensures { result ≡ sound_row s.now row }
 {
-    let c = x.condition;
-    let past = model::is_past(clock, x.deadline);
-    match c {
-        Condition::Free => {
-            return x.deadline == 0;
-        }
-        Condition::Idle => {
-            if past {
-                return false;
-            }
-            return settled;
-        }
-        Condition::Fetching(due) => {
-            return is_fetching_sound(due, past, clock, expected, number);
-        }
+    let x = &s.rows[row];
+    let in_time = !model::is_past(s.clock, x.deadline);
+    match x.condition {
+        Condition::Free | Condition::Killed(_) => x.deadline == 0,
+        Condition::Idle => in_time & is_settled(s, row),
+        Condition::Fetching(due) => in_time & (s.clock < due) & awaits_one(s, row, due),
         Condition::Waiting { page, mode } => {
-            return is_waiting_sound(b, page, mode, past, level, settled);
-        }
-        Condition::Killed(_) => {
-            return x.deadline == 0;
+            let class = model::class_of(s.borders, page);
+            in_time & is_settled(s, row) & (page <= 4095) & model::may_access(row / 8, class, mode)
         }
     }
 }
 
-// How many of the 64 slots are looked at for a row: none where it is not live.
-fn live_slots(c: Condition) -> usize
-    ensures { (result ≡ cond (is_live c) 64 0) × (result ≤ 64) }
+fn are_rows_sound(s: &State) -> bool
+    ensures { result ≡ all_below 32 (sound_row s.now) }
 {
-    if model::is_live(c) {
-        return 64;
-    }
-    0
-}
-
-// How many of the 64 slots are looked at again: none where a test of them all passed.
-fn again(passed: bool) -> usize
-    ensures { (result ≡ cond passed 0 64) × (result ≤ 64) }
-{
-    if passed {
-        return 0;
-    }
-    64
+    (0..32usize).all(|row| is_row_sound(s, row))
 }
 
 fn is_pin_allowed(level: usize, class: usize, p: Pin) -> bool
     ensures { result ≡ pin_allowed level class p }
 {
     match p {
-        Pin::Absent => {
-            return true;
-        }
-        Pin::Unpinned => {
-            return true;
-        }
-        Pin::Read => {
-            return model::may_access(level, class, Mode::Read);
-        }
-        Pin::Write => {
-            return model::may_access(level, class, Mode::Write);
-        }
+        Pin::Absent | Pin::Unpinned => true,
+        Pin::Read => model::may_access(level, class, Mode::Read),
+        Pin::Write => model::may_access(level, class, Mode::Write),
     }
-}
-
-// A holding on a filled slot, by its page's class, and by the slot's arrival, lowest level and touch.
-fn is_fit(
-    level: usize,
-    class: usize,
-    arrival: u64,
-    lowest: usize,
-    touch: u64,
-    h: Holding,
-    latest: u64,
-) -> bool
-    ensures { result ≡ fit_test level class arrival lowest touch h latest }
-{
-    let p = h.pin;
-    if is_pin_allowed(level, class, p) {
-        if h.arrival < arrival {
-            return false;
-        }
-        if latest < h.arrival {
-            return false;
-        }
-        if touch < h.touch {
-            return false;
-        }
-        return lowest <= level;
-    }
-    false
-}
-
-// A holding that is there: only of a live row, and only in a filled slot, whose page has the class.
-fn is_held_sound(level: usize, live: bool, class: usize, x: Slot, h: Holding, latest: u64) -> bool
-    ensures { result ≡ held_test level live class x h latest }
-{
-    if live {
-        let c = x.content;
-        match c {
-            Content::Empty => {
-                return false;
-            }
-            Content::Filled {
-                page: _,
-                arrival,
-                dirty: _,
-                lowest,
-            } => {
-                return is_fit(level, class, arrival, lowest, x.touch, h, latest);
-            }
-        }
-    }
-    false
-}
-
-fn is_holding_sound(level: usize, y: Row, class: usize, x: Slot, h: Holding, latest: u64) -> bool
-    ensures { result ≡ holding_test level y class x h latest }
-{
-    let p = h.pin;
-    if model::is_held(p) {
-        let c = y.condition;
-        let live = model::is_live(c);
-        return is_held_sound(level, live, class, x, h, latest);
-    }
-    if h.arrival == 0 {
-        return h.touch == 0;
-    }
-    false
 }
 
 // The class of the page in a slot, and of page 0 where there is none.
-fn class_in(b: Borders, x: Slot) -> usize
-    ensures { result ≡ class_of b (page_in x.content) }
+fn class_in(s: &State, slot: usize) -> usize
+    requires { slot < 64 }
+    ensures { result ≡ class_of s.now.borders (page_in (slot_at s.now slot).content) }
 {
-    let c = x.content;
-    match c {
-        Content::Empty => model::class_of(b, 0),
+    model::class_of(s.borders, model::page_in(s.slots[slot].content))
+}
+
+// The holding of a row on a slot, whose page has the class.
+fn is_holding_sound(s: &State, slot: usize, row: usize, class: usize) -> bool
+    requires { (slot < 64) × (row < 32) × (class ≡ class_of s.now.borders (page_in (slot_at s.now slot).content)) }
+    ensures { result ≡ sound_holding s.now slot row }
+{
+    let h = &s.holdings[slot * 32 + row];
+    if !model::is_held(h.pin) {
+        return (h.arrival == 0) & (h.touch == 0);
+    }
+    let x = &s.slots[slot];
+    match x.content {
+        Content::Empty => false,
         Content::Filled {
-            page,
-            arrival: _,
-            dirty: _,
-            lowest: _,
-        } => model::class_of(b, page),
+            arrival,
+            lowest,
+            ..
+        } => {
+            model::is_live(s.rows[row].condition)
+                & is_pin_allowed(row / 8, class, h.pin)
+                & (arrival <= h.arrival)
+                & may_arrive(s, h.arrival)
+                & (h.touch <= x.touch)
+                & (lowest <= row / 8)
+        }
     }
 }
 
@@ -384,176 +202,102 @@ fn pin_weight(p: Pin) -> u32
     ensures { (result ≡ pin_weight p) × (result ≤ 64) }
 {
     match p {
-        Pin::Absent => 0,
-        Pin::Unpinned => 0,
+        Pin::Absent | Pin::Unpinned => 0,
         Pin::Read => 1,
         Pin::Write => 64,
     }
 }
 
-// The rows, the holdings and the pins on each slot. The holdings are read from the area that names the state: reading them from the state copies them all.
-fn are_rows_and_holdings_sound(a: &[u8], s: State) -> bool
-    requires { (65536 ≤ length a.now) × (s ≡ decoded a.now) × (s.clock + s.delay < 2 ^ 64) }
-    ensures { result ≡ all_below 32 (sound_row s) && all_below 64 (λ slot. all_below 32 (sound_holding s slot)) && all_below 64 (sound_pins s) }
+// The holdings on a slot, and its pins, by the numbers of the rows, as `sound_holding` names them.
+fn are_slot_holdings_sound(s: &State, slot: usize) -> bool
+    requires { slot < 64 }
+    ensures { result ≡ all_below 32 (sound_holding s.now slot) && sound_pins s.now slot }
 {
-    let rows = s.rows;
-    let slots = s.slots;
-    let mut valid = true;
-    for r in 0..32usize {
-        let x = rows[r];
-        let c = x.condition;
-        let due = due_of(c);
-        let most = live_slots(c);
-        let mut quiet = true;
-        for i in 0..most {
-            let h = area::holding_at(a, i * 32 + r);
-            let past = h.arrival <= s.clock;
-            quiet = seq::both(quiet, past);
+    let class = class_in(s, slot);
+    let mut weight = 0u32;
+    for row in 0..32usize {
+        if !is_holding_sound(s, slot, row, class) {
+            return false;
         }
-        let n = again(quiet);
-        let mut settled = true;
-        let mut expected = true;
-        let mut number: usize = 0;
-        for i in 0..n {
-            let h = area::holding_at(a, i * 32 + r);
-            let here = has_arrived(h, s.clock);
-            let awaited = is_awaited(h, due);
-            let known = seq::either(here, awaited);
-            settled = seq::both(settled, here);
-            expected = seq::both(expected, known);
-            number = counted(number, awaited);
-        }
-        let t = is_row_sound(s.borders, x, r / 8, s.clock, settled, expected, number);
-        valid = seq::both(valid, t);
+        weight += pin_weight(s.holdings[slot * 32 + row].pin);
     }
-    let mut ok = true;
-    let mut clear = true;
-    for i in 0..64usize {
-        let latest = latest_arrival(s.clock, s.delay);
-        let x = slots[i];
-        let class = class_in(s.borders, x);
-        let mut fit = true;
-        let mut weight: u32 = 0;
-        for r in 0..32usize {
-            let h = area::holding_at(a, i * 32 + r);
-            let y = rows[r];
-            let t = is_holding_sound(r / 8, y, class, x, h, latest);
-            let p = h.pin;
-            fit = seq::both(fit, t);
-            weight = weight + pin_weight(p);
-        }
-        ok = seq::both(ok, fit);
-        let light = weight <= 64;
-        clear = seq::both(clear, light);
-    }
-    seq::both(seq::both(valid, ok), clear)
+    weight <= 64
 }
 
-fn are_rows_free(rows: [Row; 32]) -> bool
-    ensures { result ≡ all_below 32 (λ row. is_free (get_or rows row free_row).condition) }
+fn are_holdings_sound(s: &State) -> bool
+    ensures { result ≡ all_below 64 (λ slot. all_below 32 (sound_holding s.now slot) && sound_pins s.now slot) }
 {
-    let mut ok = true;
-    for r in 0..32usize {
-        let x = rows[r];
-        let c = x.condition;
-        let free = model::is_free(c);
-        ok = seq::both(ok, free);
-    }
-    ok
+    (0..64usize).all(|slot| are_slot_holdings_sound(s, slot))
 }
 
-fn are_slots_empty(slots: [Slot; 64]) -> bool
-    ensures { result ≡ all_below 64 (λ slot. not (is_filled (get_or slots slot empty_slot).content)) }
+fn are_rows_free(rows: &[Row; 32]) -> bool
+    ensures { result ≡ all_below 32 (λ row. is_free (get_or rows.now row free_row).condition) }
 {
-    let mut ok = true;
-    for i in 0..64usize {
-        let x = slots[i];
-        let c = x.content;
-        let filled = model::is_filled(c);
-        ok = unless(ok, filled);
-    }
-    ok
+    rows.iter().all(|x| model::is_free(x.condition))
 }
 
-// The borders do not fall and are at most 4,096, and before a row has begun rows are free and slots empty.
-fn are_borders_sound(b: Borders, begun: bool, rows: [Row; 32], slots: [Slot; 64]) -> bool
-    ensures { result ≡ borders_test b begun rows slots }
+fn are_slots_empty(slots: &[Slot; 64]) -> bool
+    ensures { result ≡ all_below 64 (λ slot. not (is_filled (get_or slots.now slot empty_slot).content)) }
 {
-    if model::are_borders(b) {
-        if begun {
-            return true;
-        }
-        return seq::both(are_rows_free(rows), are_slots_empty(slots));
-    }
-    false
+    slots.iter().all(|x| !model::is_filled(x.content))
+}
+
+// Before a row has begun rows are free and slots empty.
+fn are_borders_sound(s: &State) -> bool
+    ensures { result ≡ sound_borders s.now }
+{
+    let fresh = are_rows_free(&s.rows) & are_slots_empty(&s.slots);
+    model::are_borders(s.borders) & (s.begun | fresh)
 }
 
 // A row's place in the begin order: 0 for a free row, and from 1 to the most for another.
-fn is_place_sound(free: bool, place: usize, most: usize) -> bool
-    ensures { result ≡ place_test free place most }
+fn is_place_sound(s: &State, level: usize, number: usize, most: usize) -> bool
+    requires { (level < 4) × (number < 8) × (most ≡ rows_not_free s.now.rows level) }
+    ensures { result ≡ sound_place s.now level number }
 {
-    if free {
-        return place == 0;
+    let place = s.places[level * 8 + number];
+    if model::is_free(s.rows[level * 8 + number].condition) {
+        place == 0
+    } else {
+        (1 <= place) & (place <= most)
     }
-    if place < 1 {
-        return false;
-    }
-    place <= most
 }
 
-// The begin orders of the levels, in one function: a function of one level would copy the rows and the places at each call.
-fn are_orders_sound(rows: [Row; 32], places: [usize; 32]) -> bool
-    ensures { result ≡ all_below 4 (order_test rows places) }
+// No row of a level before this one has its place.
+fn is_alone(s: &State, level: usize, number: usize) -> bool
+    requires { (level < 4) × (number < 8) }
+    ensures { result ≡ all_below number (λ other. not (same_place s.now level number other)) }
 {
-    let mut ok = true;
-    for level in 0..4usize {
-        let mut most: usize = 0;
-        for number in 0..8usize {
-            let x = rows[level * 8 + number];
-            let c = x.condition;
-            let taken = unless(true, model::is_free(c));
-            most = counted(most, taken);
-        }
-        let mut fit = true;
-        let mut apart = true;
-        for number in 0..8usize {
-            let x = rows[level * 8 + number];
-            let c = x.condition;
-            let place = places[level * 8 + number];
-            let t = is_place_sound(model::is_free(c), place, most);
-            fit = seq::both(fit, t);
-            let mut alone = true;
-            for other in 0..number {
-                let before = places[level * 8 + other];
-                let same = seq::both(0 < place, place == before);
-                alone = unless(alone, same);
-            }
-            apart = seq::both(apart, alone);
-        }
-        ok = seq::both(ok, seq::both(fit, apart));
-    }
-    ok
+    let place = s.places[level * 8 + number];
+    (0..number).all(|other| !((0 < place) & (place == s.places[level * 8 + other])))
 }
 
-// Whether the state that an area names is sound. Its numbers may be any, so their ranges come first: else clock + delay may be no number of 64 bits.
-pub fn is_sound(a: &[u8], s: State) -> bool
-    requires { (65536 ≤ length a.now) × (s ≡ decoded a.now) }
-    ensures { result ≡ sound s }
+fn is_order_sound(s: &State, level: usize) -> bool
+    requires { level < 4 }
+    ensures { result ≡ sound_order s.now level }
 {
-    if !is_in_range(s.size, s.delay, s.clock) {
-        return false;
-    }
-    let all = s.slots;
-    let latest = latest_arrival(s.clock, s.delay);
-    let slots = are_slots_sound(all, s.size, s.clock, latest);
-    let pages = are_pages_apart(all);
-    let holdings = are_rows_and_holdings_sound(a, s);
-    let rows = s.rows;
-    let borders = are_borders_sound(s.borders, s.begun, rows, all);
-    let places = s.places;
-    let orders = are_orders_sound(rows, places);
-    seq::both(
-        seq::both(seq::both(seq::both(slots, pages), holdings), borders),
-        orders,
-    )
+    let most = model::rows_not_free(s.rows, level);
+    (0..8usize).all(|number| {
+        is_place_sound(s, level, number, most) & is_alone(s, level, number)
+    })
+}
+
+fn are_orders_sound(s: &State) -> bool
+    ensures { result ≡ all_below 4 (sound_order s.now) }
+{
+    (0..4usize).all(|level| is_order_sound(s, level))
+}
+
+// Whether a state is sound.
+pub fn is_sound(s: &State) -> bool
+    ensures { result ≡ sound s.now }
+{
+    are_whole(&s.rows, &s.slots, &s.holdings, &s.places)
+        & is_in_range(s)
+        & are_slots_sound(s)
+        & are_pages_apart(&s.slots)
+        & are_rows_sound(s)
+        & are_holdings_sound(s)
+        & are_borders_sound(s)
+        & are_orders_sound(s)
 }

@@ -1,34 +1,30 @@
 -- Records that are read one by one and played, and their text.
 use Prim.{tt}
 use mathlib.Core.Path.{◌≡◌, refl, ◌∙◌, sym, ap}
-use mathlib.Core.Bool.{Bool, true, false, cond, ◌||◌}
+use mathlib.Core.Bool.{Bool, true, false, cond}
 use mathlib.Core.List.{List, [], ◌∷◌, ◌++◌, append_assoc, append-nil}
 use Prim.Native.Nat.{ℕ, ◌+◌, ◌-◌, ◌<◌, ◌≤◌}
 use native.Mathlib.Decide.{dec_lt}
 use native.Mathlib.Omega.{arith}
-use borrow.Author.Tests.{eqb-false, eqb-true, ltb-false}
-use lib.Dec.{eqb, ltb}
-use lib.ListN.{length, take, drop, length-append}
+use borrow.Author.Tests.{ltb-false}
+use lib.Dec.{ltb}
+use lib.ListN.{length, take, drop, length-append, length-take}
 use lib.Seq.{length-take-le, take_at}
 use Rattle.std.proofs.Common.{subst, None, Some, IfSome}
 use Rattle.std.specs.Io.KnownBytes.{Appends, Consumes, IsAtEnd}
 use Rattle.std.proofs.KnownBytes.{Appends-trans, Consumes-nil, Consumes-trans}
 use Rattle.std.specs.declared.option.Option.{Option}
-use Rattle.seq.proofs.Tests.{true_false, or_false}
+use Rattle.seq.proofs.Tests.{true_false}
 use Rattle.words.specs.Bytes.{Wrote}
 use Rattle.words.proofs.WroteLaws.{wrote_none}
 use Rattle.record.specs.declared.Progress.{Progress}
 use Rattle.record.specs.Record.{record_width}
 use Rattle.record.specs.Text.{most_text, header}
-use Rattle.record.specs.Play.{Played, unplayed, played_one, and_then, played, first_records, records_of, first_progress, AllFull, input_of}
+use Rattle.record.specs.Play.{Played, unplayed, played_one, and_then, played, first_records, records_of, AllFull, input_of}
 use Rattle.record.proofs.PlayLaws.{Came, one_small, cut_over}
 use Rattle.record.proofs.RecordLaws.{widths}
 use Rattle.record.proofs.RunLaws.{full_record, full_more, records_input, played_append, played_alone, played_over, last_record}
 use Rattle.stream.specs.Left.{first_from, LeftBySome, printed_from}
-
-pub first_from_lem : (t : Progress) (started : Bool) → t ≡ first_progress → record { started = started; over = t.over; number = t.number } ≡ first_from started
-unfolding first_progress first_from
-first_from_lem t started e = ap (λ (u : Progress). record { started = started; over = u.over; number = u.number }) e
 
 -- what was read is no record, or one, which may be cut
 module _ (t : Progress) (a : List ℕ) where
@@ -87,6 +83,10 @@ module _ (t : Progress) (a : List ℕ) where
           let s = read_small (take n bytes) (omega arith) in
           (omega (arith, w.1.1.ends, s.0), rw w.0 s.1)
 
+-- no more bytes are taken than were read
+pub read_within : (n : ℕ) (bytes : List ℕ) → n ≤ record_width (take n bytes) → length (take n bytes) ≤ record_width (take n bytes)
+read_within n bytes h = omega (arith, h, length-take {A = ℕ})
+
 -- the bytes of some records, and more after them
 input_then : (rs : List (List ℕ)) (q : List ℕ) → input_of rs [] ++ q ≡ input_of rs q
 unfolding input_of
@@ -127,13 +127,13 @@ pub left_none : (started : Bool) (a : List ℕ) → LeftBySome started a a
 left_none started a = record { input = []; left = ap (λ (q : Played). q.area) (sym (read_none (first_from started) a)) }
 
 -- a run that begins, after the header
-pub run_first : (started : Bool) (a : List ℕ) (had held holds : Option (List ℕ)) (n : Progress) (blank out : List ℕ) (end : ℕ) → n ≡ first_from started → Wrote blank 0 header out end
-    → Appends held holds (take end out) → Run started a had had held holds n a out 0 0
+pub run_first : (started : Bool) (a : List ℕ) (had held holds : Option (List ℕ)) (blank out : List ℕ) (end : ℕ) → Wrote blank 0 header out end
+    → Appends held holds (take end out) → Run started a had had held holds (first_from started) a out 0 0
 unfolding played input_of
-run_first started a had held holds n blank out end e w h = record {
+run_first started a had held holds blank out end w h = record {
   records = [];
   full = tt;
-  progress_is = e;
+  progress_is = refl;
   area_is = refl;
   read = Consumes-nil had;
   told = take end out;
@@ -142,13 +142,13 @@ run_first started a had held holds n blank out end e w h = record {
   counted = omega arith;
 }
 
-module _ (started : Bool) (a : List ℕ) (had has held holds : Option (List ℕ)) (n : Progress) (b out : List ℕ) (at count : ℕ) (h : Run started a had has held holds n b out at count) where
+module _ {started : Bool} {a : List ℕ} {had has held holds : Option (List ℕ)} {n : Progress} {b out : List ℕ} {at count : ℕ} (h : Run started a had has held holds n b out at count) where
   goes_on : (rs : List (List ℕ)) → played (first_from started) a (h.records ++ rs) ≡ and_then (played (first_from started) a h.records) (played n b rs)
   goes_on rs = rw (h.progress_is, h.area_is) (played_append (first_from started) a h.records rs)
 
   -- the text before the place is written, and the next goes there or to the front
-  pub run_room : (holds' : Option (List ℕ)) (at' : ℕ) (full : Bool) → at' ≡ cond full 0 at → Appends holds holds' (take (at - at') out) → Run started a had has held holds' n b out at' count
-  run_room holds' at' full e w = record {
+  pub run_room : {holds' : Option (List ℕ)} {at' : ℕ} (full : Bool) → at' ≡ cond full 0 at → Appends holds holds' (take (at - at') out) → Run started a had has held holds' n b out at' count
+  run_room {holds'} {at'} full e w = record {
     records = h.records;
     full = h.full;
     progress_is = h.progress_is;
@@ -181,7 +181,7 @@ module _ (started : Bool) (a : List ℕ) (had has held holds : Option (List ℕ)
       (λ rest f l. absurd (omega (arith, h.counted, length-append (input_of h.records []) rest)))
 
   -- the next record, which may be none, cut or bad
-  module _ (has' : Option (List ℕ)) (n' : Progress) (r b' out' : List ℕ) (end : ℕ) (k : length r ≤ record_width r) (c : Consumes has has' r) (v : Came (played n b (records_of r)) n' b' out at out' end) (m : at ≤ length out) where
+  module _ (has' : Option (List ℕ)) {n' : Progress} (r : List ℕ) {b' out' : List ℕ} {end : ℕ} (k : length r ≤ record_width r) (c : Consumes has has' r) (v : Came (played n b (records_of r)) n' b' out at out' end) (m : at ≤ length out) where
     more_text : h.told ++ take end out' ≡ header ++ (and_then (played (first_from started) a h.records) (played n b (records_of r))).text
     more_text =
         let before = (played (first_from started) a h.records).text in
@@ -235,18 +235,6 @@ module _ (started : Bool) (a : List ℕ) (had has held holds : Option (List ℕ)
       unfolding printed_from
       whole_text most holds' w = some_read had has' (input_of h.records [] ++ r) (λ input. length input < most → Appends held holds' (header ++ (played (first_from started) a (records_of input)).text)) all_read
           (λ rest e l. subst (Appends held holds') (more_text ∙ ap (λ (q : Played). header ++ q.text) (sym (all_played rest e))) (Appends-trans held holds holds' h.told (take end out') h.written w))
-
-pub not_last : (n : ℕ) (over r : Bool) → r ≡ (eqb n 0 || over) → r ≡ false → (n ≡ 0 → ⊥) × (over ≡ false)
-not_last n over r e f =
-    let o = or_false (eqb n 0) over (sym e ∙ f) in
-    (eqb-false n 0 o.0, o.1)
-
-pub is_last : (n : ℕ) (over r : Bool) → r ≡ (eqb n 0 || over) → r ≡ true → 0 < n → over ≡ true
-is_last n over r e f p = go (eqb n 0) refl (sym e ∙ f)
-  where
-    go : (c : Bool) → eqb n 0 ≡ c → (c || over) ≡ true → over ≡ true
-    go true q t = absurd (omega (arith, eqb-true n 0 q))
-    go false q t = t
 
 pub room_left : (long end at : ℕ) → most_text ≤ long → end ≤ long → at ≡ cond (ltb (long - end) most_text) 0 end → at + most_text ≤ long
 room_left long end at h k e = rw e (go (ltb (long - end) most_text) refl)

@@ -1,7 +1,7 @@
 // Records from a reader, played on an area; the header and their lines go to a writer.
 #![tactic(auto)]
 
-ghost use Rattle.std.specs.Prelude.{◌≡◌, cond, ◌||◌, eqb, ltb, ◌+◌, ◌-◌, ◌^◌, ◌<◌, ◌≤◌, length, take, IfSome, IfOk, OnOk, OnErr};
+ghost use Rattle.std.specs.Prelude.{◌≡◌, cond, ltb, ◌+◌, ◌-◌, ◌^◌, ◌<◌, ◌≤◌, length, take, IfSome, IfOk, OnOk, OnErr};
 ghost use Rattle.std.specs.Io.{ReadsAtMost};
 ghost use Rattle.std.specs.Io.KnownBytes.{Appends, Consumes, IsAtEnd, ReadConsumes};
 ghost use Rattle.words.specs.Bytes.{Wrote};
@@ -15,6 +15,7 @@ use std::io;
 use std::io::{ErrorKind, Read, Write};
 
 // How many bytes of the next record were read, none where the input has ended; a run's progress after it, and the place past its text.
+// `read` is a number, since the clauses read, bytes and end of `play_next` say how many bytes the reader lost, also where it lost none.
 #[derive(Clone, Copy)]
 pub struct Turn {
     pub read: usize,
@@ -22,7 +23,7 @@ pub struct Turn {
     pub end: usize,
 }
 
-// One read, made again where a signal interrupts it.
+// One read, made again where a signal interrupts it. A proved loop has to end, so that is counted to a number that no run reaches.
 fn read_some<R: Read>(reader: &mut R, bytes: &mut [u8]) -> io::Result<usize>
     ensures bound { ReadsAtMost result bytes.new }
     ensures bytes { ReadConsumes (R.remaining reader.old) (R.remaining reader.new) result bytes.new }
@@ -40,7 +41,7 @@ fn read_some<R: Read>(reader: &mut R, bytes: &mut [u8]) -> io::Result<usize>
     reader.read(bytes)
 }
 
-// Reads until the lent bytes are full or the input ends, and answers how many were read.
+// Reads until the lent bytes are full or the input ends, and answers how many were read, which std's read_exact does not say.
 pub fn read_full<R: Read>(reader: &mut R, bytes: &mut [u8]) -> io::Result<usize>
     ensures bound { ReadsAtMost result bytes.new }
     ensures bytes { IfOk result (λ n. Consumes (R.remaining reader.old) (R.remaining reader.new) (take n bytes.new)) }
@@ -103,35 +104,11 @@ pub fn play_next<R: Read>(
         });
     }
     let step = record::play_one(area, progress, &bytes[..read], out, at);
-    let next = step.progress;
     Ok(Turn {
         read,
-        progress: next,
+        progress: step.progress,
         end: step.end,
     })
-}
-
-fn record_buffer() -> [u8; record::LONG_WIDTH]
-    ensures { long_width ≡ length result }
-{
-    [0; record::LONG_WIDTH]
-}
-
-// 65,536 zeros: as many as an area has, and room for the text of some records.
-fn large_buffer() -> [u8; 65536]
-    ensures { 65536 ≡ length result }
-{
-    [0; 65536]
-}
-
-// Nothing follows: the input has ended, or the record was bad.
-fn is_last(read: usize, over: bool) -> bool
-    ensures { result ≡ (eqb read 0 || over) }
-{
-    if read == 0 {
-        return true;
-    }
-    over
 }
 
 // The text up to a place is written if less than a record's text is free after it, and the next text then goes to the front. The answer is its place.
@@ -160,10 +137,13 @@ pub fn play_input<R: Read, W: Write>(
     ensures whole { OnOk result (IfSome (R.remaining reader.old) (λ input. length input < most_records → area.new ≡ (played (first_from started) area.old (records_of input)).area)) }
     ensures printed { OnOk result (IfSome (R.remaining reader.old) (λ input. length input < most_records → Appends (W.contents writer.old) (W.contents writer.new) (printed_from started area.old input))) }
 {
-    let mut out = large_buffer();
-    let mut bytes = record_buffer();
-    let mut progress = record::first_progress();
-    progress.started = started;
+    // Room for the text of some records.
+    let mut out = [0; 65536];
+    let mut bytes = [0; record::LONG_WIDTH];
+    let mut progress = Progress {
+        started,
+        ..Progress::FIRST
+    };
     let head = record::put_header(&mut out);
     writer.write_all(&out[..head])?;
     let mut at = 0;
@@ -175,14 +155,13 @@ pub fn play_input<R: Read, W: Write>(
                 return Err(e);
             }
         };
-        let next = turn.progress;
-        let end = turn.end;
-        if is_last(turn.read, next.over) {
-            writer.write_all(&out[..end])?;
+        // Nothing follows where the input has ended, or after a bad record.
+        if turn.read == 0 || turn.progress.over {
+            writer.write_all(&out[..turn.end])?;
             return Ok(());
         }
-        at = make_room(writer, &out, end)?;
-        progress = next;
+        at = make_room(writer, &out, turn.end)?;
+        progress = turn.progress;
     }
     writer.write_all(&out[..at])?;
     Ok(())
@@ -190,7 +169,7 @@ pub fn play_input<R: Read, W: Write>(
 
 // The player: standard input, on an area that is not started.
 pub fn play_standard_input(rt: &(impl Input + Print)) -> io::Result<()> {
-    let mut area = large_buffer();
+    let mut area = [0; 65536];
     let mut reader = rt.reader();
     let mut writer = io::writer(rt);
     play_input(&mut reader, &mut writer, &mut area, false)
@@ -236,7 +215,7 @@ mod tests {
     // The reader fails in the third record: the answer is its error, and the lines of the two before it are written.
     #[test]
     fn failed_read(rt: HostRuntime) {
-        let mut area = large_buffer();
+        let mut area = [0; 65536];
         let mut writer = Vec::new(rt.alloc());
         let mut reader = Failing {
             at: 0,

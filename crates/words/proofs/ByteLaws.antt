@@ -5,10 +5,10 @@ use Prim.Native.Nat.{ℕ, zero, suc, ◌+◌, ◌*◌, ◌/◌, ◌%◌, ◌^◌
 use native.Mathlib.Nat.{add-zero, pow-suc, pow-zero, le_of_suc-le-suc, lt_of_lt_of_le, pow-le-pow_right}
 use native.Mathlib.Omega.{arith}
 use lib.Dec.{lit<}
-use lib.ListN.{length, get_or, take, drop, replicate, length-append, length-take, length-drop}
+use lib.ListN.{length, get_or, take, drop, replicate, replicate-append-replicate, length-append, length-take, length-drop}
 use lib.Seq.{drop-append-add, drop-append-le, take-append-le, take_at, get_or-drop}
 use Rattle.seq.proofs.EachLaws.{replicate_at}
-use Rattle.words.specs.Bytes.{value_of, bytes_of, part, AllUnder, word_at, word_bytes}
+use Rattle.words.specs.Bytes.{value_of, bytes_of, part, AllUnder, word_at, word_bytes, zero_words}
 
 -- ---- bounds
 
@@ -93,6 +93,14 @@ pub length_words : (ws : List ℕ) → length (word_bytes ws) ≡ length ws * 8
 unfolding word_bytes
 length_words [] = refl
 length_words (w ∷ ws) = simp length-append (omega (arith, length_bytes 8 w, length_words ws))
+
+-- zero words are zero bytes
+pub zeros_filled : (n : ℕ) → replicate (n * 8) 0 ≡ zero_words n
+unfolding word_bytes bytes_of
+zeros_filled zero = refl
+zeros_filled (suc n) =
+    let m : suc n * 8 ≡ 8 + n * 8 = omega arith in
+    rw (m, ← replicate-append-replicate {A = ℕ} 8 (n * 8) 0, zeros_filled n)
 
 pub words_under : (ws : List ℕ) → AllUnder 256 (word_bytes ws)
 unfolding word_bytes

@@ -33,7 +33,7 @@ same_self (a ∷ x) = both_true (eq-eqb a a refl) (same_self x)
 pub true_same : (x y : List ℕ) → x ≡ y → same x y ≡ true
 true_same x y e = rw e (same_self y)
 
-and_assoc : (a b c : Bool) → a && (b && c) ≡ (a && b) && c
+pub and_assoc : (a b c : Bool) → a && (b && c) ≡ (a && b) && c
 and_assoc true b c = refl
 and_assoc false b c = refl
 

@@ -1,79 +1,38 @@
--- Bytes that are zero, and words that are.
-use mathlib.Core.Path.{◌≡◌, refl, ◌∙◌, sym, ap}
-use mathlib.Core.Bool.{Bool, true, false, cond, ◌&&◌}
-use mathlib.Core.List.{List}
-use Prim.Native.Nat.{ℕ, zero, suc, ◌+◌, ◌*◌, ◌/◌, ◌%◌, ◌<◌, ◌≤◌}
-use native.Mathlib.Nat.{add-zero}
+-- Words that are zero, by the largest of their bytes.
+use mathlib.Core.Path.{◌≡◌, refl, ◌∙◌, sym}
+use mathlib.Core.Bool.{Bool, true, false, ◌&&◌}
+use mathlib.Core.List.{List, [], ◌∷◌}
+use Prim.Native.Nat.{ℕ, ◌+◌, ◌*◌, ◌≤◌, max}
 use native.Mathlib.Omega.{arith}
-use borrow.Author.Tests.{lt-ltb, eq-eqb, ne_eqb, eqb-true, ltb-true, ltb-false}
-use lib.Dec.{ltb, eqb}
-use lib.ListN.{length, get_or, replicate, length-replicate, get_or-replicate}
-use Rattle.seq.specs.Below.{all_below}
-use Rattle.seq.proofs.Tests.{same_truth}
-use Rattle.seq.proofs.BelowLaws.{all_turn, all_each, each_all}
-use Rattle.words.specs.Bytes.{word_at, has_words}
-use Rattle.words.proofs.SpliceLaws.{read_eight}
+use borrow.Author.Tests.{eq-eqb, eqb-true}
+use lib.Dec.{eqb}
+use lib.ListN.{length, replicate}
+use Rattle.std.specs.List.{fold}
+use Rattle.seq.proofs.Tests.{same_truth, and_true, both_true}
+use Rattle.words.specs.Bytes.{part, same, has_words, AllUnder}
+use Rattle.words.proofs.ByteLaws.{zeros_filled}
+use Rattle.words.proofs.JoinLaws.{length_part}
+use Rattle.words.proofs.SameLaws.{has_zeros, and_assoc}
 
--- the larger of two numbers is zero where both are
-larger_zero : (m x : ℕ) → eqb (cond (ltb m x) x m) 0 ≡ eqb m 0 && eqb x 0
-larger_zero m x = go (ltb m x) refl m refl
-  where
-    go : (b : Bool) → ltb m x ≡ b → (k : ℕ) → m ≡ k → eqb (cond b x m) 0 ≡ eqb m 0 && eqb x 0
-    go true e zero q = rw (eq-eqb m 0 q)
-    go true e (suc k) q = ne_eqb x 0 (omega (arith, ltb-true m x e)) ∙ sym (rw (ne_eqb m 0 (omega arith)))
-    go false e zero q =
-        let x0 : x ≡ 0 = omega (arith, ltb-false m x e) in
-        rw (eq-eqb m 0 q) (sym (eq-eqb x 0 x0))
-    go false e (suc k) q = rw (ne_eqb m 0 (omega arith))
+and_true_right : (b : Bool) → b && true ≡ b
+and_true_right true = refl
+and_true_right false = refl
 
-module _ (a : List ℕ) (at : ℕ) where
-  abbrev pub zero_byte : ℕ → Bool
-  zero_byte i = eqb (get_or a (at + i) 0) 0
+larger_zero : (m x : ℕ) → eqb (max m x) 0 ≡ eqb m 0 && eqb x 0
+larger_zero m x = same_truth (eqb (max m x) 0) (eqb m 0 && eqb x 0)
+    (λ t. let e = eqb-true (max m x) 0 t in both_true (eq-eqb m 0 (omega arith)) (eq-eqb x 0 (omega arith)))
+    (λ t.
+    let e = and_true (eqb m 0) (eqb x 0) t in
+    let em = eqb-true m 0 e.0 in
+    let ex = eqb-true x 0 e.1 in
+    eq-eqb (max m x) 0 (omega arith))
 
-  pub zero_turn : (j m x r : ℕ) → eqb m 0 ≡ all_below j zero_byte → x ≡ get_or a (at + j) 0 → r ≡ cond (ltb m x) x m → eqb r 0 ≡ all_below (j + 1) zero_byte
-  zero_turn j m x r e f g = all_turn zero_byte j (eqb m 0) (eqb x 0) (eqb r 0) e (ap (λ (y : ℕ). eqb y 0) f) (ap (λ (y : ℕ). eqb y 0) g ∙ larger_zero m x)
+-- the largest of some numbers is zero where all are
+largest_zero : (m : ℕ) (xs : List ℕ) → eqb (fold max m xs) 0 ≡ eqb m 0 && same xs (replicate (length xs) 0)
+unfolding same
+largest_zero m [] = sym (and_true_right (eqb m 0))
+largest_zero m (x ∷ xs) = largest_zero (max m x) xs ∙ rw (larger_zero m x) (sym (and_assoc (eqb m 0) (eqb x 0) (same xs (replicate (length xs) 0))))
 
-  -- a word is zero where its eight bytes are
-  pub bytes_word : at + 8 ≤ length a → ((i : ℕ) → i < 8 → get_or a (at + i) 0 ≡ 0) → word_at a at ≡ 0
-  bytes_word h f =
-      sym (read_eight a at 0 0 0 0 0 0 0 0 h (sym (rw (add-zero at) at (f 0 (omega arith)))) (sym (f 1 (omega arith))) (sym (f 2 (omega arith))) (sym (f 3 (omega arith)))
-      (sym (f 4 (omega arith))) (sym (f 5 (omega arith))) (sym (f 6 (omega arith))) (sym (f 7 (omega arith))))
-
-  pub word_bytes_lem : at + 8 ≤ length a → word_at a at ≡ 0 → (i : ℕ) → i < 8 → get_or a (at + i) 0 ≡ 0
-  word_bytes_lem h e =
-      let q = read_eight a at (get_or a at 0) (get_or a (at + 1) 0) (get_or a (at + 2) 0) (get_or a (at + 3) 0) (get_or a (at + 4) 0) (get_or a (at + 5) 0) (get_or a (at + 6) 0) (get_or a (at + 7) 0) h
-      refl refl refl refl refl refl refl refl ∙ e in
-      go q
-    where
-      go : get_or a at 0 + 256 * (get_or a (at + 1) 0 + 256 * (get_or a (at + 2) 0 + 256 * (get_or a (at + 3) 0 + 256 * (get_or a (at + 4) 0 + 256 * (get_or a (at + 5) 0 + 256 * (get_or a (at + 6) 0 + 256 * get_or a (at + 7) 0)))))) ≡ 0
-          → (i : ℕ) → i < 8 → get_or a (at + i) 0 ≡ 0
-      go q zero b = rw (add-zero at) (omega arith)
-      go q (suc zero) b = omega arith
-      go q (suc (suc zero)) b = omega arith
-      go q (suc (suc (suc zero))) b = omega arith
-      go q (suc (suc (suc (suc zero)))) b = omega arith
-      go q (suc (suc (suc (suc (suc zero))))) b = omega arith
-      go q (suc (suc (suc (suc (suc (suc zero)))))) b = omega arith
-      go q (suc (suc (suc (suc (suc (suc (suc zero))))))) b = omega arith
-      go q (suc (suc (suc (suc (suc (suc (suc (suc i)))))))) b = absurd (omega arith)
-
--- all bytes of some words are zero where the words are
-pub zero_bytes : (a : List ℕ) (at n m : ℕ) → m ≡ n * 8 → at + n * 8 ≤ length a → all_below m (zero_byte a at) ≡ has_words a at (replicate n 0)
-unfolding has_words
-zero_bytes a at n m e h = same_truth _ _
-    (λ t. each_all word (length (replicate n 0)) (λ j b.
-    let j-is : j < n = omega (arith, length-replicate {A = ℕ} n 0) in
-    eq-eqb (word_at a (at + j * 8)) (get_or (replicate n 0) j 0)
-    (bytes_word a (at + j * 8) (omega arith) (λ i c. eqb-true (get_or a (at + j * 8 + i) 0) 0 (moved j i (all_each (zero_byte a at) m (j * 8 + i) t (omega arith))))
-    ∙ sym (get_or-replicate {A = ℕ} n j 0 0 j-is))))
-    (λ t. each_all (zero_byte a at) m (λ i b.
-    let j-is : i / 8 < n = omega arith in
-    let w = eqb-true (word_at a (at + i / 8 * 8)) (get_or (replicate n 0) (i / 8) 0) (all_each word (length (replicate n 0)) (i / 8) t (omega (arith, length-replicate {A = ℕ} n 0))) ∙ get_or-replicate {A = ℕ} n (i / 8) 0 0 j-is in
-    let p : at + i / 8 * 8 + i % 8 ≡ at + i = omega arith in
-    eq-eqb (get_or a (at + i) 0) 0 (rw p at (word_bytes_lem a (at + i / 8 * 8) (omega arith) w (i % 8) (omega arith)))))
-  where
-    word : ℕ → Bool
-    word j = eqb (word_at a (at + j * 8)) (get_or (replicate n 0) j 0)
-
-    moved : (j i : ℕ) → eqb (get_or a (at + (j * 8 + i)) 0) 0 ≡ true → eqb (get_or a (at + j * 8 + i) 0) 0 ≡ true
-    moved j i q = let p : at + (j * 8 + i) ≡ at + j * 8 + i = omega arith in rw p at q
+pub zero_words_read : (a : List ℕ) (at n k r : ℕ) → AllUnder 256 a → at + n * 8 ≤ length a → k ≡ n * 8 → r ≡ fold max 0 (part a at k) → eqb r 0 ≡ has_words a at (replicate n 0)
+zero_words_read a at n k r u h e f =
+    rw (f, e) (largest_zero 0 (part a at (n * 8)) ∙ rw (length_part a at (n * 8) h, zeros_filled n) (sym (has_zeros a at n u h)))

@@ -2,6 +2,7 @@ use mathlib.Core.Path.{◌≡◌, ◌∙◌, ap}
 use Prim.Native.Nat.{ℕ, ◌+◌, ◌≤◌}
 use native.Mathlib.Omega.{arith}
 use lib.ListN.{set}
+use Rattle.std.proofs.lemmas.Grind.{common_steps}
 use Rattle.model.specs.declared.Answer.TheVariants.{Begun}
 use Rattle.model.specs.declared.Condition.TheVariants.{Idle}
 use Rattle.model.specs.declared.Setting.TheVariants as Setting
@@ -13,14 +14,8 @@ use Rattle.model.specs.Inner.Changed.{with_setting}
 use Rattle.model.proofs.Ranges.{state_ok}
 use Rattle.rules.specs.Refusals.{begin_refusal}
 use Rattle.rules.specs.Calls.{row_begun, begun}
-use Rattle.calls.proofs.RefusalLaws.{taken}
-use Rattle.calls.proofs.ReplyLaws.{refused_after, set_after}
+use Rattle.calls.proofs.ReplyLaws.{set_after}
 use Rattle.calls.proofs.begin.Goals as goal
-use Rattle.calls.proofs.begin.Goals.{After-row_refusal-n}
-
-number : (c : After-row_refusal-n) → let a = c.args in c.row_refusal-n.result ≡ begin_refusal a.s a.level a.number a.deadline
-unfolding begin_refusal
-number c = cc
 
 begun_is : (s : State) (level number deadline row place : ℕ) → row ≡ row_of level number → place ≡ rows_not_free s.rows level + 1 → number ≤ 7
     → with_setting (with_rows s (set s.rows row (record { condition = Idle; deadline = deadline }))) (Setting.Begun row place) ≡ row_begun s (row_of level number) deadline
@@ -28,24 +23,14 @@ begun_is s level number deadline row place e f h =
     let l : level_of (row_of level number) ≡ level = omega arith in
     rw (e, f, l)
 
-pub returns-then-n-gt0 : goal.returns-then-n-gt0
-unfolding begun
-returns-then-n-gt0 c =
-    refused_after c.args.s (state_ok c.args.s _ c.well_formed.0).sized c.leave_holdings.result _ _ _ c.leave_holdings.ensures (number ((goal.at.returns-then-n-gt0 c).After-row_refusal-n)) c.if-n-gt0.true
-
-pub rows_not_free-place-requires : goal.rows_not_free-place-requires
-rows_not_free-place-requires c = let h = c.row_refusal-n.ensures.1 c.if-n-gt0.false in omega arith
-
-pub bounds-rows-row : goal.bounds-rows-row
-bounds-rows-row c = let h = c.row_refusal-n.ensures.1 c.if-n-gt0.false in omega arith
-
 pub returns : goal.returns
-unfolding begun
+unfolding begun begin_refusal
 returns c =
-    let row = c.row_of-row in
+    let a = c.args in
+    let row = c.in_ok-row.row in
     let n = c.rows_not_free-place in
-    let h = c.row_refusal-n.ensures.1 c.if-n-gt0.false in
-    let e = begun_is c.args.s c.args.level c.args.number c.args.deadline row.result (n.result + 1) row.ensures (ap (λ (k : ℕ). k + 1) n.ensures.0) h.1 in
-    set_after c.args.s (state_ok c.args.s _ c.well_formed.0).sized c.make_setting.result (set c.args.s.rows row.result (record { condition = Idle; deadline = c.args.deadline })) (Setting.Begun row.result (n.result + 1)) Begun c.make_setting.ensures
-    ∙ (λ j. record { state = e j; answer = Begun })
-    ∙ taken _ _ c.args.s (record { state = row_begun c.args.s (row_of c.args.level c.args.number) c.args.deadline; answer = Begun }) (number ((goal.at.returns c).After-row_refusal-n)) c.if-n-gt0.false
+    let taken : record { state = row_begun a.s (row_of a.level a.number) a.deadline; answer = Begun } ≡ begun a.s a.level a.number a.deadline = grind (arith, common_steps) in
+    let e : row ≡ row_of a.level a.number = grind (arith, common_steps) in
+    let t = begun_is a.s a.level a.number a.deadline row (n.result + 1) e (ap (λ (k : ℕ). k + 1) n.ensures.0) c.in_ok-row.ensures.within.1 in
+    set_after a.s (state_ok a.s _ c.well_formed.0).sized c.leave_holdings.result _ (Setting.Begun row (n.result + 1)) Begun c.leave_holdings.ensures
+    ∙ (λ j. record { state = t j; answer = Begun }) ∙ taken

@@ -1,31 +1,23 @@
-use mathlib.Core.Path.{◌≡◌, refl, ◌∙◌}
-use mathlib.Core.Bool.{Bool}
+use mathlib.Core.Path.{◌∙◌}
 use Prim.Native.Nat.{ℕ}
-use native.Mathlib.Omega.{arith}
-use lib.Dec.{ltb}
-use Rattle.seq.specs.Below.{any_below, pick_below}
-use Rattle.seq.proofs.BelowLaws.{any_test_turn}
-use Rattle.seq.proofs.ValueLaws.{value_turn}
-use Rattle.model.specs.declared.Pin.TheVariants.{Absent}
-use Rattle.model.specs.Words.{strength, stronger}
-use Rattle.serve.specs.Inner.SlotHoldings.{seen_test, held_by}
-use Rattle.calls.specs.Inner.Parts.{strongest_in}
+use Rattle.std.proofs.Common.{rules}
+use borrow.Author.Tests.{tests}
+use Rattle.std.proofs.lemmas.Iterator.{YieldsList-from_slice, YieldsList-from_map}
+use Rattle.std.proofs.lemmas.Iterator.Consumers.{YieldsList-at, YieldsList-from_enumerate, YieldsList-from_filter, reduce_from_yields_List}
+use Rattle.model.specs.declared.Holding.{Holding}
+use Rattle.serve.specs.Inner.SlotHoldings.{seen_test}
+use Rattle.calls.proofs.SlotLaws.{max_pin, strongest_chain}
 use Rattle.calls.proofs.strongest_pin.Goals as goal
 
-pub loop-r-init : goal.loop-r-init
-unfolding any_below pick_below
-loop-r-init c = (omega arith, refl, refl)
-
-pub loop-r-preserved : goal.loop-r-preserved
-unfolding stronger
-loop-r-preserved c = let held = c.args.held in
-    let p : ℕ → Bool = λ row. seen_test c.args.level row (held_by held row) in
-    let w = c.loop-r in (
-      omega arith,
-      any_test_turn p w.r w.found c.is_seen-sees.result c.either-found.result w.invariant.1 c.is_seen-sees.ensures c.either-found.ensures,
-      value_turn p (λ row. (held_by held row).pin) (λ x v. ltb (strength v) (strength x)) Absent w.r c.is_seen-sees.result (held_by held w.r).pin w.found w.best c.strongest_with-best.result c.is_seen-sees.ensures refl w.invariant.1 w.invariant.2 c.strongest_with-best.ensures,
-    )
-
 pub returns : goal.returns
-unfolding strongest_in
-returns c = let e : c.loop-r.r ≡ 32 = omega arith in c.loop-r.invariant.2 ∙ rw e
+returns c =
+    let held = c.args.held in
+    c.unwrap_or.ensures
+    ∙ strongest_chain held c.args.level (search rules) c.max.result
+    (reduce_from_yields_List _ c.map.result c.max.result c.max.ensures.ran
+    (YieldsList-from_map _ (λ (p : ℕ × Holding). p.1.pin)
+    (YieldsList-at c.map.ensures.source
+    (YieldsList-from_filter _ (λ (p : ℕ × Holding). seen_test c.args.level p.0 p.1)
+    (YieldsList-at c.filter.ensures.source (YieldsList-from_enumerate (YieldsList-from_slice held (cc)) c.enumerate.ensures.count))
+    c.filter.ensures.closure (λ x b q k. search (rules, tests))))
+    c.map.ensures.closure (λ x r q k. search (rules, tests))) ∙ max_pin _)

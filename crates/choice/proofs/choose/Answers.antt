@@ -1,13 +1,37 @@
-use mathlib.Core.Path.{◌∙◌, ap}
-use Rattle.choice.specs.Inner.Search.{filled_in}
-use Rattle.choice.proofs.ChoiceLaws.{choice_made}
+use mathlib.Core.Path.{◌∙◌, sym}
+use mathlib.Core.Bool.{false, not}
+use native.Mathlib.Omega.{arith}
+use Rattle.std.proofs.Common.{rules}
+use Rattle.model.specs.declared.Slot.{Slot}
+use Rattle.model.specs.State.{empty_slot}
+use Rattle.model.specs.Words.{is_filled}
+use Rattle.rules.specs.Choice.{chosen}
+use Rattle.choice.specs.declared.Summary.{Summary}
+use Rattle.choice.specs.Inner.Summary.{no_summary}
+use Rattle.choice.specs.Inner.Search.{is_dormant, dormant_before, dormant_in}
+use Rattle.choice.proofs.ChoiceLaws.{empty_found, choice_made}
 use Rattle.choice.proofs.choose.Goals as goal
 
-pub returns-in_default : goal.returns-in_default
-returns-in_default c =
-    rw (choice_made c.args.s c.args.row c.requires.0, ← c.find_empty.ensures, c.in_default.is)
-    (c.choose_filled.ensures ∙ ap (filled_in c.args.s.slots c.args.s.size) c.survey_holdings-x.ensures)
+pub returns-in-At : goal.returns-in-At
+unfolding chosen
+returns-in-At c = rw (
+  ← empty_found c.args.s c.search-empty.result (omega arith)
+      (c.search-empty.ensures (λ (x : Slot). not (is_filled x.content)) (λ x y. false) empty_slot (λ x r h. search rules) (λ x y r h. search rules)),
+  c.in-At.is,
+)
+
+pub returns-in-At-search : goal.returns-in-At-search
+unfolding dormant_in
+returns-in-At-search c =
+    let none = sym (empty_found c.args.s c.search-empty.result (omega arith)
+    (c.search-empty.ensures (λ (x : Slot). not (is_filled x.content)) (λ x y. false) empty_slot (λ x r h. search rules) (λ x y r h. search rules))) ∙ c.in_default.is in
+    let b = c.search.ensures is_dormant (λ (x y : Summary). dormant_before x.slot y.slot) no_summary (λ x r h. search rules) (λ x y r h. search rules) in
+    rw (choice_made c.args.s c.args.row c.summaries-all.result c.requires.0 c.summaries-all.ensures none, ← b, c.in-At-search.is)
 
 pub returns : goal.returns
+unfolding dormant_in
 returns c =
-    rw (choice_made c.args.s c.args.row c.requires.0, ← c.find_empty.ensures, c.in-At.is)
+    let none = sym (empty_found c.args.s c.search-empty.result (omega arith)
+    (c.search-empty.ensures (λ (x : Slot). not (is_filled x.content)) (λ x y. false) empty_slot (λ x r h. search rules) (λ x y r h. search rules))) ∙ c.in_default.is in
+    let b = c.search.ensures is_dormant (λ (x y : Summary). dormant_before x.slot y.slot) no_summary (λ x r h. search rules) (λ x y r h. search rules) in
+    rw (choice_made c.args.s c.args.row c.summaries-all.result c.requires.0 c.summaries-all.ensures none, ← b, c.in_default-search.is, ← c.rank_of.ensures) c.choose_held.ensures

@@ -1,7 +1,8 @@
 use mathlib.Core.Path.{◌≡◌}
-use Prim.Native.Nat.{◌≤◌}
-use Rattle.choice.specs.Inner.Summary.{summaries_in}
+use Prim.Native.Nat.{ℕ, ◌<◌}
+use lib.ListN.{get_or}
+use Rattle.choice.specs.Inner.Summary.{summary_of, no_summary}
 use Rattle.choice.proofs.summaries.Given as goal
 
 abbrev pub invariant-loop-i : goal.invariant-loop-i
-invariant-loop-i l = (l.i ≤ l.n) × (l.out ≡ summaries_in l.slots l.i l.holders l.own l.requester)
+invariant-loop-i l = (k : ℕ) → k < l.i → get_or l.x-items k no_summary ≡ summary_of l.s l.requester k

@@ -1,38 +1,17 @@
-use mathlib.Core.Path.{◌≡◌, refl, ◌∙◌, ap}
-use mathlib.Core.Bool.{Bool, not}
-use mathlib.Core.List.{List}
-use Prim.Native.Nat.{ℕ}
+use mathlib.Core.Path.{◌≡◌, ◌∙◌}
+use mathlib.Core.Bool.{not}
+use Prim.Native.Nat.{◌-◌, ◌+◌, ◌*◌}
 use native.Mathlib.Omega.{arith}
-use lib.ListN.{get_or}
-use Rattle.seq.specs.Below.{count_below}
-use Rattle.seq.proofs.BelowLaws.{count_turn, count_at_most}
-use Rattle.model.specs.declared.Row.{Row}
-use Rattle.model.specs.Parties.{row_of}
-use Rattle.model.specs.State.{free_row}
+use borrow.Rule.Slice.PartMut.{mid_of}
+use Rattle.std.proofs.Common.{rules}
+use Rattle.std.specs.List.{count_by}
 use Rattle.model.specs.Words.{is_free}
-use Rattle.model.specs.Changes.{rows_not_free}
+use Rattle.model.proofs.PlaceLaws.{not_free_in}
 use Rattle.model.proofs.rows_not_free.Goals as goal
 
--- the row of the level is not free
-abbrev not_free : List Row → ℕ → ℕ → Bool
-not_free rows level number = not (is_free (get_or rows (row_of level number) free_row).condition)
-
-pub loop-number-init : goal.loop-number-init
-unfolding count_below
-loop-number-init c = (omega arith, refl)
-
-pub with_taken-n-requires : goal.with_taken-n-requires
-with_taken-n-requires c = omega (arith, c.loop-number.invariant.1, count_at_most (not_free c.args.rows c.args.level) c.loop-number.number)
-
-pub loop-number-preserved : goal.loop-number-preserved
-loop-number-preserved c =
-    let p = not_free c.args.rows c.args.level in
-    let w = c.loop-number in
-    (omega arith, count_turn p w.number w.n (p w.number) c.with_taken-n.result w.invariant.1 refl c.with_taken-n.ensures)
-
 pub returns : goal.returns
-unfolding rows_not_free
 returns c =
-    let p = not_free c.args.rows c.args.level in
-    let w = c.loop-number in
-    (w.invariant.1 ∙ ap (λ (k : ℕ). count_below k p) (let e : w.number ≡ 8 = omega arith in e), omega (arith, w.invariant.1, count_at_most p w.number))
+    let level = c.args.level in
+    let n : c.count.result ≡ count_by (λ x. not (is_free x.condition)) (mid_of (level * 8) (level * 8 + 8 - level * 8) c.args.rows) = search rules in
+    let e = not_free_in c.args.rows level (level * 8 + 8 - level * 8) (search rules) c.requires (omega arith) in
+    (n ∙ e.0, rw (n, e.0) e.1)

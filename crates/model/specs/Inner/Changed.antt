@@ -1,5 +1,5 @@
 -- For the code; a call's reply is proved equal to its outcome, crates/calls: what a call makes of a state, as a change of its parts.
-use Rattle.std.specs.Prelude.{◌≡◌, Bool, true, false, cond, List, ℕ, ◌/◌, ◌%◌, eqb, ltb, get_or, set, replicate}
+use Rattle.std.specs.Prelude.{◌≡◌, Bool, true, false, cond, List, ℕ, ◌<◌, ◌/◌, ◌%◌, eqb, length, get_or, set, replicate}
 use Rattle.seq.specs.Each.{each}
 use Rattle.model.specs.declared.Row.{Row}
 use Rattle.model.specs.declared.Slot.{Slot}
@@ -18,9 +18,24 @@ use Rattle.model.specs.Changes.{closed_up}
 abbrev pub marked : List Bool → ℕ → Bool
 marked marks row = get_or marks row false
 
+-- each of the 2,048 holdings is replaced by a function of its place and itself
+pub record Replaced (f : ℕ → Holding → Holding) (old new : List Holding) : Type 0 where
+  pub long : length new ≡ 2048
+  pub at : (k : ℕ) → k < 2048 → get_or new k empty_holding ≡ f k (get_or old k empty_holding)
+
+-- the holding at place k once a row has lost its holdings, once the marked rows have, and once a slot has the holdings held, by row
+abbrev pub row_dropped : ℕ → ℕ → Holding → Holding
+row_dropped row k h = cond (eqb (k % 32) row) empty_holding h
+
+abbrev pub rows_dropped : List Bool → ℕ → Holding → Holding
+rows_dropped gone k h = cond (marked gone (k % 32)) empty_holding h
+
+abbrev pub held_put : ℕ → List Holding → ℕ → Holding → Holding
+held_put slot held k h = cond (eqb (k / 32) slot) (get_or held (k % 32) empty_holding) h
+
 -- the holding at place k after a change
 unfoldable pub holding_after : Change → ℕ → Holding → Holding
-holding_after c k h = cond (eqb (k / 32) c.slot) (get_or c.held (k % 32) empty_holding) (cond (marked c.gone (k % 32)) empty_holding h)
+holding_after c k h = held_put c.slot c.held k (rows_dropped c.gone k h)
 
 -- the borders after a change, whether a row has begun, and the places in the begin orders
 abbrev pub borders_after : Setting → Borders → Borders
@@ -74,10 +89,3 @@ outcome_of s r = record { state = changed s r.change; answer = r.answer }
 unfoldable pub holdings_dropped : ℕ → List Row → List Slot → List Bool → Setting → Change
 holdings_dropped clock rows slots gone setting =
     record { clock = clock; rows = rows; slots = slots; gone = gone; slot = 64; held = replicate 32 empty_holding; setting = setting }
-
--- how many of the slots a row loses, by its mark, and how many holdings are put on a slot
-unfoldable pub lost_by : Bool → ℕ
-lost_by gone = cond gone 64 0
-
-unfoldable pub put_on : ℕ → ℕ
-put_on slot = cond (ltb slot 64) 32 0

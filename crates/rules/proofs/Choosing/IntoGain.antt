@@ -6,7 +6,7 @@ use lib.ListN.{get_or}
 use Prim.Native.Nat.{ℕ, ◌+◌, ◌<◌, ◌≤◌}
 use lib.Dec.{eqb}
 use Rattle.model.specs.declared.Mode.{Mode}
-use Rattle.model.specs.declared.Back.TheVariants.{Nothing}
+use Rattle.std.specs.Prelude.{None}
 use Rattle.model.specs.declared.Answer.TheVariants.{Fetch}
 use Rattle.model.specs.declared.Condition.TheVariants.{Fetching}
 use Rattle.model.specs.declared.Outcome.{Outcome}
@@ -31,7 +31,7 @@ new_holding s mode = record { pin = pin_of mode; arrival = due_tick s; touch = s
 
 -- rows and held are what the kills and the clearing left, by row and by page and row
 pub record Gains (L : ℕ) (s : State) (me page : ℕ) (mode : Mode) (rows : ℕ → Row) (held : ℕ → ℕ → Holding) (o : Outcome) : Type 0 where
-  pub answer : told o.answer ≡ told (Fetch (due_tick s) 0 Nothing)
+  pub answer : told o.answer ≡ told (Fetch (due_tick s) 0 None)
   pub size : o.state.size ≡ s.size
   pub delay : o.state.delay ≡ s.delay
   pub clock : o.state.clock ≡ s.clock
@@ -48,7 +48,7 @@ pub gains_same : (L : ℕ) (s t : State) (me page : ℕ) (mode : Mode) (rows row
 gains_same L s t me page mode rows rows' held held' o o' b low a f g x y =
     let due : due_tick s ≡ due_tick t = rw (a.clock, a.delay) in
     let new : new_holding s mode ≡ new_holding t mode = (λ j. record { pin = pin_of mode; arrival = due j; touch = a.clock j }) in (
-      x.answer ∙ ap (λ (n : ℕ). told (Fetch n 0 Nothing)) due ∙ sym y.answer,
+      x.answer ∙ ap (λ (n : ℕ). told (Fetch n 0 None)) due ∙ sym y.answer,
       record {
         size = x.size ∙ a.size ∙ sym y.size;
         delay = x.delay ∙ a.delay ∙ sym y.delay;

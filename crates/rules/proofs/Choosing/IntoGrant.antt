@@ -8,8 +8,7 @@ use lib.Dec.{leb, eqb}
 use Rattle.seq.specs.declared.Found.TheVariants.{At}
 use Rattle.model.specs.declared.Mode.{Mode}
 use Rattle.model.specs.declared.Cause.TheVariants.{Taken}
-use Rattle.model.specs.declared.Back.{Back}
-use Rattle.model.specs.declared.Back.TheVariants.{Nothing}
+use Rattle.std.specs.Prelude.{Option, None}
 use Rattle.model.specs.declared.Answer.TheVariants.{Fetch}
 use Rattle.model.specs.declared.Condition.TheVariants.{Idle, Fetching}
 use Rattle.model.specs.declared.Holding.{Holding}
@@ -30,21 +29,21 @@ use Rattle.rules.proofs.Leaves.GrantLaws.{granted_holding, granted_row_lem, gran
 use Rattle.rules.proofs.Choosing.IntoGain.{due_tick, new_holding, Gains, gains_as}
 
 -- the slot and the page to write back are not told
-pub fetch_told : (due slot : ℕ) (back : Back) → told (Fetch due slot back) ≡ told (Fetch due 0 Nothing)
+pub fetch_told : (due slot : ℕ) (back : Option ℕ) → told (Fetch due slot back) ≡ told (Fetch due 0 None)
 unfolding told word value
 fetch_told due slot back = refl
 
-granted_told : (s : State) (me slot : ℕ) (mode : Mode) (due : ℕ) (back : Back) → leb due s.clock ≡ false → told (granted s me slot mode due back).answer ≡ told (Fetch due 0 Nothing)
+granted_told : (s : State) (me slot : ℕ) (mode : Mode) (due : ℕ) (back : Option ℕ) → leb due s.clock ≡ false → told (granted s me slot mode due back).answer ≡ told (Fetch due 0 None)
 unfolding granted
 granted_told s me slot mode due back e = rw e (fetch_told due slot back)
 
-granted_places : (s : State) (me slot : ℕ) (mode : Mode) (due : ℕ) (back : Back) → (granted s me slot mode due back).state.places ≡ s.places
+granted_places : (s : State) (me slot : ℕ) (mode : Mode) (due : ℕ) (back : Option ℕ) → (granted s me slot mode due back).state.places ≡ s.places
 unfolding granted
 granted_places s me slot mode due back = refl
 
 -- u is what the kills and the clearing left of s
 pub granted_gains : (L : ℕ) (s u : State) → u.size ≡ s.size → u.delay ≡ s.delay → u.clock ≡ s.clock → u.places ≡ s.places → Sized u → (me slot page : ℕ) → me < 32 → slot < 64
-    → slot_of u page ≡ At slot → holds u slot me ≡ false → 1 ≤ s.delay → (mode : Mode) (back : Back)
+    → slot_of u page ≡ At slot → holds u slot me ≡ false → 1 ≤ s.delay → (mode : Mode) (back : Option ℕ)
     → Gains L s me page mode (row_at u) (holding_on u) (granted u me slot mode (due_tick s) back)
 granted_gains L s u size delay clock places z me slot page r b found none least mode back =
     let late : leb (due_tick s) u.clock ≡ false = lt-leb (due_tick s) u.clock (omega arith) in
@@ -85,4 +84,4 @@ module _ (L : ℕ) (s : State) (z : Sound s) (me slot page : ℕ) (r : me < 32) 
       (killed_slot_of (conflicts s me slot mode) s z.sized z.size_most Taken page ∙ found)
       (ap (λ (x : Holding). is_held x.pin) (killed_holding (conflicts s me slot mode) s z.sized Taken slot me r ∙ ap (λ (x : Bool). cond x empty_holding (holding_at s slot me)) (spared me r low))
       ∙ not_seen s L slot me hidden r low)
-      z.delay_least mode Nothing)
+      z.delay_least mode None)

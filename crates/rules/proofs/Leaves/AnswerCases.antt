@@ -2,7 +2,7 @@
 use mathlib.Core.Path.{◌≡◌, refl}
 use mathlib.Core.List.{[]}
 use Prim.Native.Nat.{ℕ}
-use Rattle.model.specs.declared.Back.{Back}
+use Rattle.std.specs.Prelude.{Option}
 use Rattle.model.specs.declared.Answer.{Answer}
 use Rattle.model.specs.declared.Answer.TheVariants.{
   Refused,
@@ -30,7 +30,7 @@ use Rattle.model.specs.declared.Answer.TheVariants.{
 use Rattle.rules.specs.Answers.{back_told}
 use Rattle.rules.specs.Tries.{filled_by}
 
-pub by_slot : {P : Type 0} (a : Answer) → ((slot : ℕ) (back : Back) → a ≡ Ready slot back → P) → ((due slot : ℕ) (back : Back) → a ≡ Fetch due slot back → P)
+pub by_slot : {P : Type 0} (a : Answer) → ((slot : ℕ) (back : Option ℕ) → a ≡ Ready slot back → P) → ((due slot : ℕ) (back : Option ℕ) → a ≡ Fetch due slot back → P)
     → (((row page : ℕ) → filled_by row page a ≡ []) → back_told a ≡ 0 → P) → P
 unfolding back_told
 by_slot (Ready slot back) ready fetch other = ready slot back refl

@@ -6,7 +6,7 @@ use borrow.Author.Tests.{eq-eqb}
 use lib.Dec.{leb, eqb}
 use Rattle.seq.specs.declared.Found.TheVariants.{At}
 use Rattle.seq.proofs.Tests.{and_false_right}
-use Rattle.model.specs.declared.Back.{Back}
+use Rattle.std.specs.Prelude.{Option}
 use Rattle.model.specs.declared.Mode.{Mode}
 use Rattle.model.specs.declared.Condition.TheVariants.{Idle, Fetching}
 use Rattle.model.specs.declared.Content.{Content}
@@ -54,7 +54,7 @@ pub lowest_dirty : (level : ℕ) (c : Content) → dirty_in (with_lowest level c
 lowest_dirty level Empty = refl
 lowest_dirty level (Filled p arrival dirty lowest) = refl
 
-module _ (s : State) (z : Sized s) (row slot : ℕ) (r : row < 32) (b : slot < 64) (mode : Mode) (arrival : ℕ) (back : Back) where
+module _ (s : State) (z : Sized s) (row slot : ℕ) (r : row < 32) (b : slot < 64) (mode : Mode) (arrival : ℕ) (back : Option ℕ) where
   pub granted_row_lem : (other : ℕ) → row_at (granted s row slot mode arrival back).state other ≡ cond (eqb other row) (granted_row s row arrival) (row_at s other)
   unfolding granted
   granted_row_lem other = row_put s z row (granted_row s row arrival) other r
@@ -95,7 +95,7 @@ module _ (s : State) (z : Sized s) (row slot : ℕ) (r : row < 32) (b : slot < 6
       put_slot_of s (granted s row slot mode arrival back).state slot (granted_slot s row slot) refl granted_slot_lem page (lowest_page (level_of row) page (slot_at s slot).content)
 
 -- the requester has the page; every other holding on a page stays
-pub granted_on : (s : State) (z : Sized s) (row slot page : ℕ) → row < 32 → slot < 64 → slot_of s page ≡ At slot → (mode : Mode) (arrival : ℕ) (back : Back) (other q : ℕ) → q < 32
+pub granted_on : (s : State) (z : Sized s) (row slot page : ℕ) → row < 32 → slot < 64 → slot_of s page ≡ At slot → (mode : Mode) (arrival : ℕ) (back : Option ℕ) (other q : ℕ) → q < 32
     → holding_on (granted s row slot mode arrival back).state other q ≡ cond (eqb other page && eqb q row) (granted_holding s row slot mode arrival) (holding_on s other q)
 granted_on s z row slot page r b found mode arrival back =
     put_on_lem s (granted s row slot mode arrival back).state row slot page (granted_holding s row slot mode arrival) found

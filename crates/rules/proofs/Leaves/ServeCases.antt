@@ -4,7 +4,7 @@ use mathlib.Core.Bool.{Bool, true, false, cond}
 use Prim.Native.Nat.{ℕ, ◌+◌}
 use Rattle.seq.specs.declared.Found.{Found}
 use Rattle.seq.specs.declared.Found.TheVariants.{At, Nowhere}
-use Rattle.model.specs.declared.Back.TheVariants.{Nothing}
+use Rattle.std.specs.Prelude.{None}
 use Rattle.model.specs.declared.Cause.TheVariants.{Taken}
 use Rattle.model.specs.declared.Mode.{Mode}
 use Rattle.model.specs.declared.Outcome.{Outcome}
@@ -20,7 +20,7 @@ use Rattle.rules.specs.Calls.{waiting, granted, conflicts, must_wait, step1, ste
 pub data Step (s : State) (row page : ℕ) (mode : Mode) (o : Outcome) : Type 0 where
   wait_1 : (slot : ℕ) → slot_of s page ≡ At slot → seen s (level_of row) slot ≡ true → must_wait s row slot mode ≡ true → o ≡ waiting s row page mode → Step s row page mode o
   grant_1 : (slot : ℕ) → slot_of s page ≡ At slot → seen s (level_of row) slot ≡ true → must_wait s row slot mode ≡ false
-      → o ≡ granted (killed (conflicts s row slot mode) Taken s) row slot mode (least_arrival s (level_of row) slot) Nothing → Step s row page mode o
+      → o ≡ granted (killed (conflicts s row slot mode) Taken s) row slot mode (least_arrival s (level_of row) slot) None → Step s row page mode o
   grant_2 : (slot : ℕ) → slot_of s page ≡ At slot → hits_dormant s row slot ≡ true → o ≡ step2 s row slot mode → Step s row page mode o
   grant_3 : (slot : ℕ) → slot_of s page ≡ At slot → seen s (level_of row) slot ≡ false → o ≡ unseen_at (At slot) s row page mode → Step s row page mode o
   wait_g : slot_of s page ≡ Nowhere → chosen s row ≡ Nowhere → o ≡ waiting s row page mode → Step s row page mode o
@@ -30,7 +30,7 @@ pub data Step (s : State) (row page : ℕ) (mode : Mode) (o : Outcome) : Type 0 
 module _ (s : State) (row page : ℕ) (mode : Mode) where
   there : (slot : ℕ) → slot_of s page ≡ At slot → (v w d : Bool) → seen s (level_of row) slot ≡ v → must_wait s row slot mode ≡ w → hits_dormant s row slot ≡ d
       → Step s row page mode (cond v
-      (cond w (waiting s row page mode) (granted (killed (conflicts s row slot mode) Taken s) row slot mode (least_arrival s (level_of row) slot) Nothing))
+      (cond w (waiting s row page mode) (granted (killed (conflicts s row slot mode) Taken s) row slot mode (least_arrival s (level_of row) slot) None))
       (cond d (step2 s row slot mode) (unseen_at (At slot) s row page mode)))
   there slot e true true d p q r = wait_1 slot e p q refl
   there slot e true false d p q r = grant_1 slot e p q refl

@@ -6,7 +6,7 @@ use Prim.Native.Nat.{ℕ, zero, suc, ◌+◌, ◌<◌, ◌≤◌}
 use native.Mathlib.Omega.{arith}
 use Rattle.seq.proofs.Tests.{true_false}
 use Rattle.model.specs.declared.Answer.TheVariants.{Ready, Clock}
-use Rattle.model.specs.declared.Back.{Back}
+use Rattle.std.specs.Prelude.{Option}
 use Rattle.model.specs.declared.Cause.TheVariants.{Taken}
 use Rattle.model.specs.declared.Condition.TheVariants.{Idle, Fetching}
 use Rattle.model.specs.declared.Mode.{Mode}
@@ -52,7 +52,7 @@ strength_held mode Read h = refl
 strength_held mode Write h = refl
 
 -- ready comes only to a request; then the row pins the page asked for, which has arrived, and so has every holding of the row
-pub ready_arrived : (s : State) → sound s ≡ true → (c : Call) (slot : ℕ) (back : Back) → (outcome s c).answer ≡ Ready slot back
+pub ready_arrived : (s : State) → sound s ≡ true → (c : Call) (slot : ℕ) (back : Option ℕ) → (outcome s c).answer ≡ Ready slot back
     → (row : ℕ) × (page : ℕ) × (mode : Mode) × Asks c row page mode × PinnedAndArrived (outcome s c).state row page mode slot × AllArrived (outcome s c).state row
 ready_arrived s z c slot back w =
     let x = granted_alone s z c (ap is_served w) (λ e. let n : ◌≡◌ {A = ℕ} 0 1 = cc in omega arith) in

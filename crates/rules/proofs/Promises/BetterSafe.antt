@@ -9,8 +9,7 @@ use lib.Dec.{leb, eqb}
 use Rattle.seq.specs.declared.Found.TheVariants.{At}
 use Rattle.seq.proofs.Tests.{true_false, parts, and_false_right, not_true_false}
 use Rattle.seq.proofs.BelowLaws.{any_none, all_each}
-use Rattle.model.specs.declared.Back.{Back}
-use Rattle.model.specs.declared.Back.TheVariants.{Nothing}
+use Rattle.std.specs.Prelude.{Option, None}
 use Rattle.model.specs.declared.Cause.TheVariants.{Taken}
 use Rattle.model.specs.declared.Condition.TheVariants.{Waiting}
 use Rattle.model.specs.declared.Mode.{Mode}
@@ -115,7 +114,7 @@ filled_leaves s z slot page level h there m e =
           ∙ x.page_same i b q p;
     }
 
-module _ (u : State) (z : Sized u) (row slot : ℕ) (r : row < 32) (b : slot < 64) (mode : Mode) (arrival : ℕ) (back : Back) where
+module _ (u : State) (z : Sized u) (row slot : ℕ) (r : row < 32) (b : slot < 64) (mode : Mode) (arrival : ℕ) (back : Option ℕ) where
   pub granted_page : (page i : ℕ) → has_page page (slot_at (granted u row slot mode arrival back).state i).content ≡ has_page page (slot_at u i).content
   granted_page page i = ap (λ (x : Slot). has_page page x.content) (granted_slot_lem u z row slot r b mode arrival back i) ∙ elim (ℕ_discrete i slot) [
     | yes w ↦ rw (eq-eqb i slot w, w) (lowest_page (level_of row) page (slot_at u slot).content)
@@ -144,16 +143,16 @@ module _ (s : State) (sound-state : sound s ≡ true) (row : ℕ) (b : row < 32)
   unfolding step2 step3
   left_alone h m n in-step-1 in-step-3 unheld = go (served s row page mode) (step s row page mode)
     where
-      joined : (some : ℕ → Bool) (slot arrival : ℕ) → slot_of s page ≡ At slot → some h ≡ false → LeftAlone s (granted (killed some Taken s) row slot mode arrival Nothing).state h
+      joined : (some : ℕ → Bool) (slot arrival : ℕ) → slot_of s page ≡ At slot → some h ≡ false → LeftAlone s (granted (killed some Taken s) row slot mode arrival None).state h
       joined some slot arrival e f =
           let g = killed_ground s z some page slot e in
-          granted_leaves (killed some Taken s) g.sized row slot b g.slot_is mode arrival Nothing s h m n (killed_leaves some s z h m f)
+          granted_leaves (killed some Taken s) g.sized row slot b g.slot_is mode arrival None s h m n (killed_leaves some s z h m f)
 
       go : (x : Outcome) → Step s row page mode x → LeftAlone s x.state h
       go x (wait_1 slot e v w q) = rw q (wait_leaves s z.sized row page mode h n)
       go x (grant_1 slot e v w q) = rw q (joined (conflicts s row slot mode) slot (least_arrival s (level_of row) slot) e (in-step-1 slot (found_below s z page slot e) w))
       go x (grant_2 slot e d q) =
-          rw q (granted_leaves s z.sized row slot b (found_below s z page slot e) mode (arrival_in (slot_at s slot).content) Nothing s h m n
+          rw q (granted_leaves s z.sized row slot b (found_below s z page slot e) mode (arrival_in (slot_at s slot).content) None s h m n
           (record { row_same = refl; holding_same = λ i k. refl; page_same = λ i k w p. refl }))
       go x (grant_3 slot e v q) = rw q (joined (conflicts s row slot mode) slot (s.clock + s.delay) e (in-step-3 slot (found_below s z page slot e) v))
       go x (wait_g e c q) = rw q (wait_leaves s z.sized row page mode h n)

@@ -11,8 +11,7 @@ use lib.Dec.{eqb}
 use Rattle.seq.specs.declared.Found.TheVariants.{At}
 use Rattle.seq.proofs.Tests.{true_false}
 use Rattle.model.specs.declared.Answer.{Answer}
-use Rattle.model.specs.declared.Back.{Back}
-use Rattle.model.specs.declared.Back.TheVariants.{Nothing, Page}
+use Rattle.std.specs.Prelude.{Option, None, Some}
 use Rattle.model.specs.declared.Cause.TheVariants.{Taken}
 use Rattle.model.specs.declared.Content.TheVariants.{Filled}
 use Rattle.model.specs.declared.Holding.{Holding}
@@ -33,7 +32,7 @@ use Rattle.model.proofs.BookLaws.{Booked, booked_same, booked_trans, booked_drop
 use Rattle.rules.specs.Answers.{word, page_back, slot_told, back_told, is_started, is_clock}
 use Rattle.rules.specs.Choice.{chosen}
 use Rattle.rules.specs.Calls.{row_begun, unpinned_at, waiting, granted, pinners_killed, write_back, filled, late_killed, is_late, delivered_rows, advanced, three_steps, served, row_ended}
-use Rattle.rules.specs.Listed.{Some}
+use Rattle.rules.specs.Listed.{SomeFill}
 use Rattle.rules.specs.Tries.{filled_by, all_tried}
 use Rattle.model.specs.declared.Call.{Call}
 use Rattle.rules.specs.SoundFacts.{Sound, BordersSound}
@@ -73,14 +72,14 @@ abbrev Told : Answer → ℕ → ℕ → Type 0
 Told a slot page = (slot_told a ≡ slot + 1) × (back_told a ≡ page + 1)
 
 -- what is reported by the answer of a try is in its entry
-entered : (row p slot page : ℕ) (a : Answer) → Told a slot page → Some (λ f. (f.slot ≡ slot) × (f.back ≡ Page page)) (filled_by row p a)
+entered : (row p slot page : ℕ) (a : Answer) → Told a slot page → SomeFill (λ f. (f.slot ≡ slot) × (f.back ≡ Some page)) (filled_by row p a)
 unfolding slot_told back_told
 entered row p slot page a e =
     by_slot a (λ i back k. rw k (inl (named i back (rw k at e)))) (λ due i back k. rw k (inl (named i back (rw k at e)))) (λ n k. absurd (omega (arith, e.1)))
   where
-    named : (i : ℕ) (back : Back) → (i + 1 ≡ slot + 1) × (page_back back ≡ page + 1) → (i ≡ slot) × (back ≡ Page page)
-    named i Nothing k = absurd (omega (arith, k.1))
-    named i (Page q) k = let n : q ≡ page = omega (arith, k.1) in (omega (arith, k.0), ap Page n)
+    named : (i : ℕ) (back : Option ℕ) → (i + 1 ≡ slot + 1) × (page_back back ≡ page + 1) → (i ≡ slot) × (back ≡ Some page)
+    named i None k = absurd (omega (arith, k.1))
+    named i (Some q) k = let n : q ≡ page = omega (arith, k.1) in (omega (arith, k.0), ap Some n)
 
 -- a dirty page is reported for write-back
 back_reported : (page : ℕ) (x : Slot) → has_page page x.content ≡ true → dirty_in x.content ≡ true → page_back (write_back x) ≡ page + 1
@@ -100,7 +99,7 @@ module _ (s : State) (z : Sound s) (page slot : ℕ) (b : slot < 64) where
   killed_booked : (some : ℕ → Bool) → Booked s.clock page s (killed some Taken s) slot
   killed_booked some = booked_dropped page some s (killed some Taken s) slot (killed_slot some s z.sized Taken slot b) (killed_holding some s z.sized Taken slot)
 
-  joined_booked : (some : ℕ → Bool) (row p i : ℕ) → row < 32 → slot_of s p ≡ At i → (mode : Mode) (arrival : ℕ) (back : Back) → Writes s (granted (killed some Taken s) row i mode arrival back).state page slot (Told (granted (killed some Taken s) row i mode arrival back).answer slot page)
+  joined_booked : (some : ℕ → Bool) (row p i : ℕ) → row < 32 → slot_of s p ≡ At i → (mode : Mode) (arrival : ℕ) (back : Option ℕ) → Writes s (granted (killed some Taken s) row i mode arrival back).state page slot (Told (granted (killed some Taken s) row i mode arrival back).answer slot page)
   joined_booked some row p i r e mode arrival back =
       let u : State = killed some Taken s in
       let g = killed_ground s z some p i e in
@@ -134,7 +133,7 @@ module _ (s : State) (z : Sound s) (page slot : ℕ) (b : slot < 64) where
       u : State
       u = filled k i p (level_of row)
 
-      back : Back
+      back : Option ℕ
       back = write_back (slot_at k i)
 
       g : Ground s u p i
@@ -154,26 +153,26 @@ module _ (s : State) (z : Sound s) (page slot : ℕ) (b : slot < 64) where
   unfolding waiting
   served_writes row p mode r o (waits i e v m q) = rw q (stay s.clock refl (booked_same s.clock page s (waiting s row p mode).state slot refl (λ _ _. refl)))
   served_writes row p mode r o (waits_g e n q) = rw q (stay s.clock refl (booked_same s.clock page s (waiting s row p mode).state slot refl (λ _ _. refl)))
-  served_writes row p mode r o (joins i arrival some e n q) = rw q (joined_booked some row p i r e mode arrival Nothing)
+  served_writes row p mode r o (joins i arrival some e n q) = rw q (joined_booked some row p i r e mode arrival None)
   served_writes row p mode r o (fills i e c q) = rw q (filled_booked row p i r c mode (s.clock + s.delay))
 
 -- the tries of a tick: an entry of the list reports
 tried_writes : (page slot : ℕ) → slot < 64 → (s : State) → Sound s → BordersSound s
-    → ((all_tried s).state.clock ≡ s.clock) × Writes s (all_tried s).state page slot (Some (λ f. (f.slot ≡ slot) × (f.back ≡ Page page)) (all_tried s).fills)
-tried_writes page slot b = by_all_tried (λ s y. (y.state.clock ≡ s.clock) × Writes s y.state page slot (Some (λ f. (f.slot ≡ slot) × (f.back ≡ Page page)) y.fills))
+    → ((all_tried s).state.clock ≡ s.clock) × Writes s (all_tried s).state page slot (SomeFill (λ f. (f.slot ≡ slot) × (f.back ≡ Some page)) (all_tried s).fills)
+tried_writes page slot b = by_all_tried (λ s y. (y.state.clock ≡ s.clock) × Writes s y.state page slot (SomeFill (λ f. (f.slot ≡ slot) × (f.back ≡ Some page)) y.fills))
     (λ s. (refl, stay s.clock refl (booked_same s.clock page s s slot refl (λ _ _. refl))))
     (λ s row p mode y z r w next more.
     let o = served s row p mode in
     let new = filled_by row p o.answer in (
       more.0 ∙ (served_fixed s row p mode).clock,
       writes_then s o.state y.state page slot more.0
-          (writes_weaker s o.state page slot (λ e. some_left (λ f. (f.slot ≡ slot) × (f.back ≡ Page page)) new y.fills (entered row p slot page o.answer e)) (served_writes s z page slot b row p mode r o (serving s row p mode)))
-          (writes_weaker o.state y.state page slot (λ e. some_right (λ f. (f.slot ≡ slot) × (f.back ≡ Page page)) new y.fills e) more.1),
+          (writes_weaker s o.state page slot (λ e. some_left (λ f. (f.slot ≡ slot) × (f.back ≡ Some page)) new y.fills (entered row p slot page o.answer e)) (served_writes s z page slot b row p mode r o (serving s row p mode)))
+          (writes_weaker o.state y.state page slot (λ e. some_right (λ f. (f.slot ≡ slot) × (f.back ≡ Some page)) new y.fills e) more.1),
     ))
 
 -- what a call reports: by its answer, or by an entry of its list
 abbrev pub Reports : State → Outcome → ℕ → ℕ → Type 0
-Reports s o slot page = Told o.answer slot page ⊎ Some (λ f. (f.slot ≡ slot) × (f.back ≡ Page page)) (cond (is_clock o.answer) (all_tried (three_steps s)).fills [])
+Reports s o slot page = Told o.answer slot page ⊎ SomeFill (λ f. (f.slot ≡ slot) × (f.back ≡ Some page)) (cond (is_clock o.answer) (all_tried (three_steps s)).fills [])
 
 module _ (s : State) (z : Sound s) (y : BordersSound s) (page slot : ℕ) (b : slot < 64) where
   pub writes : (c : Call) (o : Outcome) → is_started o.answer ≡ false → Effect s c o → Writes s o.state page slot (Reports s o slot page)

@@ -4,7 +4,7 @@ use mathlib.Core.Path.{◌≡◌, refl}
 use mathlib.Core.Bool.{false}
 use Prim.Native.Nat.{ℕ}
 use Rattle.model.specs.declared.Answer.{Answer}
-use Rattle.model.specs.declared.Back.{Back}
+use Rattle.std.specs.Prelude.{Option}
 use Rattle.model.specs.declared.Call.{Call}
 use Rattle.model.specs.declared.Cause.TheVariants.{Late, Taken}
 use Rattle.model.specs.declared.Condition.{Condition}
@@ -45,7 +45,7 @@ still_other s c a (looks level number q n e) = rw e (looked_other (condition_at 
 still_other s c a (views level page q e) = rw e (viewed_is Other (refl, refl, refl) (λ _. (refl, refl, refl)) (λ _. (refl, refl, refl)) (λ _. (refl, refl, refl)) (λ _. (refl, refl, refl)) s level (slot_of s page))
 still_other s c a (counts level n q e) = rw e (refl, refl, refl)
 
-granted_other : (u : State) (row slot : ℕ) (mode : Mode) (arrival : ℕ) (back : Back) → Other (granted u row slot mode arrival back).answer
+granted_other : (u : State) (row slot : ℕ) (mode : Mode) (arrival : ℕ) (back : Option ℕ) → Other (granted u row slot mode arrival back).answer
 unfolding word
 granted_other u row slot mode arrival back =
     granted_answer_lem u row slot mode arrival back (granted u row slot mode arrival back).answer refl

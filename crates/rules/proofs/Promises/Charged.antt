@@ -7,8 +7,7 @@ use borrow.Author.Tests.{leb-true}
 use Rattle.seq.specs.declared.Found.TheVariants.{At}
 use Rattle.seq.proofs.Tests.{true_false, not_true_false}
 use Rattle.model.specs.declared.Answer.TheVariants.{PageUnseen, PageDormant}
-use Rattle.model.specs.declared.Back.{Back}
-use Rattle.model.specs.declared.Back.TheVariants.{Nothing}
+use Rattle.std.specs.Prelude.{Option, None}
 use Rattle.model.specs.declared.Cause.TheVariants.{Taken}
 use Rattle.model.specs.declared.Holding.{Holding}
 use Rattle.model.specs.declared.Mode.{Mode}
@@ -38,7 +37,7 @@ module _ (s : State) (sound-state : sound s ≡ true) (row page : ℕ) (mode : M
   z = facts s sound-state
 
   -- a grant to a row without a holding of its own, at clock + delay
-  charged : (u : State) (slot : ℕ) (back : Back) → Ground s u page slot → holds u slot row ≡ false → (o : Outcome)
+  charged : (u : State) (slot : ℕ) (back : Option ℕ) → Ground s u page slot → holds u slot row ≡ false → (o : Outcome)
       → o ≡ granted u row slot mode (s.clock + s.delay) back → Charged s row o
   charged u slot back ground free o q =
       granted_answer_lem u row slot mode (s.clock + s.delay) back o.answer (ap (λ (x : Outcome). x.answer) (sym q))
@@ -68,7 +67,7 @@ module _ (s : State) (sound-state : sound s ≡ true) (row page : ℕ) (mode : M
       go o (grant_1 slot e v w q) = true_false (sym v ∙ not_seen_there slot e)
       go o (grant_2 slot e d q) = absurd (dormant_told slot e d (not_seen_there slot e) unseen)
       go o (grant_3 slot e v q) =
-          charged (killed (conflicts s row slot mode) Taken s) slot Nothing (killed_ground s z (conflicts s row slot mode) page slot e)
+          charged (killed (conflicts s row slot mode) Taken s) slot None (killed_ground s z (conflicts s row slot mode) page slot e)
           (rw (killed_holding (conflicts s row slot mode) s z.sized Taken slot row b, own_spared s row slot mode) (not_seen s (level_of row) slot row v b (omega arith))) o q
       go o (wait_g e c q) = waits (rw q)
       go o (fill slot e c q) =

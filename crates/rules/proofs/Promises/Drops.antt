@@ -11,8 +11,7 @@ use Rattle.seq.specs.declared.Found.TheVariants.{At, Nowhere}
 use Rattle.seq.specs.Order.{Each}
 use Rattle.seq.proofs.Tests.{true_false, and_true, both_true, not_true_false}
 use Rattle.model.specs.declared.Answer.TheVariants.{Ready, Fetch}
-use Rattle.model.specs.declared.Back.{Back}
-use Rattle.model.specs.declared.Back.TheVariants.{Nothing}
+use Rattle.std.specs.Prelude.{Option, None}
 use Rattle.model.specs.declared.Cause.TheVariants.{Taken}
 use Rattle.model.specs.declared.Call.TheVariants.{Tick}
 use Rattle.model.specs.declared.Condition.TheVariants.{Waiting}
@@ -31,7 +30,7 @@ use Rattle.model.proofs.ChangeLaws.{released_holding, sized_released, killed_row
 use Rattle.rules.specs.Choice.{chosen}
 use Rattle.rules.specs.Calls.{unpinned_at, waiting, granted, pinners_killed, write_back, filled, late_killed, is_late, three_steps, served}
 use Rattle.model.specs.declared.Call.{Call}
-use Rattle.rules.specs.Listed.{Listed, Some}
+use Rattle.rules.specs.Listed.{Listed, SomeFill}
 use Rattle.rules.specs.Refusals.{is_waiting, tick_refusal}
 use Rattle.rules.specs.Requests.{TriedOn, own, stored}
 use Rattle.rules.specs.Slots.{holds_page, Refilled}
@@ -66,7 +65,7 @@ record Chose (s : State) (row page : ℕ) (o : Outcome) (slot q : ℕ) : Type 0 
   pub chose : chosen s row ≡ At slot
   pub unpinned : pins s slot q ≡ false
   pub new_page : has_page page (slot_at o.state slot).content ≡ true
-  pub listed : Some (λ f. (f.slot ≡ slot) × (f.page ≡ page)) (filled_by row page o.answer)
+  pub listed : SomeFill (λ f. (f.slot ≡ slot) × (f.page ≡ page)) (filled_by row page o.answer)
 
 not_held : (a b : Bool) → a && b ≡ false → b ≡ true → a ≡ false
 not_held true b e k = true_false (sym k ∙ e)
@@ -90,13 +89,13 @@ module _ (s : State) (z : Sound s) (slot q : ℕ) (b : slot < 64) (m : q < 32) (
 
   -- a row killed before a grant to another stays killed
   taken_drop : (some : ℕ → Bool) (row : ℕ) → row < 32 → some row ≡ false → some q ≡ true → (u : State) → Sized u → row_at u q ≡ row_at (killed some Taken s) q
-      → (i : ℕ) → i < 64 → (mode : Mode) (arrival : ℕ) (back : Back) → is_live (row_at (granted u row i mode arrival back).state q).condition ≡ false
+      → (i : ℕ) → i < 64 → (mode : Mode) (arrival : ℕ) (back : Option ℕ) → is_live (row_at (granted u row i mode arrival back).state q).condition ≡ false
   taken_drop some row r mine gone u y same i h mode arrival back =
       let n : q ≡ row → ⊥ = λ w. true_false (sym gone ∙ ap some w ∙ mine) in
       ap (λ (x : Row). is_live x.condition) (granted_row_lem u y row i r h mode arrival back q)
       ∙ rw (ne_eqb q row n, same, killed_row_lem some s z.sized Taken q m, gone)
 
-  joined_drop : (some : ℕ → Bool) (row page i : ℕ) → row < 32 → some row ≡ false → slot_of s page ≡ At i → (mode : Mode) (arrival : ℕ) (back : Back)
+  joined_drop : (some : ℕ → Bool) (row page i : ℕ) → row < 32 → some row ≡ false → slot_of s page ≡ At i → (mode : Mode) (arrival : ℕ) (back : Option ℕ)
       → holds (granted (killed some Taken s) row i mode arrival back).state slot q ≡ false → is_live (row_at (granted (killed some Taken s) row i mode arrival back).state q).condition ≡ false
   joined_drop some row page i r mine e mode arrival back k =
       let u : State = killed some Taken s in
@@ -105,7 +104,7 @@ module _ (s : State) (z : Sound s) (slot q : ℕ) (b : slot < 64) (m : q < 32) (
       (not_true_false (holds u slot q) (λ h. true_false (sym (granted_holds u g.sized row i r g.slot_is mode arrival back slot q m h) ∙ k)))
       (λ gone. taken_drop some row r mine gone u g.sized refl i g.slot_is mode arrival back)
 
-  filled_drop : (row page i : ℕ) → row < 32 → chosen s row ≡ At i → (mode : Mode) (arrival : ℕ) (back : Back)
+  filled_drop : (row page i : ℕ) → row < 32 → chosen s row ≡ At i → (mode : Mode) (arrival : ℕ) (back : Option ℕ)
       → ((slot ≡ i → ⊥) → holds (granted (filled (pinners_killed s i) i page (level_of row)) row i mode arrival back).state slot q ≡ false)
       → (is_live (row_at (granted (filled (pinners_killed s i) i page (level_of row)) row i mode arrival back).state q).condition ≡ false)
       ⊎ ((slot ≡ i) × (pins s slot q ≡ false))
@@ -135,7 +134,7 @@ module _ (s : State) (z : Sound s) (slot q : ℕ) (b : slot < 64) (m : q < 32) (
       at_slot w false p = inr (w, p)
 
   -- a served request
-  filled_chose : (row page : ℕ) (mode : Mode) → row < 32 → (i : ℕ) → slot_of s page ≡ Nowhere → chosen s row ≡ At i → (arrival : ℕ) (back : Back) → (slot ≡ i) × (pins s slot q ≡ false)
+  filled_chose : (row page : ℕ) (mode : Mode) → row < 32 → (i : ℕ) → slot_of s page ≡ Nowhere → chosen s row ≡ At i → (arrival : ℕ) (back : Option ℕ) → (slot ≡ i) × (pins s slot q ≡ false)
       → Chose s row page (granted (filled (pinners_killed s i) i page (level_of row)) row i mode arrival back) slot q
   unfolding granted
   filled_chose row page mode r i e n arrival back x =
@@ -149,19 +148,19 @@ module _ (s : State) (z : Sound s) (slot q : ℕ) (b : slot < 64) (m : q < 32) (
         listed = go (leb arrival u.clock);
       }
     where
-      go : (d : Bool) → Some (λ f. (f.slot ≡ slot) × (f.page ≡ page)) (filled_by row page (cond d (Ready i back) (Fetch arrival i back)))
+      go : (d : Bool) → SomeFill (λ f. (f.slot ≡ slot) × (f.page ≡ page)) (filled_by row page (cond d (Ready i back) (Fetch arrival i back)))
       go true = inl (sym x.0, refl)
       go false = inl (sym x.0, refl)
 
   -- the page that the row holds there
   module _ (old : ℕ) (has : has_page old (slot_at s slot).content ≡ true) where
-    joined_page : (some : ℕ → Bool) (row page i : ℕ) → row < 32 → slot_of s page ≡ At i → (mode : Mode) (arrival : ℕ) (back : Back)
+    joined_page : (some : ℕ → Bool) (row page i : ℕ) → row < 32 → slot_of s page ≡ At i → (mode : Mode) (arrival : ℕ) (back : Option ℕ)
         → has_page old (slot_at (granted (killed some Taken s) row i mode arrival back).state slot).content ≡ true
     joined_page some row page i r e mode arrival back =
         let g = killed_ground s z some page i e in
         (granted_booked (killed some Taken s) g.sized row i r g.slot_is mode arrival back 0 old slot).has_it (killed_page some s z.sized z.size_most Taken old slot b ∙ has)
 
-    filled_page : (row page i : ℕ) → row < 32 → chosen s row ≡ At i → (slot ≡ i → ⊥) → (mode : Mode) (arrival : ℕ) (back : Back)
+    filled_page : (row page i : ℕ) → row < 32 → chosen s row ≡ At i → (slot ≡ i → ⊥) → (mode : Mode) (arrival : ℕ) (back : Option ℕ)
         → has_page old (slot_at (granted (filled (pinners_killed s i) i page (level_of row)) row i mode arrival back).state slot).content ≡ true
     unfolding pinners_killed
     filled_page row page i r n w mode arrival back =
@@ -178,7 +177,7 @@ module _ (s : State) (z : Sound s) (slot q : ℕ) (b : slot < 64) (m : q < 32) (
     served_drop row page mode r o (waits i e v w k) h = true_false (sym (both_true before has) ∙ (rw k at h))
     served_drop row page mode r o (waits_g e n k) h = true_false (sym (both_true before has) ∙ (rw k at h))
     served_drop row page mode r o (joins i arrival some e mine k) h =
-        inl (rw k (joined_drop some row page i r mine e mode arrival Nothing (not_held _ _ (rw k at h) (joined_page some row page i r e mode arrival Nothing))))
+        inl (rw k (joined_drop some row page i r mine e mode arrival None (not_held _ _ (rw k at h) (joined_page some row page i r e mode arrival None))))
     served_drop row page mode r o (fills i e n k) h =
         let back = write_back (slot_at (pinners_killed s i) i) in
         rw k (go (filled_drop row page i r n mode (s.clock + s.delay) back (λ w. not_held _ _ (rw k at h) (filled_page row page i r n w mode (s.clock + s.delay) back))))
@@ -203,7 +202,7 @@ record ChoseIn (rows : List ℕ) (s : State) (fs : List Fill) (slot q : ℕ) : T
   pub nowhere : slot_of on page ≡ Nowhere
   pub chose : chosen on row ≡ At slot
   pub unpinned : pins on slot q ≡ false
-  pub listed : Some (λ f. (f.slot ≡ slot) × (f.page ≡ page)) fs
+  pub listed : SomeFill (λ f. (f.slot ≡ slot) × (f.page ≡ page)) fs
 
 chose_later : (r : ℕ) (rows : List ℕ) (s : State) (new fs : List Fill) (slot q : ℕ) → ChoseIn rows (try_row (row_at s r).condition s r).state fs slot q → ChoseIn (r ∷ rows) s (new ++ fs) slot q
 chose_later r rows s new fs slot q x = record {

@@ -21,7 +21,7 @@ use Rattle.model.specs.Words.{is_live, is_held, is_pin, outranks}
 use Rattle.model.proofs.PinLaws.{pin_held}
 use Rattle.model.proofs.PriorityLaws.{outranks_trans, outranks_kept}
 use Rattle.rules.specs.Calls.{served}
-use Rattle.rules.specs.Listed.{is_idle_or_fetching, Listed, PinnedFor, GrantedFor, WaitedFor, EachFill, Some, HasRow, OnceEach, RankedFills}
+use Rattle.rules.specs.Listed.{is_idle_or_fetching, Listed, PinnedFor, GrantedFor, WaitedFor, EachFill, SomeFill, HasRow, OnceEach, RankedFills}
 use Rattle.rules.specs.Refusals.{is_waiting}
 use Rattle.rules.specs.Sound.{sound}
 use Rattle.rules.specs.Tries.{Fill, Tried, filled_by, tries, waiters, all_tried}
@@ -211,8 +211,8 @@ module _ (u : State) where
       dead_other e = true_false (sym (own_lives (served_own s z row b page mode)) ∙ ap (λ (r : ℕ). is_live (row_at (served s row page mode).state r).condition) e ∙ d)
 
   taken_by : (q : ℕ) → q < 32 → (rows : List ℕ) (s : State) → AreRows rows → sound s ≡ true → Old s → (row_at s q).deadline ≡ (row_at u q).deadline
-      → is_live (row_at s q).condition ≡ true → is_live (row_at (tries rows s).state q).condition ≡ false → Some (λ f. Outranker q f.row) (tries rows s).fills
-  taken_by q m = by_tries (λ rows s y. AreRows rows → sound s ≡ true → Old s → (row_at s q).deadline ≡ (row_at u q).deadline → is_live (row_at s q).condition ≡ true → is_live (row_at y.state q).condition ≡ false → Some (λ f. Outranker q f.row) y.fills)
+      → is_live (row_at s q).condition ≡ true → is_live (row_at (tries rows s).state q).condition ≡ false → SomeFill (λ f. Outranker q f.row) (tries rows s).fills
+  taken_by q m = by_tries (λ rows s y. AreRows rows → sound s ≡ true → Old s → (row_at s q).deadline ≡ (row_at u q).deadline → is_live (row_at s q).condition ≡ true → is_live (row_at y.state q).condition ≡ false → SomeFill (λ f. Outranker q f.row) y.fills)
       (λ s b z old e l d. true_false (sym l ∙ d))
       (λ row rows s y w more b z old e l d. more b.1 z old e l d)
       (λ row rows s page mode y w more b z old e l d.
@@ -221,8 +221,8 @@ module _ (u : State) where
     where
       go : (row : ℕ) (s : State) (page : ℕ) (mode : Mode) → row < 32 → sound s ≡ true → (row_at s row).condition ≡ Waiting page mode → Old s → (row_at s q).deadline ≡ (row_at u q).deadline
           → is_live (row_at s q).condition ≡ true → (fs : List Fill) (x : Bool) → is_live (row_at (served s row page mode).state q).condition ≡ x
-          → (is_live (row_at (served s row page mode).state q).condition ≡ true → (row_at (served s row page mode).state q).deadline ≡ (row_at u q).deadline → Some (λ f. Outranker q f.row) fs)
-          → Some (λ f. Outranker q f.row) (filled_by row page (served s row page mode).answer ++ fs)
+          → (is_live (row_at (served s row page mode).state q).condition ≡ true → (row_at (served s row page mode).state q).deadline ≡ (row_at u q).deadline → SomeFill (λ f. Outranker q f.row) fs)
+          → SomeFill (λ f. Outranker q f.row) (filled_by row page (served s row page mode).answer ++ fs)
       go row s page mode b z w old e l fs true k more =
           let d = live_after (row_at s q) (row_at (served s row page mode).state q) (served_after s z row b page mode w q m) k in
           some_right (λ f. Outranker q f.row) (filled_by row page (served s row page mode).answer) fs (more k (d.1 ∙ e))
@@ -233,7 +233,7 @@ module _ (u : State) where
               let r = old.1 row b (rw w) in
               (b, ap (λ (x : Row). is_waiting x.condition) (sym r) ∙ rw w, outranks_kept u s row q (sym old.0) (ap (λ (x : Row). x.deadline) (sym r)) (sym e) ∙ kills_worse s z row b page mode w q m l k)
 
-          entry : Own row page mode (served s row page mode) → Some (λ f. Outranker q f.row) (filled_by row page (served s row page mode).answer ++ fs)
+          entry : Own row page mode (served s row page mode) → SomeFill (λ f. Outranker q f.row) (filled_by row page (served s row page mode).answer ++ fs)
           entry (own_waits a c) = true_false (sym l ∙ ap (λ (x : State). is_live (row_at x q).condition) (sym (vain_still s row page mode w a)) ∙ k)
           entry (own_ready slot back a c i) = rw a (inl better)
           entry (own_fetch due slot back a c i) = rw a (inl better)
@@ -275,6 +275,6 @@ module _ (u : State) (z : sound u ≡ true) where
       go (inr i) = waits_unmade (row_at u q).condition w i
 
   -- a row that they kill is outranked by the row of an entry, which waited
-  pub fills_taken : (q : ℕ) → q < 32 → is_live (row_at u q).condition ≡ true → is_live (row_at (all_tried u).state q).condition ≡ false → Some (λ f. Outranker u q f.row) (all_tried u).fills
+  pub fills_taken : (q : ℕ) → q < 32 → is_live (row_at u q).condition ≡ true → is_live (row_at (all_tried u).state q).condition ≡ false → SomeFill (λ f. Outranker u q f.row) (all_tried u).fills
   unfolding all_tried
   fills_taken q m = taken_by u q m (waiters u) u (waiters_rows u) z (refl, λ r b k. refl) refl

@@ -7,7 +7,7 @@ use native.Mathlib.Decide.{ℕ_discrete}
 use borrow.Author.Tests.{eqb-true, eq-eqb, ne_eqb}
 use lib.Dec.{leb, eqb}
 use Rattle.seq.proofs.Tests.{true_false, and_true}
-use Rattle.model.specs.declared.Back.{Back}
+use Rattle.std.specs.Prelude.{Option}
 use Rattle.model.specs.declared.Holding.{Holding}
 use Rattle.model.specs.declared.Mode.{Mode}
 use Rattle.model.specs.declared.Pin.{Pin}
@@ -56,7 +56,7 @@ put_or_old P i slot x y h f = elim (ℕ_discrete i slot) [
   | no m ↦ rw (ne_eqb i slot m) h
 ]
 
-module _ (u : State) (z : Sized u) (row slot : ℕ) (r : row < 32) (b : slot < 64) (mode : Mode) (arrival : ℕ) (back : Back) where
+module _ (u : State) (z : Sized u) (row slot : ℕ) (r : row < 32) (b : slot < 64) (mode : Mode) (arrival : ℕ) (back : Option ℕ) where
   pub granted_holds : (i q : ℕ) → q < 32 → holds u i q ≡ true → holds (granted u row slot mode arrival back).state i q ≡ true
   granted_holds i q h e = ap (λ (x : Holding). is_held x.pin) (granted_holding_lem u z row slot r b mode arrival back i q h) ∙ go (eqb i slot && eqb q row)
     where

@@ -9,8 +9,7 @@ use Rattle.seq.specs.declared.Found.TheVariants.{At}
 use Rattle.seq.proofs.Tests.{true_false}
 use Rattle.model.specs.declared.Answer.{Answer}
 use Rattle.model.specs.declared.Answer.TheVariants.{Ready, Fetch, Wait}
-use Rattle.model.specs.declared.Back.{Back}
-use Rattle.model.specs.declared.Back.TheVariants.{Nothing}
+use Rattle.std.specs.Prelude.{Option, None}
 use Rattle.model.specs.declared.Cause.TheVariants.{Taken}
 use Rattle.model.specs.declared.Condition.TheVariants.{Idle, Fetching}
 use Rattle.model.specs.declared.Holding.{Holding}
@@ -68,7 +67,7 @@ pub record Grant (s : State) (row page : ℕ) (mode : Mode) (o : Outcome) : Type
   pub before : State
   pub slot : ℕ
   pub arrival : ℕ
-  pub back : Back
+  pub back : Option ℕ
   pub ground : Ground s before page slot
   pub same : o ≡ granted before row slot mode arrival back
 
@@ -76,7 +75,7 @@ pub grant : (s : State) → Sound s → (row page : ℕ) (mode : Mode) → row <
 unfolding waiting
 grant s z row page mode b o (waits slot e v m q) n = absurd (n (rw q))
 grant s z row page mode b o (waits_g e c q) n = absurd (n (rw q))
-grant s z row page mode b o (joins slot arrival some e r q) n = record { before = killed some Taken s; slot = slot; arrival = arrival; back = Nothing; ground = killed_ground s z some page slot e; same = q }
+grant s z row page mode b o (joins slot arrival some e r q) n = record { before = killed some Taken s; slot = slot; arrival = arrival; back = None; ground = killed_ground s z some page slot e; same = q }
 grant s z row page mode b o (fills slot e c q) n = record {
   before = filled (pinners_killed s slot) slot page (level_of row);
   slot = slot;
@@ -87,7 +86,7 @@ grant s z row page mode b o (fills slot e c q) n = record {
 }
 
 -- a grant answers ready or fetch
-pub granted_answer_lem : {P : Type 0} (u : State) (row slot : ℕ) (mode : Mode) (arrival : ℕ) (back : Back) (a : Answer) → (granted u row slot mode arrival back).answer ≡ a
+pub granted_answer_lem : {P : Type 0} (u : State) (row slot : ℕ) (mode : Mode) (arrival : ℕ) (back : Option ℕ) (a : Answer) → (granted u row slot mode arrival back).answer ≡ a
     → (leb arrival u.clock ≡ true → a ≡ Ready slot back → P) → (leb arrival u.clock ≡ false → a ≡ Fetch arrival slot back → P) → P
 unfolding granted
 granted_answer_lem {P} u row slot mode arrival back a e f g = go (leb arrival u.clock) refl e
@@ -96,7 +95,7 @@ granted_answer_lem {P} u row slot mode arrival back a e f g = go (leb arrival u.
     go true q k = f q (sym k)
     go false q k = g q (sym k)
 
-pub never_waits : {P : Type 0} (u : State) (row slot : ℕ) (mode : Mode) (arrival : ℕ) (back : Back) → (granted u row slot mode arrival back).answer ≡ Wait → P
+pub never_waits : {P : Type 0} (u : State) (row slot : ℕ) (mode : Mode) (arrival : ℕ) (back : Option ℕ) → (granted u row slot mode arrival back).answer ≡ Wait → P
 never_waits u row slot mode arrival back e = granted_answer_lem u row slot mode arrival back Wait e (λ q k. true_false (cc)) (λ q k. true_false (cc))
 
 -- the pin asked for, or the stronger one that the row has
@@ -135,7 +134,7 @@ module _ (s : State) (row page : ℕ) (mode : Mode) (mine : row < 32) (o : Outco
   own_pin = rw own_holding (pin_least (is_held (holding_at g.before g.slot row).pin) (holding_at g.before g.slot row) (pin_of mode) g.arrival g.before.clock)
 
   -- else fetching until then
-  pub grant_fetch : (due slot : ℕ) (back : Back) → o.answer ≡ Fetch due slot back → (s.clock < due) × ((row_at o.state row).condition ≡ Fetching due) × (slot < 64)
+  pub grant_fetch : (due slot : ℕ) (back : Option ℕ) → o.answer ≡ Fetch due slot back → (s.clock < due) × ((row_at o.state row).condition ≡ Fetching due) × (slot < 64)
   grant_fetch due slot back e =
       granted_answer_lem g.before row g.slot mode g.arrival g.back (Fetch due slot back) (ap (λ (x : Outcome). x.answer) (sym g.same) ∙ e)
       (λ q k. true_false (cc))
@@ -145,7 +144,7 @@ module _ (s : State) (row page : ℕ) (mode : Mode) (mine : row < 32) (o : Outco
       (omega (arith, leb-false g.arrival g.before.clock q, g.ground.clock), ap (λ (x : Row). x.condition) own_row ∙ rw (q, d), rw t g.ground.slot_is))
 
   -- ready, the row idle: it has the page asked for, with the pin asked for or a stronger one
-  pub grant_ready : (slot : ℕ) (back : Back) → o.answer ≡ Ready slot back
+  pub grant_ready : (slot : ℕ) (back : Option ℕ) → o.answer ≡ Ready slot back
       → (slot < 64) × ((row_at o.state row).condition ≡ Idle) × (has_page page (slot_at o.state slot).content ≡ true)
       × (strength (pin_of mode) ≤ strength (holding_at o.state slot row).pin)
   grant_ready slot back e =

@@ -9,7 +9,7 @@ use lib.Dec.{eqb}
 use Rattle.seq.proofs.Tests.{true_false, and_true}
 use Rattle.model.specs.declared.Answer.{Answer}
 use Rattle.model.specs.declared.Answer.TheVariants.{Refused, Ready, Fetch, Wait}
-use Rattle.model.specs.declared.Back.{Back}
+use Rattle.std.specs.Prelude.{Option}
 use Rattle.model.specs.declared.Cause.TheVariants.{Late, Taken}
 use Rattle.model.specs.declared.Condition.{Condition}
 use Rattle.model.specs.declared.Condition.TheVariants.{Free, Idle, Fetching, Waiting, Killed}
@@ -40,8 +40,8 @@ use Rattle.rules.proofs.Promises.Arrived.{idle_arrived}
 
 -- the answer says the condition that the row then has
 data Says (x : Condition) (a : Answer) : Type 0 where
-  says_ready : (slot : ℕ) (back : Back) → a ≡ Ready slot back → x ≡ Idle → Says x a
-  says_fetch : (due slot : ℕ) (back : Back) → a ≡ Fetch due slot back → x ≡ Fetching due → Says x a
+  says_ready : (slot : ℕ) (back : Option ℕ) → a ≡ Ready slot back → x ≡ Idle → Says x a
+  says_fetch : (due slot : ℕ) (back : Option ℕ) → a ≡ Fetch due slot back → x ≡ Fetching due → Says x a
   says_wait : (page : ℕ) (mode : Mode) → a ≡ Wait → x ≡ Waiting page mode → Says x a
   says_look : a ≡ looked x → Says x a
 

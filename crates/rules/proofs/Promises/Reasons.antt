@@ -14,7 +14,7 @@ use Rattle.seq.proofs.Tests.{true_false, parts, or_false, both_true, not_true_fa
 use Rattle.seq.proofs.BelowLaws.{any_hit, hit_any, all_fails}
 use Rattle.seq.proofs.PickLaws.{at_nowhere, pick_is, pick_some, pick_none}
 use Rattle.model.specs.declared.Answer.TheVariants.{PageUnseen, Wait}
-use Rattle.model.specs.declared.Back.TheVariants.{Nothing}
+use Rattle.std.specs.Prelude.{None}
 use Rattle.model.specs.declared.Cause.TheVariants.{Taken}
 use Rattle.model.specs.declared.Condition.TheVariants.{Waiting}
 use Rattle.model.specs.declared.Holding.{Holding}
@@ -220,7 +220,7 @@ pages_stay s z row page mode b n p i c = go (served s row page mode) (serving s 
     go o (waits_g e m q) = rw q
     go o (joins slot arrival some e m q) =
         let g = killed_ground s z some page slot e in
-        rw q (granted_page (killed some Taken s) g.sized row slot b g.slot_is mode arrival Nothing p i ∙ killed_page some s z.sized z.size_most Taken p i c)
+        rw q (granted_page (killed some Taken s) g.sized row slot b g.slot_is mode arrival None p i ∙ killed_page some s z.sized z.size_most Taken p i c)
     go o (fills slot e m q) = at_nowhere (sym m ∙ n)
 
 -- the stored request of a worse row is served

@@ -6,8 +6,7 @@ use Prim.Native.Nat.{ℕ, ◌+◌, ◌<◌, ◌≤◌}
 use native.Mathlib.Omega.{arith}
 use borrow.Author.Tests.{eq-eqb, ne_eqb}
 use Rattle.model.specs.declared.Answer.TheVariants.{Ready, Fetch, Wait}
-use Rattle.model.specs.declared.Back.{Back}
-use Rattle.model.specs.declared.Back.TheVariants.{Nothing}
+use Rattle.std.specs.Prelude.{Option, None}
 use Rattle.model.specs.declared.Cause.TheVariants.{Taken}
 use Rattle.model.specs.declared.Condition.TheVariants.{Idle, Fetching, Waiting}
 use Rattle.model.specs.declared.Mode.{Mode}
@@ -51,7 +50,7 @@ wait_rows s z row b page mode =
     record { others = λ q m n. inl (row_other s z row x q n); deadline = ap (λ (y : Row). y.deadline) (row_same s z row x b) }
 
 -- a grant on a state with the rows that a kill of others left
-module _ (s : State) (z : Sound s) (some : ℕ → Bool) (row slot : ℕ) (b : row < 32) (c : slot < 64) (u : State) (y : Sized u) (same : (q : ℕ) → row_at u q ≡ row_at (killed some Taken s) q) (mode : Mode) (arrival : ℕ) (back : Back) where
+module _ (s : State) (z : Sound s) (some : ℕ → Bool) (row slot : ℕ) (b : row < 32) (c : slot < 64) (u : State) (y : Sized u) (same : (q : ℕ) → row_at u q ≡ row_at (killed some Taken s) q) (mode : Mode) (arrival : ℕ) (back : Option ℕ) where
   pub other_row : (q : ℕ) → q < 32 → (q ≡ row → ⊥) → row_at (granted u row slot mode arrival back).state q ≡ cond (some q) (killed_row Taken) (row_at s q)
   other_row q m n = rw (granted_row_lem u y row slot b c mode arrival back q, ne_eqb q row n, same q, killed_row_lem some s z.sized Taken q m)
 
@@ -79,9 +78,9 @@ strength_pin mode Write h = refl
 -- what a served request answers, and what its row then is and has
 pub data Own (row page : ℕ) (mode : Mode) (o : Outcome) : Type 0 where
   own_waits : o.answer ≡ Wait → (row_at o.state row).condition ≡ Waiting page mode → Own row page mode o
-  own_ready : (slot : ℕ) (back : Back) → o.answer ≡ Ready slot back → (row_at o.state row).condition ≡ Idle
+  own_ready : (slot : ℕ) (back : Option ℕ) → o.answer ≡ Ready slot back → (row_at o.state row).condition ≡ Idle
       → PinnedFor o.state mode (record { row = row; slot = slot; page = page; back = back }) → Own row page mode o
-  own_fetch : (due slot : ℕ) (back : Back) → o.answer ≡ Fetch due slot back → (row_at o.state row).condition ≡ Fetching due
+  own_fetch : (due slot : ℕ) (back : Option ℕ) → o.answer ≡ Fetch due slot back → (row_at o.state row).condition ≡ Fetching due
       → PinnedFor o.state mode (record { row = row; slot = slot; page = page; back = back }) → Own row page mode o
 
 wait_own : (s : State) → Sized s → (row : ℕ) → row < 32 → (page : ℕ) (mode : Mode) → Own row page mode (waiting s row page mode)
@@ -123,7 +122,7 @@ module _ (s : State) (sound-state : sound s ≡ true) (row : ℕ) (b : row < 32)
       go o (waits_g e c q) = rw q (wait_rows s z.sized row b page mode)
       go o (joins slot arrival some e mine q) =
           let g = killed_ground s z some page slot e in
-          rw q (grant_rows s z some row slot b g.slot_is (killed some Taken s) g.sized (λ r. refl) mode arrival Nothing mine)
+          rw q (grant_rows s z some row slot b g.slot_is (killed some Taken s) g.sized (λ r. refl) mode arrival None mine)
       go o (fills slot e c q) =
           let x = chosen_free s row b z slot c in
           let k : State = killed (pins s slot) Taken s in

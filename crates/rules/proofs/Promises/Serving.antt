@@ -5,7 +5,7 @@ use Prim.Native.Nat.{ℕ, ◌+◌}
 use Rattle.seq.specs.declared.Found.TheVariants.{At, Nowhere}
 use Rattle.seq.proofs.BelowLaws.{none_any}
 use Rattle.seq.proofs.EachLaws.{each_still}
-use Rattle.model.specs.declared.Back.TheVariants.{Nothing}
+use Rattle.std.specs.Prelude.{None}
 use Rattle.model.specs.declared.Cause.TheVariants.{Taken}
 use Rattle.model.specs.declared.Mode.{Mode}
 use Rattle.model.specs.declared.Outcome.{Outcome}
@@ -31,7 +31,7 @@ killed_none s = λ j.
 pub data Serving (s : State) (row page : ℕ) (mode : Mode) (o : Outcome) : Type 0 where
   waits : (slot : ℕ) → slot_of s page ≡ At slot → seen s (level_of row) slot ≡ true → must_wait s row slot mode ≡ true → o ≡ waiting s row page mode → Serving s row page mode o
   waits_g : slot_of s page ≡ Nowhere → chosen s row ≡ Nowhere → o ≡ waiting s row page mode → Serving s row page mode o
-  joins : (slot arrival : ℕ) (some : ℕ → Bool) → slot_of s page ≡ At slot → some row ≡ false → o ≡ granted (killed some Taken s) row slot mode arrival Nothing → Serving s row page mode o
+  joins : (slot arrival : ℕ) (some : ℕ → Bool) → slot_of s page ≡ At slot → some row ≡ false → o ≡ granted (killed some Taken s) row slot mode arrival None → Serving s row page mode o
   fills : (slot : ℕ) → slot_of s page ≡ Nowhere → chosen s row ≡ At slot
       → o ≡ granted (filled (pinners_killed s slot) slot page (level_of row)) row slot mode (s.clock + s.delay) (write_back (slot_at (pinners_killed s slot) slot)) → Serving s row page mode o
 
@@ -44,7 +44,7 @@ serving s row page mode = go (served s row page mode) (step s row page mode)
     go o (grant_1 slot e v w q) = joins slot (least_arrival s (level_of row) slot) (conflicts s row slot mode) e (own_spared s row slot mode) q
     go o (grant_2 slot e d q) =
         joins slot (arrival_in (slot_at s slot).content) (λ _. false) e refl
-        (q ∙ ap (λ (u : State). granted u row slot mode (arrival_in (slot_at s slot).content) Nothing) (sym (killed_none s)))
+        (q ∙ ap (λ (u : State). granted u row slot mode (arrival_in (slot_at s slot).content) None) (sym (killed_none s)))
     go o (grant_3 slot e v q) = joins slot (s.clock + s.delay) (conflicts s row slot mode) e (own_spared s row slot mode) q
     go o (wait_g e c q) = waits_g e c q
     go o (fill slot e c q) = fills slot e c q

@@ -9,8 +9,7 @@ use lib.Dec.{leb, eqb}
 use Rattle.seq.specs.declared.Found.TheVariants.{At}
 use Rattle.seq.proofs.Tests.{true_false, and_right, not_false_true}
 use Rattle.seq.specs.Order.{Each}
-use Rattle.model.specs.declared.Back.{Back}
-use Rattle.model.specs.declared.Back.TheVariants.{Nothing}
+use Rattle.std.specs.Prelude.{Option, None}
 use Rattle.model.specs.declared.Call.{Call}
 use Rattle.model.specs.declared.Cause.TheVariants.{Late, Taken}
 use Rattle.model.specs.declared.Condition.{Condition}
@@ -72,17 +71,17 @@ module _ (s : State) (sound-state : sound s ≡ true) (row : ℕ) (b : row < 32)
 
   module _ (different : q ≡ row → ⊥) where
     -- after a grant a row that is taken is one of those that were killed for it
-    one_of : (some : ℕ → Bool) (slot : ℕ) → slot < 64 → (u : State) → Sized u → ((r : ℕ) → row_at u r ≡ row_at (killed some Taken s) r) → (arrival : ℕ) (back : Back)
+    one_of : (some : ℕ → Bool) (slot : ℕ) → slot < 64 → (u : State) → Sized u → ((r : ℕ) → row_at u r ≡ row_at (killed some Taken s) r) → (arrival : ℕ) (back : Option ℕ)
         → IsTaken (granted u row slot mode arrival back).state q → some q ≡ true
     one_of some slot c u y rows arrival back k =
         let e = other_row s z some row slot b c u y rows mode arrival back q m different in
         not_false_true (some q) (λ f. new (rw (e, f) at k))
 
-    joined : (slot arrival : ℕ) → slot_of s page ≡ At slot → IsTaken (granted (killed (conflicts s row slot mode) Taken s) row slot mode arrival Nothing).state q → Takes s row page mode q
+    joined : (slot arrival : ℕ) → slot_of s page ≡ At slot → IsTaken (granted (killed (conflicts s row slot mode) Taken s) row slot mode arrival None).state q → Takes s row page mode q
     unfolding conflicts
     joined slot arrival e k =
         let g = killed_ground s z (conflicts s row slot mode) page slot e in
-        let x = one_of (conflicts s row slot mode) slot g.slot_is (killed (conflicts s row slot mode) Taken s) g.sized (λ r. refl) arrival Nothing k in
+        let x = one_of (conflicts s row slot mode) slot g.slot_is (killed (conflicts s row slot mode) Taken s) g.sized (λ r. refl) arrival None k in
         in_conflict slot g.slot_is (found_has s page slot e).1
         (conflict_in mode (holding_at s slot q).pin (and_right (not (eqb q row)) (conflict (pin_of mode) (holding_at s slot q).pin) x))
 
@@ -91,7 +90,7 @@ module _ (s : State) (sound-state : sound s ≡ true) (row : ℕ) (b : row < 32)
     taken_by o (wait_1 slot e v w r) k = absurd (new (rw (r, row_other s z.sized row (record { condition = Waiting page mode; deadline = (row_at s row).deadline }) q different) at k))
     taken_by o (grant_1 slot e v w r) k = joined slot (least_arrival s (level_of row) slot) e (rw r at k)
     taken_by o (grant_2 slot e d r) k =
-        absurd (new (rw (r, granted_row_lem s z.sized row slot b (found_below s z page slot e) mode (arrival_in (slot_at s slot).content) Nothing q, ne_eqb q row different) at k))
+        absurd (new (rw (r, granted_row_lem s z.sized row slot b (found_below s z page slot e) mode (arrival_in (slot_at s slot).content) None q, ne_eqb q row different) at k))
     taken_by o (grant_3 slot e v r) k = joined slot (s.clock + s.delay) e (rw r at k)
     taken_by o (wait_g e c r) k = absurd (new (rw (r, row_other s z.sized row (record { condition = Waiting page mode; deadline = (row_at s row).deadline }) q different) at k))
     taken_by o (fill slot e c r) k =

@@ -24,7 +24,7 @@ use Rattle.model.specs.Words.{is_live, is_pin, pins, holds, outranks}
 use Rattle.model.proofs.PriorityLaws.{outranks_once, outranks_other, outranks_kept, level_outranks}
 use Rattle.model.specs.Changes.{killed_row}
 use Rattle.rules.specs.Calls.{delivered_row, is_late, three_steps, served}
-use Rattle.rules.specs.Listed.{is_idle_or_fetching, PinnedFor, GrantedFor, Some}
+use Rattle.rules.specs.Listed.{is_idle_or_fetching, PinnedFor, GrantedFor, SomeFill}
 use Rattle.rules.specs.Refusals.{is_waiting}
 use Rattle.rules.specs.Run.{outcome, fills_of}
 use Rattle.rules.specs.Sound.{sound}
@@ -193,7 +193,7 @@ module _ (s : State) (z : sound s ≡ true) (room clock : ℕ) (accepted : (outc
     pub waiter_after : AfterWaiting s t (fills_of s (Tick room)) row page mode
     waiter_after = go (is_late (later s) row) refl
       where
-        granted_row_lem : is_idle_or_fetching (row_at t row).condition ≡ true → Some (λ f. (f.row ≡ row) × (f.page ≡ page) × PinnedFor t mode f) (fills_of s (Tick room))
+        granted_row_lem : is_idle_or_fetching (row_at t row).condition ≡ true → SomeFill (λ f. (f.row ≡ row) × (f.page ≡ page) × PinnedFor t mode f) (fills_of s (Tick room))
         granted_row_lem i =
             some_fill (λ f. GrantedFor s t f × (f.row ≡ row)) (λ f. (f.row ≡ row) × (f.page ≡ page) × PinnedFor t mode f)
             (λ f k.
@@ -203,7 +203,7 @@ module _ (s : State) (z : sound s ≡ true) (room clock : ℕ) (accepted : (outc
             (fills_of s (Tick room))
             (some_each (GrantedFor s t) (λ f. f.row ≡ row) (fills_of s (Tick room)) (listed_granted s z room clock accepted) (listed_all s z room clock accepted row b (rw w) i))
 
-        taken_row : row_at u row ≡ row_at s row → row_at t row ≡ killed_row Taken → Some (λ f. outranks s f.row row ≡ true) (fills_of s (Tick room))
+        taken_row : row_at u row ≡ row_at s row → row_at t row ≡ killed_row Taken → SomeFill (λ f. outranks s f.row row ≡ true) (fills_of s (Tick room))
         taken_row d k =
             rw (listed s z room clock accepted)
             (some_fill (λ f. Outranker u row f.row) (λ f. outranks s f.row row ≡ true)

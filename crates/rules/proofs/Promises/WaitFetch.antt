@@ -8,7 +8,7 @@ use native.Mathlib.Omega.{arith}
 use Rattle.seq.proofs.Tests.{true_false}
 use Rattle.seq.specs.Order.{Each}
 use Rattle.model.specs.declared.Answer.TheVariants.{Fetch, Wait}
-use Rattle.model.specs.declared.Back.{Back}
+use Rattle.std.specs.Prelude.{Option}
 use Rattle.model.specs.declared.Condition.TheVariants.{Fetching}
 use Rattle.model.specs.declared.Mode.{Mode}
 use Rattle.model.specs.declared.Outcome.{Outcome}
@@ -85,7 +85,7 @@ course_waits s z c u row page mode h =
 -- ---- fetch
 
 -- a fetch is due after the clock, and the row is fetching until then
-pub fetch_due : (s : State) → sound s ≡ true → (c : Call) (due slot : ℕ) (back : Back) → (outcome s c).answer ≡ Fetch due slot back
+pub fetch_due : (s : State) → sound s ≡ true → (c : Call) (due slot : ℕ) (back : Option ℕ) → (outcome s c).answer ≡ Fetch due slot back
     → (row : ℕ) × (page : ℕ) × (mode : Mode) × Asks c row page mode × (s.clock < due) × ((row_at (outcome s c).state row).condition ≡ Fetching due)
 fetch_due s z c due slot back w =
     let x = granted_alone s z c (ap is_served w) (λ e. let n : ◌≡◌ {A = ℕ} 0 1 = cc in omega arith) in

@@ -13,8 +13,7 @@ use Rattle.seq.proofs.BelowLaws.{any_hit}
 use Rattle.seq.specs.Order.{Each}
 use Rattle.model.specs.declared.Answer.{Answer}
 use Rattle.model.specs.declared.Answer.TheVariants.{Clock}
-use Rattle.model.specs.declared.Back.{Back}
-use Rattle.model.specs.declared.Back.TheVariants.{Nothing, Page}
+use Rattle.std.specs.Prelude.{Option, None, Some}
 use Rattle.model.specs.declared.Call.{Call}
 use Rattle.model.specs.declared.Cause.TheVariants.{Taken}
 use Rattle.model.specs.declared.Condition.TheVariants.{Waiting}
@@ -37,7 +36,7 @@ use Rattle.model.proofs.PinLaws.{write_held}
 use Rattle.rules.specs.Answers.{word, page_back, slot_told, back_told, is_clock}
 use Rattle.rules.specs.Calls.{waiting, granted, pinners_killed, write_back, filled, three_steps, served}
 use Rattle.rules.specs.Choice.{chosen}
-use Rattle.rules.specs.Listed.{Some}
+use Rattle.rules.specs.Listed.{SomeFill}
 use Rattle.rules.specs.Requests.{own, stored}
 use Rattle.rules.specs.Run.{outcome, fills_of}
 use Rattle.rules.specs.Slots.{WriterTaken, WasDirty, Reported}
@@ -78,7 +77,7 @@ back_dirty : (page : ℕ) (x : Slot) → page_back (write_back x) ≡ page + 1 �
 unfolding write_back
 back_dirty page x = go (dirty_in x.content) refl
   where
-    go : (d : Bool) → dirty_in x.content ≡ d → page_back (cond d (Page (page_in x.content)) Nothing) ≡ page + 1 → (dirty_in x.content ≡ true) × (page_in x.content ≡ page)
+    go : (d : Bool) → dirty_in x.content ≡ d → page_back (cond d (Some (page_in x.content)) None) ≡ page + 1 → (dirty_in x.content ≡ true) × (page_in x.content ≡ page)
     go true e k = (e, omega arith)
     go false e k = absurd (omega arith)
 
@@ -157,7 +156,7 @@ module _ (s : State) (sound-state : sound s ≡ true) (row : ℕ) (b : row < 32)
       go : (o : Outcome) → Serving s row asked mode o → slot_told o.answer ≡ slot + 1 → back_told o.answer ≡ page + 1 → Was s o.state row slot page
       go o (waits i e v w q) h k = absurd (omega (arith, rw q at k))
       go o (waits_g e n q) h k = absurd (omega (arith, rw q at k))
-      go o (joins i arrival some e n q) h k = absurd (omega (arith, rw q at k, (granted_told (killed some Taken s) row i mode arrival Nothing).1))
+      go o (joins i arrival some e n q) h k = absurd (omega (arith, rw q at k, (granted_told (killed some Taken s) row i mode arrival None).1))
       go o (fills i e c q) h k =
           let t = granted_told (filled (pinners_killed s i) i asked (level_of row)) row i mode (s.clock + s.delay) (write_back (slot_at (pinners_killed s i) i)) in
           let n : i ≡ slot = omega (arith, rw q at h, t.0) in
@@ -166,19 +165,19 @@ module _ (s : State) (sound-state : sound s ≡ true) (row : ℕ) (b : row < 32)
 -- ---- the tries of a tick
 
 -- an entry says of slot and page to write back what the answer of its try tells
-entry_told : (row asked slot page : ℕ) (a : Answer) → Some (λ f. (f.slot ≡ slot) × (f.back ≡ Page page)) (filled_by row asked a) → (slot_told a ≡ slot + 1) × (back_told a ≡ page + 1)
+entry_told : (row asked slot page : ℕ) (a : Answer) → SomeFill (λ f. (f.slot ≡ slot) × (f.back ≡ Some page)) (filled_by row asked a) → (slot_told a ≡ slot + 1) × (back_told a ≡ page + 1)
 unfolding slot_told back_told
 entry_told row asked slot page a h =
     by_slot a (λ i back k. rw k (one (record { row = row; slot = i; page = asked; back = back }) (rw k at h))) (λ due i back k. rw k (one (record { row = row; slot = i; page = asked; back = back }) (rw k at h)))
     (λ n k. absurd (rw (n row asked) at h))
   where
-    one : (f : Fill) → ((f.slot ≡ slot) × (f.back ≡ Page page)) ⊎ ⊥ → (f.slot + 1 ≡ slot + 1) × (page_back f.back ≡ page + 1)
+    one : (f : Fill) → ((f.slot ≡ slot) × (f.back ≡ Some page)) ⊎ ⊥ → (f.slot + 1 ≡ slot + 1) × (page_back f.back ≡ page + 1)
     one f (inl e) = (rw e.0, rw e.1)
     one f (inr e) = absurd e
 
 module _ (slot page : ℕ) where
   abbrev Entry : Fill → Type 0
-  Entry f = (f.slot ≡ slot) × (f.back ≡ Page page)
+  Entry f = (f.slot ≡ slot) × (f.back ≡ Some page)
 
   abbrev Choosers : State → List ℕ → State → Type 0
   Choosers t = TriedWith (λ u row asked mode. Was u t row slot page)
@@ -187,7 +186,7 @@ module _ (slot page : ℕ) where
   abbrev Tries : List ℕ → State → Tried → Type 0
   Tries rows s y =
       Each (λ row. row < 32) rows → sound s ≡ true
-      → ((q : ℕ) → q < 32 → IsTaken s q → IsTaken y.state q) × (Some Entry y.fills → Choosers y.state rows s)
+      → ((q : ℕ) → q < 32 → IsTaken s q → IsTaken y.state q) × (SomeFill Entry y.fills → Choosers y.state rows s)
 
   tries_were : (rows : List ℕ) (s : State) → Tries rows s (tries rows s)
   tries_were = by_tries Tries (λ s h z. (λ q m k. k, λ e. absurd e))
@@ -201,13 +200,13 @@ module _ (slot page : ℕ) where
           t : State
           t = (served s row asked mode).state
 
-          x : ((q : ℕ) → q < 32 → IsTaken t q → IsTaken y.state q) × (Some Entry y.fills → Choosers y.state rows t)
+          x : ((q : ℕ) → q < 32 → IsTaken t q → IsTaken y.state q) × (SomeFill Entry y.fills → Choosers y.state rows t)
           x = more h.1 (stored_sound s z row h.0 asked mode w)
 
           stays : (q : ℕ) → q < 32 → IsTaken s q → IsTaken t q
           stays q m k = ap (λ (r : Row). r.condition) (dead_safe s z row h.0 asked mode q m (rw k) (rw w)).row_same ∙ k
 
-          go : Some Entry (filled_by row asked (served s row asked mode).answer) ⊎ Some Entry y.fills → Choosers y.state (row ∷ rows) s
+          go : SomeFill Entry (filled_by row asked (served s row asked mode).answer) ⊎ SomeFill Entry y.fills → Choosers y.state (row ∷ rows) s
           go (inl e) =
               let a = entry_told row asked slot page (served s row asked mode).answer e in
               tried_now _ row rows s asked mode w (was_later s t y.state row slot page x.0 (told_was s z row h.0 asked mode slot page a.0 a.1))
@@ -220,7 +219,7 @@ no_back : (a : Answer) → is_served a ≡ false → back_told a ≡ 0
 no_back a e = by_slot a (λ slot back k. true_false (rw k at e)) (λ due slot back k. true_false (rw k at e)) (λ n k. k)
 
 -- nor is a served request told as a tick is
-granted_silent : (u : State) (row slot : ℕ) (mode : Mode) (arrival : ℕ) (back : Back) → is_clock (granted u row slot mode arrival back).answer ≡ false
+granted_silent : (u : State) (row slot : ℕ) (mode : Mode) (arrival : ℕ) (back : Option ℕ) → is_clock (granted u row slot mode arrival back).answer ≡ false
 unfolding word
 granted_silent u row slot mode arrival back = granted_answer_lem u row slot mode arrival back (granted u row slot mode arrival back).answer refl (λ _ k. rw k refl) (λ _ k. rw k refl)
 
@@ -236,10 +235,10 @@ served_silent s row page mode = go (served s row page mode) (serving s row page 
 
 module _ (s : State) (z : sound s ≡ true) (c : Call) (slot page : ℕ) where
   abbrev Tells : Outcome → Type 0
-  Tells o = ((slot_told o.answer ≡ slot + 1) × (back_told o.answer ≡ page + 1)) ⊎ Some (Entry slot page) (cond (is_clock o.answer) (all_tried (three_steps s)).fills [])
+  Tells o = ((slot_told o.answer ≡ slot + 1) × (back_told o.answer ≡ page + 1)) ⊎ SomeFill (Entry slot page) (cond (is_clock o.answer) (all_tried (three_steps s)).fills [])
 
   -- a call with an answer that is neither a served one nor a tick's
-  silent : {P : Type 0} (a : Answer) → is_served a ≡ false → is_clock a ≡ false → ((slot_told a ≡ slot + 1) × (back_told a ≡ page + 1)) ⊎ Some (Entry slot page) (cond (is_clock a) (all_tried (three_steps s)).fills []) → P
+  silent : {P : Type 0} (a : Answer) → is_served a ≡ false → is_clock a ≡ false → ((slot_told a ≡ slot + 1) × (back_told a ≡ page + 1)) ⊎ SomeFill (Entry slot page) (cond (is_clock a) (all_tried (three_steps s)).fills []) → P
   silent a e n (inl h) = absurd (omega (arith, h.1, no_back a e))
   silent a e n (inr h) = absurd (rw n at h)
 
@@ -255,7 +254,7 @@ module _ (s : State) (z : sound s ≡ true) (c : Call) (slot page : ℕ) where
       u : State
       u = three_steps s
 
-      ticked : ((slot_told (Clock (s.clock + 1)) ≡ slot + 1) × (back_told (Clock (s.clock + 1)) ≡ page + 1)) ⊎ Some (Entry slot page) (all_tried u).fills → WasDirty s c slot page
+      ticked : ((slot_told (Clock (s.clock + 1)) ≡ slot + 1) × (back_told (Clock (s.clock + 1)) ≡ page + 1)) ⊎ SomeFill (Entry slot page) (all_tried u).fills → WasDirty s c slot page
       ticked (inl k) = absurd (omega (arith, k.1))
       ticked (inr k) =
           let x = (tries_were slot page (waiters u) u (waiters_rows u) (steps_sound s z early)).1 k in

@@ -10,7 +10,7 @@ use lib.Dec.{eqb, lit<}
 use lib.ListN.{length, get_or, get_or-eq_default}
 use Rattle.seq.proofs.Tests.{and_true}
 use Rattle.seq.proofs.BelowLaws.{count_at_most}
-use Rattle.model.specs.declared.Back.{Back}
+use Rattle.std.specs.Prelude.{Option}
 use Rattle.model.specs.declared.Cause.{Cause}
 use Rattle.model.specs.declared.Cause.TheVariants.{Late, Taken}
 use Rattle.model.specs.declared.Condition.{Condition}
@@ -74,7 +74,7 @@ module _ (bound : ℕ) (positive : 0 < bound) where
 
     -- a grant on a state with the rows that a kill left
     granted_narrow : (some : ℕ → Bool) (u : State) → Sized u → ((r : ℕ) → row_at u r ≡ row_at (killed some Taken s) r)
-        → (row slot : ℕ) → row < 32 → slot < 64 → (mode : Mode) (arrival : ℕ) (back : Back) → (row_at (granted u row slot mode arrival back).state q).deadline < bound
+        → (row slot : ℕ) → row < 32 → slot < 64 → (mode : Mode) (arrival : ℕ) (back : Option ℕ) → (row_at (granted u row slot mode arrival back).state q).deadline < bound
     granted_narrow some u y same row slot r i mode arrival back =
         rw (granted_row_lem u y row slot r i mode arrival back q)
         (either (eqb q row) (granted_row u row arrival) (row_at u q) (rw (same row) (killed_narrow some Taken row r)) (rw (same q) (killed_narrow some Taken q b)))

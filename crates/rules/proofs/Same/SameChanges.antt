@@ -9,7 +9,7 @@ use lib.ListN.{get_or, set}
 use Rattle.model.proofs.PlaceLaws.{placed_at_lem, closed_at, not_free_same}
 use native.Mathlib.Omega.{arith}
 use Rattle.model.specs.declared.Answer.TheVariants.{Ready, Fetch}
-use Rattle.model.specs.declared.Back.{Back}
+use Rattle.std.specs.Prelude.{Option}
 use Rattle.model.specs.declared.Cause.{Cause}
 use Rattle.model.specs.declared.Condition.TheVariants.{Waiting}
 use Rattle.model.specs.declared.Mode.{Mode}
@@ -70,7 +70,7 @@ module _ (L : ℕ) (s t : State) (y : Sized s) (z : Sized t) (alike : Alike L s 
   unfolding waiting
   same_waiting row page mode h l = (refl, same_put_row row (record { condition = Waiting page mode; deadline = (row_at s row).deadline }) (record { condition = Waiting page mode; deadline = (row_at t row).deadline }) h (rw (alike.row row h l)))
 
-  told_granted : (me i j : ℕ) (mode : Mode) (arrival : ℕ) (back back' : Back) → told (granted s me i mode arrival back).answer ≡ told (granted t me j mode arrival back').answer
+  told_granted : (me i j : ℕ) (mode : Mode) (arrival : ℕ) (back back' : Option ℕ) → told (granted s me i mode arrival back).answer ≡ told (granted t me j mode arrival back').answer
   unfolding granted told word value
   told_granted me i j mode arrival back back' = rw alike.clock (go (leb arrival t.clock))
     where
@@ -79,7 +79,7 @@ module _ (L : ℕ) (s t : State) (y : Sized s) (z : Sized t) (alike : Alike L s 
       go false = refl
 
   pub same_granted : (me page i j : ℕ) → me < 32 → level_of me ≤ L → i < 64 → j < 64 → slot_of s page ≡ At i → slot_of t page ≡ At j
-      → (mode : Mode) (arrival : ℕ) (back back' : Back) → Same L (granted s me i mode arrival back) (granted t me j mode arrival back')
+      → (mode : Mode) (arrival : ℕ) (back back' : Option ℕ) → Same L (granted s me i mode arrival back) (granted t me j mode arrival back')
   unfolding granted
   same_granted me page i j h l bi bj at-s at-t mode arrival back back' = (
     told_granted me i j mode arrival back back',

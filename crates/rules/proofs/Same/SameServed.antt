@@ -4,7 +4,7 @@ use mathlib.Core.Bool.{Bool, true, false, cond}
 use Prim.Native.Nat.{ℕ, ◌+◌, ◌<◌, ◌≤◌}
 use native.Mathlib.Omega.{arith}
 use Rattle.seq.specs.declared.Found.TheVariants.{At}
-use Rattle.model.specs.declared.Back.TheVariants.{Nothing}
+use Rattle.std.specs.Prelude.{None}
 use Rattle.model.specs.declared.Cause.TheVariants.{Taken}
 use Rattle.model.specs.declared.Mode.{Mode}
 use Rattle.model.specs.declared.State.{State}
@@ -27,7 +27,7 @@ module _ (L : ℕ) (s t : State) (y : Sound s) (z : Sound t) (alike : Alike L s 
 
     -- the other rows with a conflicting pin are killed, and the page is granted
     same_taken : (arrival arrival' : ℕ) → arrival ≡ arrival'
-        → Same L (granted (killed (conflicts s me i mode) Taken s) me i mode arrival Nothing) (granted (killed (conflicts t me j mode) Taken t) me j mode arrival' Nothing)
+        → Same L (granted (killed (conflicts s me i mode) Taken s) me i mode arrival None) (granted (killed (conflicts t me j mode) Taken t) me j mode arrival' None)
     same_taken arrival arrival' e =
         rw e
         (same_granted L (killed (conflicts s me i mode) Taken s) (killed (conflicts t me j mode) Taken t)
@@ -36,15 +36,15 @@ module _ (L : ℕ) (s t : State) (y : Sound s) (z : Sound t) (alike : Alike L s 
         me page i j h l (omega (arith, (found_slot s page i at-s).0, y.size_most)) (omega (arith, (found_slot t page j at-t).0, z.size_most))
         (killed_slot_of (conflicts s me i mode) s y.sized y.size_most Taken page ∙ at-s)
         (killed_slot_of (conflicts t me j mode) t z.sized z.size_most Taken page ∙ at-t)
-        mode arrival' Nothing Nothing)
+        mode arrival' None None)
 
     same_step1 : Same L (step1 s me i page mode) (step1 t me j page mode)
     unfolding step1
     same_step1 = rw (same_must_wait L s t alike i j same me mode h l) (go (must_wait t me j mode))
       where
         go : (b : Bool)
-            → Same L (cond b (waiting s me page mode) (granted (killed (conflicts s me i mode) Taken s) me i mode (least_arrival s (level_of me) i) Nothing))
-            (cond b (waiting t me page mode) (granted (killed (conflicts t me j mode) Taken t) me j mode (least_arrival t (level_of me) j) Nothing))
+            → Same L (cond b (waiting s me page mode) (granted (killed (conflicts s me i mode) Taken s) me i mode (least_arrival s (level_of me) i) None))
+            (cond b (waiting t me page mode) (granted (killed (conflicts t me j mode) Taken t) me j mode (least_arrival t (level_of me) j) None))
         go true = same_waiting L s t y.sized z.sized alike me page mode h l
         go false = same_taken (least_arrival s (level_of me) i) (least_arrival t (level_of me) j) (same_least L s t alike i j same (level_of me) l)
 

@@ -7,7 +7,7 @@ use native.Mathlib.Decide.{ℕ_discrete}
 use borrow.Author.Tests.{leb-true, leb-false, eq-eqb, eqb-true}
 use lib.Dec.{leb, eqb}
 use Rattle.seq.proofs.Tests.{true_false, and_true, both_true}
-use Rattle.model.specs.declared.Back.{Back}
+use Rattle.std.specs.Prelude.{Option}
 use Rattle.model.specs.declared.Mode.{Mode}
 use Rattle.model.specs.declared.Condition.TheVariants.{Idle, Fetching}
 use Rattle.model.specs.declared.Slot.{Slot}
@@ -157,7 +157,7 @@ module _ (s : State) (row slot : ℕ) (mode : Mode) (arrival : ℕ) (h : Sound s
             ];
           })
 
-  pub granted_sound : (back : Back) → Sound (granted s row slot mode arrival back).state
+  pub granted_sound : (back : Option ℕ) → Sound (granted s row slot mode arrival back).state
   unfolding granted
   granted_sound back =
       put_row_sound t row (granted_row s row arrival) g.asking.row_is held_base

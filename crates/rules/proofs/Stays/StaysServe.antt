@@ -6,7 +6,7 @@ use native.Mathlib.Omega.{arith}
 use borrow.Author.Tests.{le-leb}
 use Rattle.seq.specs.declared.Found.TheVariants.{At, Nowhere}
 use Rattle.seq.proofs.Tests.{true_false, both_true, parts}
-use Rattle.model.specs.declared.Back.TheVariants.{Nothing}
+use Rattle.std.specs.Prelude.{None}
 use Rattle.model.specs.declared.Cause.TheVariants.{Taken}
 use Rattle.model.specs.declared.Mode.{Mode}
 use Rattle.model.specs.declared.Outcome.{Outcome}
@@ -42,7 +42,7 @@ module _ (s : State) (row page : ℕ) (mode : Mode) (h : Sound s) (a : Asking s 
 
   module _ (slot : ℕ) (b : slot < 64) (f : is_filled (slot_at s slot).content ≡ true) (e : page_in (slot_at s slot).content ≡ page) where
     -- granted by each of the steps 1 to 3
-    sound_1 : seen s (level_of row) slot ≡ true → Sound (granted (killed (conflicts s row slot mode) Taken s) row slot mode (least_arrival s (level_of row) slot) Nothing).state
+    sound_1 : seen s (level_of row) slot ≡ true → Sound (granted (killed (conflicts s row slot mode) Taken s) row slot mode (least_arrival s (level_of row) slot) None).state
     unfolding seen_holder
     sound_1 v =
         let x = least_is s (level_of row) slot v in
@@ -66,7 +66,7 @@ module _ (s : State) (row page : ℕ) (mode : Mode) (h : Sound s) (a : Asking s 
           own = λ w. true_false (sym w ∙ d row a.row_is);
           alone = λ q c _. no_pin (pin_of mode) (holding_at s slot q).pin (not_pinned (holding_at s slot q).pin (d q c));
         })
-        Nothing
+        None
 
     sound_3 : seen s (level_of row) slot ≡ false → Sound (unseen_at (At slot) s row page mode).state
     unfolding step3

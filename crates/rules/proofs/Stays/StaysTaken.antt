@@ -5,7 +5,7 @@ use Prim.Native.Nat.{ℕ, ◌+◌, ◌<◌, ◌≤◌}
 use native.Mathlib.Omega.{arith}
 use borrow.Author.Tests.{ne_eqb}
 use Rattle.seq.proofs.Tests.{true_false, not_false_true}
-use Rattle.model.specs.declared.Back.TheVariants.{Nothing}
+use Rattle.std.specs.Prelude.{None}
 use Rattle.model.specs.declared.Cause.{Cause}
 use Rattle.model.specs.declared.Cause.TheVariants.{Taken}
 use Rattle.model.specs.declared.Mode.{Mode}
@@ -50,7 +50,7 @@ module _ (s : State) (row : ℕ) (mode : Mode) (h : Sound s) (a : Asking s row) 
   -- the conflicting rows killed, and the page granted
   pub killed_granted : (slot arrival : ℕ) → slot < 64 → is_filled (slot_at s slot).content ≡ true → may_access s.borders (level_of row) (page_in (slot_at s slot).content) mode ≡ true
       → arrival_in (slot_at s slot).content ≤ arrival → arrival ≤ s.clock + s.delay → (holds s slot row ≡ true → arrival ≤ s.clock)
-      → Sound (granted (killed (conflicts s row slot mode) Taken s) row slot mode arrival Nothing).state
+      → Sound (granted (killed (conflicts s row slot mode) Taken s) row slot mode arrival None).state
   killed_granted slot arrival b f m l n o =
       let some = conflicts s row slot mode in
       let k = slot_marked (wrote_slot some s slot) (slot_at s slot) (slot_at (killed some Taken s) slot) (killed_slot some s h.sized Taken slot b) in
@@ -66,4 +66,4 @@ module _ (s : State) (row : ℕ) (mode : Mode) (h : Sound s) (a : Asking s row) 
         own = λ w. omega (arith, killed_clock some Taken s, o (rw own at w));
         alone = alone slot;
       })
-      Nothing
+      None

@@ -7,8 +7,7 @@ use native.Mathlib.Omega.{arith}
 use lib.Dec.{leb}
 use Rattle.seq.specs.Order.{Each}
 use Rattle.model.specs.declared.Answer.TheVariants.{Ready, Fetch}
-use Rattle.model.specs.declared.Back.{Back}
-use Rattle.model.specs.declared.Back.TheVariants.{Nothing}
+use Rattle.std.specs.Prelude.{Option, None}
 use Rattle.model.specs.declared.Cause.TheVariants.{Taken}
 use Rattle.model.specs.declared.Condition.TheVariants.{Waiting}
 use Rattle.model.specs.declared.Content.{Content}
@@ -82,7 +81,7 @@ tries_sound rows s b z = let x = tries_facts rows s b (facts s z) (borders_facts
 
 -- ---- what is told to the server
 
-pub granted_told : (u : State) (row slot : ℕ) (mode : Mode) (arrival : ℕ) (back : Back)
+pub granted_told : (u : State) (row slot : ℕ) (mode : Mode) (arrival : ℕ) (back : Option ℕ)
     → (slot_told (granted u row slot mode arrival back).answer ≡ slot + 1) × (back_told (granted u row slot mode arrival back).answer ≡ page_back back)
 unfolding granted slot_told back_told
 granted_told u row slot mode arrival back = go (leb arrival u.clock)
@@ -109,7 +108,7 @@ served_told s h row page mode b = go (served s row page mode) (serving s row pag
     go o (waits slot e v w k) = rw k (omega arith, omega arith)
     go o (waits_g e n k) = rw k (omega arith, omega arith)
     go o (joins slot arrival some e n k) =
-        let t = granted_told (killed some Taken s) row slot mode arrival Nothing in
+        let t = granted_told (killed some Taken s) row slot mode arrival None in
         let x = found_below s h page slot e in
         rw k (omega (arith, t.0), omega (arith, t.1))
     go o (fills slot e n k) =

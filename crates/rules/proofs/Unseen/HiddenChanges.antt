@@ -6,7 +6,7 @@ use native.Mathlib.Omega.{arith}
 use borrow.Author.Tests.{ne_eqb}
 use lib.Dec.{eqb}
 use Rattle.seq.proofs.Tests.{and_false_right}
-use Rattle.model.specs.declared.Back.{Back}
+use Rattle.std.specs.Prelude.{Option}
 use Rattle.model.specs.declared.Cause.{Cause}
 use Rattle.model.specs.declared.Mode.{Mode}
 use Rattle.model.specs.declared.Row.{Row}
@@ -57,7 +57,7 @@ module _ (L : ℕ) (s : State) (z : Sized s) where
         (λ i r b l. refl)
 
     module _ (slot : ℕ) (there : slot < 64) where
-      pub granted_hidden : (mode : Mode) (arrival : ℕ) (back : Back) → Alike L s (granted s me slot mode arrival back).state
+      pub granted_hidden : (mode : Mode) (arrival : ℕ) (back : Option ℕ) → Alike L s (granted s me slot mode arrival back).state
       unfolding granted
       granted_hidden mode arrival back = alike_still L s (granted s me slot mode arrival back).state
           (granted_size s z me slot mine there mode arrival back) (granted_delay s z me slot mine there mode arrival back) (granted_clock s z me slot mine there mode arrival back)

@@ -8,8 +8,7 @@ use lib.Dec.{leb}
 use Rattle.seq.specs.declared.Found.TheVariants.{At, Nowhere}
 use Rattle.seq.proofs.Tests.{true_false, both_true, not_true_false}
 use Rattle.seq.proofs.BelowLaws.{any_none}
-use Rattle.model.specs.declared.Back.{Back}
-use Rattle.model.specs.declared.Back.TheVariants.{Nothing}
+use Rattle.std.specs.Prelude.{Option, None}
 use Rattle.model.specs.declared.Cause.TheVariants.{Taken}
 use Rattle.model.specs.declared.Condition.TheVariants.{Waiting}
 use Rattle.model.specs.declared.Mode.{Mode}
@@ -45,7 +44,7 @@ module _ (L : ℕ) (s : State) (z : Sound s) (me : ℕ) (mine : me < 32) (higher
       not_true_false (conflicts s me slot mode r) (λ c. true_false (sym (both_true (both_true (le-leb (level_of r) (level_of me) (omega arith)) c) (outranks_level s r me (omega arith))) ∙ k))
 
   -- a grant after a kill of rows above the level
-  kill_and_grant : (some : ℕ → Bool) → ((r : ℕ) → r < 32 → level_of r ≤ L → some r ≡ false) → (slot : ℕ) → slot < 64 → (mode : Mode) (arrival : ℕ) (back : Back)
+  kill_and_grant : (some : ℕ → Bool) → ((r : ℕ) → r < 32 → level_of r ≤ L → some r ≡ false) → (slot : ℕ) → slot < 64 → (mode : Mode) (arrival : ℕ) (back : Option ℕ)
       → Alike L s (granted (killed some Taken s) me slot mode arrival back).state
   kill_and_grant some f slot b mode arrival back =
       alike_trans (killed_hidden L s z.sized z.size_most some f Taken)
@@ -78,8 +77,8 @@ module _ (L : ℕ) (s : State) (z : Sound s) (me : ℕ) (mine : me < 32) (higher
 
       go : (o : Outcome) → Step s me page mode o → Alike L s o.state
       go o (wait_1 slot e v w q) = rw q (waiting_hidden page mode)
-      go o (grant_1 slot e v w q) = rw q (kill_and_grant (conflicts s me slot mode) (no_wait slot mode w) slot (in_range_lem slot e) mode (least_arrival s (level_of me) slot) Nothing)
-      go o (grant_2 slot e d q) = rw q (granted_hidden L s z.sized me mine higher slot (in_range_lem slot e) mode (arrival_in (slot_at s slot).content) Nothing)
-      go o (grant_3 slot e v q) = rw q (kill_and_grant (conflicts s me slot mode) (λ r h l. unheld_spared s me slot mode r (not_seen s (level_of me) slot r v h (omega arith))) slot (in_range_lem slot e) mode (s.clock + s.delay) Nothing)
+      go o (grant_1 slot e v w q) = rw q (kill_and_grant (conflicts s me slot mode) (no_wait slot mode w) slot (in_range_lem slot e) mode (least_arrival s (level_of me) slot) None)
+      go o (grant_2 slot e d q) = rw q (granted_hidden L s z.sized me mine higher slot (in_range_lem slot e) mode (arrival_in (slot_at s slot).content) None)
+      go o (grant_3 slot e v q) = rw q (kill_and_grant (conflicts s me slot mode) (λ r h l. unheld_spared s me slot mode r (not_seen s (level_of me) slot r v h (omega arith))) slot (in_range_lem slot e) mode (s.clock + s.delay) None)
       go o (wait_g e c q) = rw q (waiting_hidden page mode)
       go o (fill slot e c q) = rw q (fill_hidden slot c page mode e)

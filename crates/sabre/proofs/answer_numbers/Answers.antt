@@ -12,7 +12,7 @@ overflow_add-result-in-Fetch c = omega (arith, fetch_slot _ c.in-Fetch.due _ c.i
 
 pub returns-in-Refused : goal.returns-in-Refused
 unfolding answer_numbers word value slot_told back_told
-returns-in-Refused c = simp c.in-Refused.is
+returns-in-Refused c = simp (c.in-Refused.is, c.from.ensures)
 
 pub returns-in-Started : goal.returns-in-Started
 unfolding answer_numbers word value slot_told back_told

@@ -11,7 +11,7 @@ returns-then-area-lt65536 c =
     record { returned = p.returned; told = p.told }
 
 pub is_area_sound-requires : goal.is_area_sound-requires
-is_area_sound-requires c = (c.if-area-lt65536.false, c.decode-s.ensures.0)
+is_area_sound-requires c = c.if-area-lt65536.false
 
 pub ask-x-requires : goal.ask-x-requires
 ask-x-requires c = let h = long_fit c.args.area.now _ _ _ c.if-area-lt65536.false c.decode-s.ensures.0 c.decode-s.ensures.1 refl _ c.is_area_sound.ensures ∙ c.if-is_area_sound.true in

@@ -15,7 +15,7 @@ returns-then-area-lt65536 c =
     record { returned = p.returned; told = p.told; left = p.left; listed = unfit_list a (Tick c.args.room) _ u }
 
 pub is_area_sound-requires : goal.is_area_sound-requires
-is_area_sound-requires c = (c.if-area-lt65536.false, c.decode-s.ensures.0)
+is_area_sound-requires c = c.if-area-lt65536.false
 
 pub tick-o-requires : goal.tick-o-requires
 tick-o-requires c =

@@ -1,12 +1,17 @@
-use Prim.Native.Nat.{◌/◌}
-use Rattle.serve.proofs.ReplyLaws.{taken_slot, filled_slot_lem}
+use Rattle.std.proofs.Common.{rules, of_calls}
+use borrow.Author.Tests.{tests}
+use Rattle.serve.specs.Inner.SlotHoldings.{pinning}
+use Rattle.serve.proofs.SlotLaws.{marks_are}
+use Rattle.serve.proofs.ReplyLaws.{taken_slot, entered_lem}
 use Rattle.serve.proofs.into_slot.Goals as goal
 
-pub fill_slot-filled-requires : goal.fill_slot-filled-requires
-fill_slot-filled-requires c = taken_slot c.args.c c.take_rows-taken.result c.take_rows-taken.ensures c.requires.0
-
 pub grant-requires : goal.grant-requires
-grant-requires c = (filled_slot_lem c.take_rows-taken.result c.fill_slot-filled.result c.args.page c.args.due (c.args.row / 8) c.fill_slot-filled.ensures (taken_slot c.args.c c.take_rows-taken.result c.take_rows-taken.ensures c.requires.0), c.requires.1)
+grant-requires c = taken_slot c.args.s.now c.mark_rows-gone.result c.args.slot c.held_on-held.result c.take_rows-c.result c.take_rows-c.ensures c.requires
 
 pub returns : goal.returns
-returns c = rw (c.grant.ensures, c.fill_slot-filled.ensures, c.take_rows-taken.ensures, c.write_back-back.ensures)
+returns c =
+    let a = c.args in
+    entered_lem a.s.now a.slot a.q.row a.q.page a.q.mode a.q.due c.held_on-held.result c.mark_rows-gone.result c.take_rows-c.result c.write_back-back.result c.default-c.result c.grant.result
+    c.held_on-held.ensures
+    (marks_are c.held_on-held.result pinning c.mark_rows-gone.result (search rules) (λ r h. let k = c.mark_rows-gone.ensures r h in search (rules, of_calls, tests)))
+    c.take_rows-c.ensures c.write_back-back.ensures (search rules) c.grant.ensures

@@ -1,19 +1,10 @@
-use mathlib.Core.Path.{◌≡◌, refl, ◌∙◌}
-use native.Mathlib.Omega.{arith}
-use Rattle.seq.specs.Below.{any_below}
-use Rattle.seq.proofs.BelowLaws.{any_test_turn}
-use Rattle.serve.specs.Inner.SlotHoldings.{seen_test, held_by, seen_in}
+use Rattle.std.proofs.Common.{rules}
+use borrow.Author.Tests.{tests}
+use Rattle.seq.proofs.IterLaws.{any_placed}
+use Rattle.model.specs.State.{empty_holding}
+use Rattle.serve.specs.Inner.SlotHoldings.{seen_test, seen_in}
 use Rattle.serve.proofs.see.Goals as goal
-
-pub loop-r-init : goal.loop-r-init
-unfolding any_below
-loop-r-init c = (omega arith, refl)
-
-pub loop-r-preserved : goal.loop-r-preserved
-loop-r-preserved c = let a = c.args in
-    let w = c.loop-r in
-    (omega arith, any_test_turn (λ row. seen_test a.level row (held_by a.held row)) w.r w.found c.is_seen-t.result _ w.invariant.1 c.is_seen-t.ensures refl)
 
 pub returns : goal.returns
 unfolding seen_in
-returns c = let e : c.loop-r.r ≡ 32 = omega arith in c.loop-r.invariant.1 ∙ rw e
+returns c = any_placed c.args.held 32 (search rules) empty_holding _ c.any.result _ (λ row h. seen_test c.args.level row h) (cc) c.enumerate.ensures.count (λ x b q k. search (rules, tests)) c.any.ensures.ran

@@ -2,6 +2,7 @@
 use Rattle.std.specs.Prelude.{Bool, false, cond, ◌&&◌, not, List, ℕ, leb, ltb, eqb, get_or, replicate}
 use Rattle.seq.specs.Below.{any_below, pick_below, at_found}
 use Rattle.seq.specs.Each.{each}
+use Rattle.model.specs.declared.Mode.{Mode}
 use Rattle.model.specs.declared.Rank.{Rank}
 use Rattle.model.specs.declared.Slot.{Slot}
 use Rattle.model.specs.declared.Holding.{Holding}
@@ -9,13 +10,10 @@ use Rattle.model.specs.declared.State.{State}
 use Rattle.model.specs.Parties.{level_of, better}
 use Rattle.model.specs.State.{empty_holding, holding_at}
 use Rattle.model.specs.Words.{is_filled, is_held, is_pin, pin_of, conflict}
+use Rattle.model.specs.Changes.{written, dirtied}
 use Rattle.model.specs.Inner.Changed.{marked}
+unfoldable pub use Rattle.model.specs.Inner.Holdings.{holdings_on}
 use Rattle.choice.specs.Inner.Summary.{no_rank}
-use Rattle.serve.specs.declared.Kills.{Kills}
-use Rattle.serve.specs.declared.Kills.TheVariants.{Pinning, Conflicting}
-
-unfoldable pub holdings_on : State → ℕ → List Holding
-holdings_on s slot = each (λ row _. holding_at s slot row) (replicate 32 empty_holding)
 
 abbrev pub held_by : List Holding → ℕ → Holding
 held_by held row = get_or held row empty_holding
@@ -28,10 +26,6 @@ seen_test level row h = leb (level_of row) level && is_held h.pin
 unfoldable pub seen_in : List Holding → ℕ → Bool
 seen_in held level = any_below 32 (λ row. seen_test level row (held_by held row))
 
--- the least arrival so far, with one holding more where it passes
-unfoldable pub lesser : Bool → ℕ → Bool → ℕ → ℕ
-lesser passes arrival found least = cond passes (cond found (cond (ltb arrival least) arrival least) arrival) least
-
 -- the least arrival among the holdings that the level sees
 unfoldable pub least_in : List Holding → ℕ → ℕ
 least_in held level =
@@ -43,13 +37,19 @@ unfoldable pub sees_dormant_in : List Holding → Slot → ℕ → Bool
 sees_dormant_in held x level = eqb level 3 && (is_filled x.content && not (any_below 32 (λ row. is_held (held_by held row).pin)))
 
 -- the rows that are killed: those with a pin; the other rows with a conflicting pin
-abbrev pub kill_test : Kills → ℕ → Holding → Bool
-kill_test Pinning other h = is_pin h.pin
-kill_test (Conflicting row mode) other h = not (eqb other row) && conflict (pin_of mode) h.pin
+abbrev pub pinning : ℕ → Holding → Bool
+pinning other h = is_pin h.pin
 
-unfoldable pub marks_of : List Holding → Kills → List Bool
-marks_of held kills = each (λ row _. kill_test kills row (held_by held row)) (replicate 32 false)
+abbrev pub conflicting : ℕ → Mode → ℕ → Holding → Bool
+conflicting row mode other h = not (eqb other row) && conflict (pin_of mode) h.pin
+
+unfoldable pub marks_of : List Holding → (ℕ → Holding → Bool) → List Bool
+marks_of held test = each (λ row _. test row (held_by held row)) (replicate 32 false)
 
 -- a marked row is of better priority than the requester
 unfoldable pub must_wait_in : List Bool → List Rank → ℕ → Bool
 must_wait_in marks ranks row = any_below 32 (λ other. marked marks other && better (get_or ranks other no_rank) (get_or ranks row no_rank))
+
+-- the slot, dirty where the row's holding had written the page
+abbrev pub row_dirtied : State → ℕ → ℕ → Slot → Slot
+row_dirtied s row slot x = cond (written s.clock (holding_at s slot row)) (dirtied x) x

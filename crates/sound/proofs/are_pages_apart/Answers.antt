@@ -1,32 +1,27 @@
-use mathlib.Core.Path.{◌≡◌, refl, ◌∙◌, ap}
-use mathlib.Core.Bool.{false, not}
-use Prim.Native.Nat.{ℕ}
-use lib.ListN.{get_or}
+use mathlib.Core.Path.{refl, sym, ◌∙◌, ap}
+use mathlib.Core.Bool.{not}
 use native.Mathlib.Omega.{arith}
 use Rattle.seq.specs.Below.{all_below}
-use Rattle.seq.proofs.BelowLaws.{all_turn}
+use Rattle.seq.proofs.BelowLaws.{fail_all}
 use Rattle.sound.specs.Inner.Tests.{place_taken}
+use Rattle.sound.proofs.ElementLaws.{all_next}
 use Rattle.sound.proofs.PageLaws.{noted_none, noted_more, noted_taken}
 use Rattle.sound.proofs.are_pages_apart.Goals as goal
 
-pub loop-i-init : goal.loop-i-init
+pub loop-x-init : goal.loop-x-init
 unfolding all_below
-loop-i-init c = (omega arith, refl, noted_none c.args.slots c.no_pages-seen.result c.no_pages-seen.ensures)
+loop-x-init c = (refl, noted_none c.args.slots.now c.no_pages-seen.result c.no_pages-seen.ensures)
 
-pub bounds-seen-k : goal.bounds-seen-k
-bounds-seen-k c = omega (arith, c.loop-i.invariant.2.0, c.place_of-k.ensures.1)
+pub returns-then-seen-k : goal.returns-then-seen-k
+returns-then-seen-k c = let slots = c.args.slots.now in
+    let w = c.loop-x in
+    let k = c.place_of-k in
+    let t = noted_taken slots w.x-index k.result w.seen k.ensures.1 k.ensures.0 w.invariant.1 in
+    sym (fail_all (λ slot. not (place_taken slots slot)) 64 w.x-index (omega arith) (ap not (sym t ∙ c.if-seen-k.true)))
 
-pub bounds-seen-k-in-loop-i : goal.bounds-seen-k-in-loop-i
-bounds-seen-k-in-loop-i c = omega (arith, c.loop-i.invariant.2.0, c.place_of-k.ensures.1)
-
-pub loop-i-preserved : goal.loop-i-preserved
-loop-i-preserved c = let slots = c.args.slots in
-    let w = c.loop-i in
-    let k = c.place_of-k in (
-      omega arith,
-      all_turn (λ slot. not (place_taken slots slot)) w.i w.ok (not (get_or w.seen k.result false)) c.unless-ok.result w.invariant.1 (ap not (noted_taken slots w.i k.result w.seen k.ensures.1 k.ensures.0 w.invariant.2)) c.unless-ok.ensures,
-      noted_more slots w.i k.result w.seen k.ensures.1 k.ensures.0 w.invariant.2,
-    )
-
-pub returns : goal.returns
-returns c = let e : c.loop-i.i ≡ 64 = omega arith in c.loop-i.invariant.1 ∙ ap (λ (n : ℕ). all_below n (λ slot. not (place_taken c.args.slots slot))) e
+pub loop-x-preserved : goal.loop-x-preserved
+loop-x-preserved c = let slots = c.args.slots.now in
+    let w = c.loop-x in
+    let k = c.place_of-k in
+    let t = noted_taken slots w.x-index k.result w.seen k.ensures.1 k.ensures.0 w.invariant.1 in
+    (all_next (λ slot. not (place_taken slots slot)) w.x-index w.invariant.0 (ap not (sym t ∙ c.if-seen-k.false)), noted_more slots w.x-index k.result w.seen k.ensures.1 k.ensures.0 w.invariant.1)

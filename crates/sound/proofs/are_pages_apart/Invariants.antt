@@ -1,10 +1,9 @@
 use mathlib.Core.Path.{◌≡◌}
-use mathlib.Core.Bool.{not}
-use Prim.Native.Nat.{◌≤◌}
+use mathlib.Core.Bool.{true, not}
 use Rattle.seq.specs.Below.{all_below}
 use Rattle.sound.specs.Inner.Tests.{place_taken}
 use Rattle.sound.proofs.PageLaws.{Noted}
 use Rattle.sound.proofs.are_pages_apart.Given as goal
 
-abbrev pub invariant-loop-i : goal.invariant-loop-i
-invariant-loop-i l = (l.i ≤ 64) × (l.ok ≡ all_below l.i (λ slot. not (place_taken l.slots slot))) × Noted l.slots l.i l.seen
+abbrev pub invariant-loop-x : goal.invariant-loop-x
+invariant-loop-x l = (all_below l.x-index (λ slot. not (place_taken l.slots slot)) ≡ true) × Noted l.slots l.x-index l.seen

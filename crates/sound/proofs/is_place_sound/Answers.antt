@@ -1,15 +1,10 @@
-use Rattle.seq.proofs.Tests.{tests}
-use Rattle.sound.specs.Inner.Tests.{place_test}
+use Rattle.rules.specs.Sound.{sound_place}
 use Rattle.sound.proofs.is_place_sound.Goals as goal
 
-pub returns-then-free : goal.returns-then-free
-unfolding place_test
-returns-then-free c = simp c.if-free.true
+pub returns-then-is_free : goal.returns-then-is_free
+unfolding sound_place
+returns-then-is_free c = simp (c.if-is_free.true, ← c.is_free.ensures)
 
-pub returns-then-place-lt1 : goal.returns-then-place-lt1
-unfolding place_test
-returns-then-place-lt1 c = simp (tests, c.if-place-lt1.true, c.if-free.false)
-
-pub returns : goal.returns
-unfolding place_test
-returns c = simp (tests, c.if-place-lt1.false, c.if-free.false)
+pub returns-else-is_free : goal.returns-else-is_free
+unfolding sound_place
+returns-else-is_free c = simp (c.if-is_free.false, ← c.is_free.ensures, c.requires.2)

@@ -1,26 +1,20 @@
-use Rattle.sound.specs.Inner.Tests.{row_test}
+use mathlib.Core.Logic.{inl, inr}
+use Rattle.rules.specs.Sound.{sound_row}
+use Rattle.sound.proofs.ElementLaws.{joins}
 use Rattle.sound.proofs.is_row_sound.Goals as goal
 
 pub returns-in-Free : goal.returns-in-Free
-unfolding row_test
-returns-in-Free c = simp c.in-Free.is
-
-pub returns-then-past : goal.returns-then-past
-unfolding row_test
-returns-then-past c = simp (c.if-past.true, ← c.is_past-past.ensures, c.in-Idle.is)
+unfolding sound_row
+returns-in-Free c = elim c.in-Free.is [ inl e ↦ simp e | inr e ↦ simp e.1 ]
 
 pub returns-in-Idle : goal.returns-in-Idle
-unfolding row_test
-returns-in-Idle c = simp (c.if-past.false, ← c.is_past-past.ensures, c.in-Idle.is)
+unfolding sound_row
+returns-in-Idle c = simp (← c.is_settled.ensures, ← c.is_past-in_time.ensures, c.in-Idle.is)
 
 pub returns-in-Fetching : goal.returns-in-Fetching
-unfolding row_test
-returns-in-Fetching c = simp (← c.is_fetching_sound.ensures, ← c.is_past-past.ensures, c.in-Fetching.is)
+unfolding sound_row
+returns-in-Fetching c = simp (joins, c.awaits_one.ensures, c.is_past-in_time.ensures, c.in-Fetching.is)
 
 pub returns-in-Waiting : goal.returns-in-Waiting
-unfolding row_test
-returns-in-Waiting c = simp (← c.is_waiting_sound.ensures, ← c.is_past-past.ensures, c.in-Waiting.is)
-
-pub returns-in-Killed : goal.returns-in-Killed
-unfolding row_test
-returns-in-Killed c = simp c.in-Killed.is
+unfolding sound_row
+returns-in-Waiting c = simp (← c.is_settled-in-Waiting.ensures, ← c.may_access.ensures.value, ← c.class_of-class.ensures.0, ← c.is_past-in_time.ensures, c.in-Waiting.is)

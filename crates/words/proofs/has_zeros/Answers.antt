@@ -1,17 +1,12 @@
 use native.Mathlib.Omega.{arith}
-use Prim.Native.Nat.{ℕ, ◌≤◌, ◌-◌, ◌+◌, ◌*◌}
-use mathlib.Core.Path.{◌≡◌, refl, ◌∙◌, sym, ap}
-use lib.Dec.{eqb}
-use Rattle.seq.specs.Below.{all_below}
-use Rattle.words.proofs.ZeroLaws.{zero_byte, zero_turn, zero_bytes}
+use Prim.Native.Nat.{◌+◌, ◌-◌, ◌*◌, max}
+use lib.ListN.{take, drop}
+use Rattle.std.proofs.Common.{rules, tests}
+use Rattle.std.proofs.lemmas.Iterator.{YieldsList-from_slice}
+use Rattle.std.proofs.lemmas.Iterator.Consumers.{fold_from_yields_List}
+use Rattle.words.proofs.ZeroLaws.{zero_words_read}
 use Rattle.words.proofs.has_zeros.Goals as goal
 
-pub loop-j-init : goal.loop-j-init
-unfolding all_below
-loop-j-init c = (omega arith, refl, refl)
-
-pub loop-j-preserved : goal.loop-j-preserved
-loop-j-preserved c = (omega arith, c.loop-j.invariant.1, zero_turn c.args.a.now c.args.at c.loop-j.j c.loop-j.largest _ _ c.loop-j.invariant.2 refl c.larger-largest.ensures)
-
 pub returns : goal.returns
-returns c = c.loop-j.invariant.2 ∙ zero_bytes c.args.a.now c.args.at c.args.n c.loop-j.j (omega arith) (omega arith)
+returns c = zero_words_read c.args.a.now c.args.at c.args.n (c.args.at + c.args.n * 8 - c.args.at) c.fold.result (λ i. omega (arith, c.type_inv.a i)) c.requires (omega arith)
+    (fold_from_yields_List {all = take (c.args.at + c.args.n * 8 - c.args.at) (drop c.args.at c.args.a.now)} _ max 0 c.fold.result c.fold.ensures.ran (YieldsList-from_slice _ (cc)) (λ a x b q k. search (rules, tests)))

@@ -1,0 +1,4 @@
+use Rattle.record.proofs.Sheet.+digits.Given as goal
+
+abbrev pub decreases-digits : goal.decreases-digits
+decreases-digits l = l.n
