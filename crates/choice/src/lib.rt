@@ -69,7 +69,7 @@ impl Holders {
     fn is_beside(&self, requester: Rank) -> bool
         ensures { result ≡ beside requester self.now }
     {
-        self.rank.level == requester.level && self.rank >= requester
+        self.rank.level == requester.level && !model::is_better(self.rank, requester)
     }
 }
 
@@ -90,7 +90,7 @@ fn join_level(w: Holders, row: usize, rank: Rank, h: &Holding) -> Holders
         pinned: w.pinned | model::is_pin(h.pin),
         ..w
     };
-    if rank < w.rank {
+    if model::is_better(rank, w.rank) {
         Holders {
             best: row,
             rank,
@@ -192,7 +192,7 @@ fn is_held_before(x: &Summary, y: &Summary) -> bool
         return false;
     };
     if v.best != w.best {
-        return w.rank < v.rank;
+        return model::is_better(w.rank, v.rank);
     }
     (v.latest, model::page_in(x.slot.content)) < (w.latest, model::page_in(y.slot.content))
 }
