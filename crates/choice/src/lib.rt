@@ -147,16 +147,15 @@ fn summary_of(s: &State, ranks: &[Rank; 32], requester: usize, slot: usize) -> S
     }
 }
 
-// The summaries of the slots started with. By value: a reference to a state that is passed by value copies it, and so it is copied only where no slot is
-// empty.
-fn summaries(s: State, requester: usize) -> [Summary; 64]
-    requires { (s.size ≤ 64) × (requester < 32) }
-    ensures { SummariesOf s requester s.size result }
+// The summaries of the slots started with.
+fn summaries(s: &State, requester: usize) -> [Summary; 64]
+    requires { (s.now.size ≤ 64) × (requester < 32) }
+    ensures { SummariesOf s.now requester s.now.size result }
 {
     let ranks = ranks(s.rows, s.places);
     let mut all = [Summary::default(); 64];
     for (i, x) in all[..s.size].iter_mut().enumerate() {
-        *x = summary_of(&s, &ranks, requester, i);
+        *x = summary_of(s, &ranks, requester, i);
     }
     all
 }
@@ -237,14 +236,12 @@ fn choose_held(m: &[Summary], requester: Rank) -> Found
 }
 
 // The slot that a requester takes for a page that is in no slot, or nowhere. The holdings are asked only where no slot is empty.
-// Slots, rows and places are copied before one is read: to index them in the state copies all of it.
-pub fn choose(s: State, row: usize) -> Found
-    requires { (s.size ≤ 64) × (row < 32) }
-    ensures { result ≡ chosen s row }
+pub fn choose(s: &State, row: usize) -> Found
+    requires { (s.now.size ≤ 64) × (row < 32) }
+    ensures { result ≡ chosen s.now row }
 {
     let n = s.size;
-    let slots = s.slots;
-    let empty = search(&slots[..n], |x| !model::is_filled(x.content), |_, _| false);
+    let empty = search(&s.slots[..n], |x| !model::is_filled(x.content), |_, _| false);
     if let Found::At(i) = empty {
         return Found::At(i);
     }
@@ -253,7 +250,5 @@ pub fn choose(s: State, row: usize) -> Found
     if let Found::At(i) = search(m, is_dormant, is_dormant_before) {
         return Found::At(i);
     }
-    let rows = s.rows;
-    let places = s.places;
-    choose_held(m, model::rank_of(row, rows[row].deadline, places[row]))
+    choose_held(m, model::rank_of(row, s.rows[row].deadline, s.places[row]))
 }

@@ -317,7 +317,7 @@ pub fn serve(s: State, row: usize, page: u32, mode: Mode) -> Reply
         due,
     };
     let Found::At(slot) = choice::find_page(s.slots, s.size, page) else {
-        let Found::At(chosen) = choice::choose(s, row) else {
+        let Found::At(chosen) = choice::choose(&s, row) else {
             return wait(&s, q);
         };
         return into_slot(&s, chosen, q);
