@@ -95,12 +95,12 @@ fn refuse(answer: &mut [u64; 4], refusal: Refusal) -> u32
 
 // Whether an area is sound, or was in the last 32-bit layout: its bytes are exactly those of the state that it names, its version is known, and that
 // state is sound.
-fn is_area_sound(area: &[u8], exact: bool, s: &State) -> bool
+fn is_area_sound(area: &[u8], exact: bool, s: State) -> bool
     requires { 65536 ≤ length area.now }
-    ensures { result ≡ exact && known (version_in area.now) s.now.clock s.now.rows && sound s.now }
+    ensures { result ≡ exact && known (version_in area.now) s.clock s.rows && sound s }
 {
     if exact & layout32::is_known(area::version_of(area), s.clock, s.rows) {
-        return sound::is_sound(s);
+        return sound::is_sound(&s);
     }
     false
 }
@@ -168,7 +168,7 @@ pub fn tick(area: &mut [u8], list: &mut [u8], room: usize, answer: &mut [u64; 4]
     }
     let mut exact = false;
     let s = area::decode(area, &mut exact);
-    if is_area_sound(area, exact, &s) {
+    if is_area_sound(area, exact, s) {
         let o = calls::tick(s, room, list);
         return settle(area, answer, o);
     }
@@ -193,7 +193,7 @@ pub fn make(area: &mut [u8], c: Call, answer: &mut [u64; 4]) -> u32
     }
     let mut exact = false;
     let s = area::decode(area, &mut exact);
-    if is_area_sound(area, exact, &s) {
+    if is_area_sound(area, exact, s) {
         let r = calls::make(s, c);
         return finish(area, answer, r);
     }
@@ -211,7 +211,7 @@ fn ask(area: &[u8], c: Call, answer: &mut [u64; 4]) -> u32
     }
     let mut exact = false;
     let s = area::decode(area, &mut exact);
-    if is_area_sound(area, exact, &s) {
+    if is_area_sound(area, exact, s) {
         let x = calls::ask(s, c);
         return tell(answer, x);
     }
