@@ -5,7 +5,7 @@ ghost use Rattle.std.specs.Prelude.{◌≡◌, ◌+◌, ◌*◌, ◌^◌, ◌<�
 ghost use Rattle.words.specs.Bytes.{Wrote};
 ghost use Rattle.record.specs.Record.{field, of_kind, record_width, has_mark, record_of};
 ghost use Rattle.sabre.specs.Lent.{status, answer_numbers};
-ghost use Rattle.record.specs.Play.{admitted, answer_to, area_with, list_with, next_progress, played_one};
+ghost use Rattle.record.specs.Play.{admitted, answer_to, area_with, list_with, next_progress, played_one, first_progress};
 ghost use Rattle.record.specs.Text.{digits, decimal, word_text, or_dash, head_text, tail_text, line_of, fill_numbers, fill_line, fill_lines, most_text, header};
 ghost use Rattle.record.specs.Inner.Put.{Put};
 ghost use Rattle.record.specs.Inner.Room.{room_of};
@@ -365,6 +365,14 @@ fn make_call(area: &mut [u8], list: &mut [u8], input: Option<Call>, answer: &mut
         Some(Call::Tick { room }) => sabre::tick(area, list, room, answer),
         Some(call) => sabre::make(area, call, answer),
     }
+}
+
+// `Progress::FIRST`, which as a constant has no contract.
+#[tactic(auto, unfolding(crate::specs::Play::first_progress))]
+pub fn first_progress() -> Progress
+    ensures { result ≡ first_progress }
+{
+    Progress::FIRST
 }
 
 // The progress after a record that was answered with a word.

@@ -20,11 +20,21 @@ use Rattle.words.proofs.WroteLaws.{wrote_none}
 use Rattle.record.specs.declared.Progress.{Progress}
 use Rattle.record.specs.Record.{record_width}
 use Rattle.record.specs.Text.{most_text, header}
-use Rattle.record.specs.Play.{Played, unplayed, played_one, and_then, played, first_records, records_of, AllFull, input_of}
+use Rattle.record.specs.Play.{Played, unplayed, played_one, and_then, played, first_records, records_of, AllFull, input_of, first_progress, printed}
 use Rattle.record.proofs.PlayLaws.{Came, one_small, cut_over}
 use Rattle.record.proofs.RecordLaws.{widths}
 use Rattle.record.proofs.RunLaws.{full_record, full_more, records_input, played_append, played_alone, played_over, last_record}
 use Rattle.stream.specs.Left.{first_from, LeftBySome, printed_from}
+
+-- a run begins at the first progress, but for whether the area counts as started
+pub first_from_lem : (t : Progress) (started : Bool) → t ≡ first_progress → record { started = started; over = t.over; number = t.number } ≡ first_from started
+unfolding first_progress first_from
+first_from_lem t started e = ap (λ (u : Progress). record { started = started; over = u.over; number = u.number }) e
+
+-- on an area that is not started a run prints what the player prints
+pub printed_is : (a input : List ℕ) → printed_from false a input ≡ printed a input
+unfolding printed_from printed first_from first_progress
+printed_is a input = refl
 
 -- what was read is no record, or one, which may be cut
 module _ (t : Progress) (a : List ℕ) where

@@ -142,7 +142,7 @@ pub fn play_input<R: Read, W: Write>(
     let mut bytes = [0; record::LONG_WIDTH];
     let mut progress = Progress {
         started,
-        ..Progress::FIRST
+        ..record::first_progress()
     };
     let head = record::put_header(&mut out);
     writer.write_all(&out[..head])?;

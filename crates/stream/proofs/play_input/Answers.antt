@@ -1,9 +1,10 @@
-use Rattle.std.proofs.Common.{◌≡◌, ◌-◌, ◌<◌, ◌≤◌, ℕ, true, arith, refl, sym, ◌∙◌, subst, ltb, length, take}
+use Rattle.std.proofs.Common.{◌≡◌, ◌-◌, ◌<◌, ◌≤◌, ℕ, true, arith, refl, sym, ap, ◌∙◌, subst, ltb, length, take}
 use lib.ListN.{length-replicate, length-take}
+use Rattle.record.specs.declared.Progress.{Progress}
 use Rattle.record.specs.Text.{most_text}
 use Rattle.stream.specs.Left.{LeftBySome, first_from, most_records}
 use Rattle.stream.proofs.ReadLaws.{read_long}
-use Rattle.stream.proofs.InputLaws.{read_within, turn_small, run_first, run_room, run_more, left_none, left_whole, left_by, whole_area, whole_text, never_over, room_left}
+use Rattle.stream.proofs.InputLaws.{first_from_lem, read_within, turn_small, run_first, run_room, run_more, left_none, left_whole, left_by, whole_area, whole_text, never_over, room_left}
 use Rattle.stream.proofs.play_input.Given as given
 use Rattle.stream.proofs.play_input.Goals as goal
 use Rattle.stream.proofs.play_input.Goals.{In-Ok, Joined-then-turn-eq0, then-turn-eq0-via-then-turn-eq0, then-turn-eq0-via-else-turn-eq0+then-turn}
@@ -27,14 +28,15 @@ returns-in_err-write_all-clause-left g c = left_none c.args.started c.args.area.
 pub loop-init : goal.loop-init
 unfolding first_from
 loop-init g c =
-    let p = c.put_header-head in (
+    let p = c.put_header-head in
+    let first = first_from_lem c.first_progress.result c.args.started c.first_progress.ensures in (
       omega arith,
       refl,
       omega (arith, p.auto.out, length-replicate {A = ℕ} 65536 0),
       sym (length-replicate {A = ℕ} 16 0),
       omega arith,
-      omega arith,
-      run_first c.args.started c.args.area.now _ _ _ _ p.new.out p.result p.ensures c.in_ok-write_all.ensures.bytes,
+      omega (arith, ap (λ (u : Progress). u.number) first),
+      rw first (run_first c.args.started c.args.area.now _ _ _ _ p.new.out p.result p.ensures c.in_ok-write_all.ensures.bytes),
     )
 
 pub returns-in_err-write_all-in-Err-clause-left : goal.returns-in_err-write_all-in-Err-clause-left
