@@ -70,6 +70,11 @@ pub numbers_test : (s : State) → lengths_test s.rows s.slots s.holdings s.plac
 unfolding lengths_test in_range sound_numbers
 numbers_test s = simp and_assoc
 
+-- a state whose numbers are out of range
+pub out_of_range : (s : State) → in_range s.size s.delay s.clock ≡ false → false ≡ sound s
+unfolding sound
+out_of_range s e = rw (← numbers_test s, e) (simp joins)
+
 -- the whole test
 pub sound_test : (s : State) → lengths_test s.rows s.slots s.holdings s.places && in_range s.size s.delay s.clock && all_below 64 (sound_slot s) && all_below 64 (λ slot. not (place_taken s.slots slot)) && all_below 32 (sound_row s)
     && all_below 64 (λ slot. all_below 32 (sound_holding s slot) && sound_pins s slot) && sound_borders s && all_below 4 (sound_order s) ≡ sound s

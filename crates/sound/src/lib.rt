@@ -288,12 +288,14 @@ fn are_orders_sound(s: &State) -> bool
     (0..4usize).all(|level| is_order_sound(s, level))
 }
 
-// Whether a state is sound.
+// Whether a state is sound. Its numbers may be any, and where they are out of range nothing else is looked at.
 pub fn is_sound(s: &State) -> bool
     ensures { result ≡ sound s.now }
 {
+    if !is_in_range(s) {
+        return false;
+    }
     are_whole(&s.rows, &s.slots, &s.holdings, &s.places)
-        & is_in_range(s)
         & are_slots_sound(s)
         & are_pages_apart(&s.slots)
         & are_rows_sound(s)
