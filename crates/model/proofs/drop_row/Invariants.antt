@@ -1,5 +1,4 @@
-use Rattle.model.specs.Inner.Changed.{Replaced}
-use Rattle.model.proofs.InPlace.{row_dropping}
+use Rattle.model.proofs.InPlace.{Replaced, row_dropping}
 use Rattle.model.proofs.drop_row.Given as goal
 
 abbrev pub invariant-loop-i : goal.invariant-loop-i

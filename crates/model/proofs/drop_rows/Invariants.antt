@@ -1,5 +1,4 @@
-use Rattle.model.specs.Inner.Changed.{Replaced}
-use Rattle.model.proofs.InPlace.{rows_dropping}
+use Rattle.model.proofs.InPlace.{Replaced, rows_dropping}
 use Rattle.model.proofs.drop_rows.Given as goal
 
 abbrev pub invariant-loop-r : goal.invariant-loop-r

@@ -1,5 +1,5 @@
 -- For the code; a call's reply is proved equal to its outcome, crates/calls: what a call makes of a state, as a change of its parts.
-use Rattle.std.specs.Prelude.{◌≡◌, Bool, true, false, cond, List, ℕ, ◌<◌, ◌/◌, ◌%◌, eqb, length, get_or, set, replicate}
+use Rattle.std.specs.Prelude.{◌≡◌, Bool, true, false, cond, List, ℕ, ◌/◌, ◌%◌, eqb, get_or, set, replicate}
 use Rattle.seq.specs.Each.{each}
 use Rattle.model.specs.declared.Row.{Row}
 use Rattle.model.specs.declared.Slot.{Slot}
@@ -17,11 +17,6 @@ use Rattle.model.specs.Changes.{closed_up}
 -- the rows that a list of marks names
 abbrev pub marked : List Bool → ℕ → Bool
 marked marks row = get_or marks row false
-
--- each of the 2,048 holdings is replaced by a function of its place and itself
-pub record Replaced (f : ℕ → Holding → Holding) (old new : List Holding) : Type 0 where
-  pub long : length new ≡ 2048
-  pub at : (k : ℕ) → k < 2048 → get_or new k empty_holding ≡ f k (get_or old k empty_holding)
 
 -- the holding at place k once a row has lost its holdings, once the marked rows have, and once a slot has the holdings held, by row
 abbrev pub row_dropped : ℕ → ℕ → Holding → Holding
