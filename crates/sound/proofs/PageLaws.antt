@@ -31,9 +31,9 @@ noted_none slots seen e =
     (rw e (length-replicate 4097 false), λ p h. rw e (get_or-replicate 4097 p false false h ∙ sym (and_false_right (ltb p 4096) false refl)))
 
 -- the place of slot n noted
-pub noted_more : (slots : List Slot) (n k : ℕ) (seen : List Bool) → k < 4097 → k ≡ place_in (get_or slots n empty_slot).content → Noted slots n seen → Noted slots (n + 1) (set seen k (ltb k 4096))
+pub noted_more : (slots : List Slot) (n k : ℕ) (seen : List Bool) (noted : Bool) → k < 4097 → k ≡ place_in (get_or slots n empty_slot).content → noted ≡ ltb k 4096 → Noted slots n seen → Noted slots (n + 1) (set seen k noted)
 unfolding seen_at
-noted_more slots n k seen h e q = (
+noted_more slots n k seen noted h e w q = rw w (
   length-set seen k (ltb k 4096) ∙ q.0,
   λ p b. elim (ℕ_discrete p k) [
     | yes s ↦ rw s (get_or-set_same seen k (ltb k 4096) false (omega (arith, q.0)) ∙ rw (any_more (at k) n, or_true_right (any_below n (at k)) (at k n) (eq-eqb (place_in (get_or slots n empty_slot).content) k (sym e))) (and_true (ltb k 4096)))

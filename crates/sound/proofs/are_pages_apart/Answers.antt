@@ -24,4 +24,4 @@ loop-x-preserved c = let slots = c.args.slots.now in
     let w = c.loop-x in
     let k = c.place_of-k in
     let t = noted_taken slots w.x-index k.result w.seen k.ensures.1 k.ensures.0 w.invariant.1 in
-    (all_next (λ slot. not (place_taken slots slot)) w.x-index w.invariant.0 (ap not (sym t ∙ c.if-seen-k.false)), noted_more slots w.x-index k.result w.seen k.ensures.1 k.ensures.0 w.invariant.1)
+    (all_next (λ slot. not (place_taken slots slot)) w.x-index w.invariant.0 (ap not (sym t ∙ c.if-seen-k.false)), noted_more slots w.x-index k.result w.seen _ k.ensures.1 k.ensures.0 (grind arith) w.invariant.1)
