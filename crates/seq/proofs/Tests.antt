@@ -69,6 +69,9 @@ beq_true true false e = sym e
 beq_true false true e = e
 beq_true false false e = refl
 
+pub either_both : {a b x y : Bool} → a ≡ x → b ≡ y → a || b ≡ x || y
+either_both e f = rw (e, f)
+
 -- the second test counts only where the first passes
 pub and_when : (a x y : Bool) → (a ≡ true → x ≡ y) → a && x ≡ a && y
 and_when true x y f = f refl

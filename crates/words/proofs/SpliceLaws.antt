@@ -14,6 +14,11 @@ use Rattle.words.proofs.ByteLaws.{length_words, zeros_filled}
 use Rattle.words.specs.Bytes.{value_of, bytes_of, word_at, word_bytes, spliced, zero_words}
 
 module _ {A : Type 0} where
+  pub spliced_length : (a : List A) (at : ℕ) (bs : List A) → at + length bs ≤ length a → length (spliced a at bs) ≡ length a
+  spliced_length a at bs h =
+      let e : length (take at a) ≡ at = length-take-le at a (omega arith) in
+      simp (length-append, e, length-drop) (omega arith)
+
   pub spliced_none : (a : List A) (at : ℕ) → a ≡ spliced a at []
   spliced_none a at = rw (append-nil, add-zero at) (sym (take-append-drop at a))
 
