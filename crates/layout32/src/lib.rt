@@ -6,12 +6,15 @@ ghost use Rattle.layout32.specs.Known.{fits, known};
 
 use model::Row;
 
+// The last clock of the 32-bit layout.
+const LAST_CLOCK: u64 = 4000000000;
+
 // The clock and the deadlines of the rows fit the last 32-bit layout.
 #[tactic(auto, unfolding(crate::specs::Known::fits))]
 fn is_narrow(clock: u64, rows: &[Row; 32]) -> bool
     ensures { result ≡ fits clock rows.now }
 {
-    clock <= 4000000000 && rows.iter().all(|x| x.deadline < 4294967296)
+    clock <= LAST_CLOCK && rows.iter().all(|x| x.deadline < 4294967296)
 }
 
 // An area of the version may have the clock and the rows.
