@@ -6,13 +6,14 @@ use Prim.Native.Nat.{ℕ, ◌<◌, ◌≤◌}
 use native.Mathlib.Omega.{arith}
 use borrow.Author.Tests.{eqb-true}
 use lib.Dec.{ltb, eqb}
-use lib.ListN.{length, take, get_or}
+use lib.ListN.{length, take, get_or, replicate, length-replicate}
 use Rattle.std.proofs.lemmas.List.{get_or-take, length-take-le}
 use Rattle.std.specs.Prelude.{Option, Some, None}
 use Rattle.seq.specs.Below.{pick_below, at_found}
 use Rattle.seq.specs.declared.Found.{Found}
 use Rattle.seq.specs.declared.Found.TheVariants.{At, Nowhere}
 use Rattle.seq.proofs.Tests.{and_true, and_when, parts}
+use Rattle.seq.proofs.EachLaws.{each_below_length, each_below_reached}
 use Rattle.seq.proofs.PickLaws.{pick_same, picked_same}
 use Rattle.model.specs.declared.Rank.{Rank}
 use Rattle.model.specs.declared.State.{State}
@@ -23,7 +24,7 @@ use Rattle.model.proofs.SeenLaws.{seen_held}
 use Rattle.rules.specs.Choice.{or_else, step_a, before_dormant, step_b, holder_level, held_above, highest_level, pinned_at, in_c, in_d, held_at_own_level, seen_pin, in_e, in_f, before_held, step_held, chosen}
 use Rattle.choice.specs.declared.Holders.{Holders}
 use Rattle.choice.specs.declared.Summary.{Summary}
-use Rattle.choice.specs.Inner.Summary.{rank_in, latest_below, pinned_below, holders_at, holders_below, above, beside, summary_of, no_summary, SummariesOf}
+use Rattle.choice.specs.Inner.Summary.{rank_in, latest_below, pinned_below, holders_at, holders_below, above, beside, summary_of, no_summary, summaries_in, SummariesOf}
 use Rattle.choice.specs.Inner.Search.{pick_in, held_so, is_dormant, dormant_before, dormant_in, level_at, top_from, in_step_c, in_step_d, in_step_e, in_step_f, held_before, held_from}
 use Rattle.choice.proofs.SearchLaws.{pick_front, top_is}
 use Rattle.choice.proofs.BestLaws.{holders_at_lem, held_best, held_is, above_is, beside_is, seen_pin_lem}
@@ -163,6 +164,14 @@ module _ (s : State) (me : ℕ) where
 pub empty_found : (s : State) (f : Found) → s.size ≤ length s.slots → f ≡ pick_in (take s.size s.slots) (λ x. not (is_filled x.content)) (λ x y. false) empty_slot → f ≡ step_a s
 unfolding step_a
 empty_found s f h e = e ∙ pick_front s.slots (λ x. not (is_filled x.content)) (λ x y. false) empty_slot s.size h
+
+-- the summaries of the slots started with
+pub summaries_at : (s : State) (me : ℕ) (all : List Summary) → s.size ≤ 64 → all ≡ summaries_in s me → SummariesOf s me s.size all
+unfolding summaries_in
+summaries_at s me all most e = rw e (
+  each_below_length (λ slot _. summary_of s me slot) (replicate 64 no_summary) s.size ∙ length-replicate 64 no_summary,
+  λ slot h. each_below_reached (λ slot _. summary_of s me slot) (replicate 64 no_summary) s.size slot no_summary h (rw (length-replicate 64 no_summary) (omega arith)),
+)
 
 -- steps b to f over the summaries, where step a finds nothing
 pub choice_made : (s : State) (me : ℕ) (all : List Summary) → s.size ≤ 64 → SummariesOf s me s.size all → step_a s ≡ Nowhere

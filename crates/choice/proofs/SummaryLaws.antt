@@ -6,9 +6,9 @@ use Prim.Native.Nat.{ℕ, zero, suc, ◌+◌, ◌-◌, ◌<◌, ◌≤◌, max}
 use native.Mathlib.Omega.{arith}
 use borrow.Author.Tests.{ltb-true, ltb-false, eqb-true, eq-eqb}
 use lib.Dec.{ltb, eqb}
-use native.Mathlib.Decide.{ℕ_discrete}
+use native.Mathlib.Decide.{ℕ_discrete, dec_lt}
 use borrow.Rule.Slice.PartMut.{mid_of}
-use Rattle.std.proofs.lemmas.List.{get_or-take, get_or-drop, get_or_append_left, get_or-set_same, length-take-le}
+use Rattle.std.proofs.lemmas.List.{get_or-take, get_or-drop, get_or_append_left, get_or-append_right, get_or-set_same, length-take-le}
 use Rattle.std.proofs.Common.{◌++◌, length-append, length-drop}
 use lib.ListN.{length, take, drop, set, get_or, replicate, length-replicate}
 use lib.Seq.{ext_get_or, get_or-set_other}
@@ -23,8 +23,8 @@ use Rattle.seq.specs.declared.Found.TheVariants.{At, Nowhere}
 use Rattle.seq.proofs.Tests.{true_false, not_true_false, and_false_right, or_none}
 use Rattle.seq.proofs.BelowLaws.{any_more, none_any}
 use Rattle.seq.proofs.PickLaws.{pick_more, pick_is, pick_none, none_pick}
-use Rattle.seq.specs.Each.{each}
-use Rattle.seq.proofs.EachLaws.{each_length}
+use Rattle.seq.specs.Each.{each, each_below}
+use Rattle.seq.proofs.EachLaws.{each_length, each_below_length, each_below_later, each_below_reached}
 use Rattle.seq.proofs.BuildLaws.{build_at}
 use Rattle.model.specs.declared.Holding.{Holding}
 use Rattle.model.specs.declared.Rank.{Rank}
@@ -68,7 +68,7 @@ module _ {A : Type 0} (l : List A) (a n : ℕ) where
   pub part_length : a + n ≤ length l → length (mid_of a (a + n - a) l) ≡ n
   part_length h = rw part_size (length-take-le n (drop a l) (rw length-drop (omega arith)))
 
--- the first elements of an array of n set in turn
+-- the first elements of an array set in turn
 module _ {A : Type 0} (v : ℕ → A) (l : List A) where
   pub filled_turn : (i : ℕ) (d y : A) → i < length l → ((k : ℕ) → k < i → get_or l k d ≡ v k) → y ≡ v i → (k : ℕ) → k < i + 1 → get_or (set l i y) k d ≡ v k
   filled_turn i d y h so e k b = elim (ℕ_discrete k i) [
@@ -76,13 +76,20 @@ module _ {A : Type 0} (v : ℕ → A) (l : List A) where
     | no w ↦ get_or-set_other l i k y d w ∙ so k (omega arith)
   ]
 
-  pub filled_front : (all : List A) (m i n : ℕ) (d : A) → length all ≡ n → m ≤ n → length l ≡ length (take m all) → length (take m all) ≤ i → ((k : ℕ) → k < i → get_or l k d ≡ v k)
-      → (length (l ++ drop m all) ≡ n) × ((k : ℕ) → k < m → get_or (l ++ drop m all) k d ≡ v k)
-  filled_front all m i n d size most long end so =
-      let z : length l ≡ m = long ∙ length-take-le m all (omega arith) in (
-        rw (length-append, length-drop) (omega arith),
-        λ k h. get_or_append_left l (drop m all) d k (omega arith) ∙ so k (omega arith),
-      )
+  pub filled_all : (all : List A) (m i : ℕ) (d : A) → m ≤ length all → length l ≡ length (take m all) → length (take m all) ≤ i → ((k : ℕ) → k < i → get_or l k d ≡ v k)
+      → l ++ drop m all ≡ each_below m (λ k _. v k) all
+  filled_all all m i d most long end so =
+      let z : length l ≡ m = long ∙ length-take-le m all most in
+      let size : length (l ++ drop m all) ≡ length all = rw (length-append, length-drop) (omega arith) in
+      ext_get_or d (l ++ drop m all) (each_below m (λ k _. v k) all) (size ∙ sym (each_below_length (λ k _. v k) all m))
+      (λ k b.
+      let h : k < length all = rw size at b in
+      elim (dec_lt k m) [
+        | yes q ↦ get_or_append_left l (drop m all) d k (omega arith) ∙ so k (omega arith) ∙ sym (each_below_reached (λ k _. v k) all m k d q h)
+        | no q ↦
+            let e : m + (k - m) ≡ k = omega arith in
+            get_or-append_right l (drop m all) m k d z (omega arith) ∙ get_or-drop m all (k - m) d ∙ rw e (sym (each_below_later (λ k _. v k) all m k d (omega arith) h))
+      ])
 
 -- the greatest value among what passes, carried along
 pub most_turn : (p : ℕ → Bool) (f : ℕ → ℕ) (n : ℕ) (b : Bool) → p n ≡ b

@@ -4,7 +4,7 @@
 ghost use Rattle.std.specs.Prelude.{◌≡◌, ◌<◌, ◌≤◌, Bool};
 ghost use Rattle.model.specs.Words.{dirty_in, lowest_in, page_slot};
 ghost use Rattle.rules.specs.Choice.{chosen};
-ghost use Rattle.choice.specs.Inner.Summary.{ranks_of, joined_level, holders_with, holders_below, above, beside, summary_of, SummariesOf};
+ghost use Rattle.choice.specs.Inner.Summary.{ranks_of, joined_level, holders_with, holders_below, above, beside, summary_of, summaries_in};
 ghost use Rattle.choice.specs.Inner.Search.{Tests, Orders, pick_in, is_dormant, dormant_before, held_before, top_from, held_from};
 
 use model::{Content, Holding, Rank, Row, Slot, State};
@@ -150,7 +150,7 @@ fn summary_of(s: &State, ranks: &[Rank; 32], requester: usize, slot: usize) -> S
 // The summaries of the slots started with.
 fn summaries(s: &State, requester: usize) -> [Summary; 64]
     requires { (s.now.size ≤ 64) × (requester < 32) }
-    ensures { SummariesOf s.now requester s.now.size result }
+    ensures { result ≡ summaries_in s.now requester }
 {
     let ranks = ranks(s.rows, s.places);
     let mut all = [Summary::default(); 64];
@@ -241,7 +241,11 @@ pub fn choose(s: &State, row: usize) -> Found
     ensures { result ≡ chosen s.now row }
 {
     let n = s.size;
-    let empty = search(&s.slots[..n], |x| !model::is_filled(x.content), |_, _| false);
+    let empty = search(
+        &s.slots[..n],
+        |x| !model::is_filled(x.content),
+        |_, _| false,
+    );
     if let Found::At(i) = empty {
         return Found::At(i);
     }

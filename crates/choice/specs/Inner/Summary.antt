@@ -1,7 +1,7 @@
 -- For the code; above and beside are proved equal to held_above and held_at_own_level, proofs/BestLaws.antt: the ranks of all rows, the holders of a slot, and its summary for a requester.
 use Rattle.std.specs.Prelude.{◌≡◌, Bool, false, cond, ◌&&◌, ◌||◌, not, List, ℕ, ◌<◌, max, ltb, eqb, get_or, length, replicate, Option, Some, None}
 use Rattle.seq.specs.Below.{any_below, pick_below, at_found}
-use Rattle.seq.specs.Each.{each}
+use Rattle.seq.specs.Each.{each, each_below}
 use Rattle.seq.specs.declared.Found.{Found}
 use Rattle.seq.specs.declared.Found.TheVariants.{At, Nowhere}
 use Rattle.model.specs.declared.Holding.{Holding}
@@ -85,6 +85,10 @@ summary_of s requester slot = record { slot = slot_at s slot; holders = holders_
 
 abbrev pub no_summary : Summary
 no_summary = record { slot = empty_slot; holders = None; own = false }
+
+-- those of the slots started with
+unfoldable pub summaries_in : State → ℕ → List Summary
+summaries_in s requester = each_below s.size (λ slot _. summary_of s requester slot) (replicate 64 no_summary)
 
 -- a list of 64 that begins with those of the slots below n
 abbrev pub SummariesOf : State → ℕ → ℕ → List Summary → Type 0
