@@ -1,14 +1,13 @@
 // How a request, the call's own or one that a tick tries, is served, steps 1 to 4 of document 01, on a state by value.
 #![tactic(auto)]
 
-ghost use Rattle.std.specs.Prelude.{◌≡◌, ℕ, false, ◌+◌, ◌<◌, ◌≤◌, ◌^◌, get_or, replicate};
+ghost use Rattle.std.specs.Prelude.{◌≡◌, ◌+◌, ◌<◌, ◌≤◌, ◌^◌};
 ghost use Rattle.seq.specs.Each.{each};
-ghost use Rattle.model.specs.State.{empty_holding};
 ghost use Rattle.model.specs.Words.{arrival_in};
 ghost use Rattle.model.specs.Changes.{released};
 ghost use Rattle.model.specs.Inner.Changed.{marked, outcome_of};
 ghost use Rattle.rules.specs.Calls.{write_back, served};
-ghost use Rattle.serve.specs.Inner.SlotHoldings.{holdings_on, seen_test, seen_in, least_in, sees_dormant_in, must_wait_in, row_dirtied};
+ghost use Rattle.serve.specs.Inner.SlotHoldings.{holdings_on, seen_test, seen_in, least_in, sees_dormant_in, Tests, marks_of, must_wait_in, row_dirtied};
 ghost use Rattle.serve.specs.Inner.Granted.{held_now, touched_slot, granted_row, granted_answer};
 ghost use Rattle.serve.specs.Inner.Replies.{wait_reply, planned, taken, entered, granting};
 
@@ -86,7 +85,7 @@ pub fn held_on(s: &State, slot: usize) -> [Holding; 32]
 // The rows whose holdings pass, by row.
 fn mark_rows<F: Fn(usize, Holding) -> bool>(held: &[Holding; 32], test: F) -> [bool; 32]
     requires { F.IsAlwaysCallable test }
-    ensures { (row : ℕ) → row < 32 → F.post test row (get_or held.now row empty_holding) (get_or result row false) }
+    ensures { (p : _) → Tests F.Fn test held.now p → result ≡ marks_of held.now p }
 {
     std::array::from_fn(|r| test(r, held[r]))
 }

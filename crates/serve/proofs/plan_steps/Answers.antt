@@ -2,15 +2,13 @@ use mathlib.Core.Path.{◌≡◌}
 use Rattle.std.proofs.Common.{rules, of_calls}
 use borrow.Author.Tests.{tests}
 use Rattle.serve.specs.Inner.SlotHoldings.{conflicting, marks_of}
-use Rattle.serve.proofs.SlotLaws.{marks_are}
 use Rattle.serve.proofs.StepLaws.{plan_waits, plan_seen, plan_dormant, plan_unseen}
 use Rattle.serve.proofs.plan_steps.Goals.{After-see}
 use Rattle.serve.proofs.plan_steps.Goals as goal
 
 marked : (c : After-see) → c.mark_rows-marks.result ≡ marks_of c.args.held.now (conflicting c.args.q.row c.args.q.mode)
 marked c =
-    marks_are c.args.held.now (conflicting c.args.q.row c.args.q.mode) c.mark_rows-marks.result (search rules)
-    (λ r h. let k = c.mark_rows-marks.ensures r h in search (rules, of_calls, tests))
+    c.mark_rows-marks.ensures (conflicting c.args.q.row c.args.q.mode) (λ r b h k. search (rules, of_calls, tests))
 
 pub returns-then-must_wait : goal.returns-then-must_wait
 returns-then-must_wait c =

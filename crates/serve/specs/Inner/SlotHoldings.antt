@@ -1,5 +1,6 @@
 -- For the code; seen_in, least_in, sees_dormant_in and must_wait_in are proved equal to seen, least_arrival, sees_dormant and must_wait, proofs/SlotLaws.antt: the 32 holdings of one slot, by row, and what is read of them.
-use Rattle.std.specs.Prelude.{Bool, false, cond, ◌&&◌, not, List, ℕ, leb, ltb, eqb, get_or, replicate}
+use Rattle.std.specs.Prelude.{◌≡◌, Bool, false, cond, ◌&&◌, not, List, ℕ, ◌<◌, leb, ltb, eqb, get_or, replicate}
+use Rattle.std.specs.Fn.{Shared}
 use Rattle.seq.specs.Below.{any_below, pick_below, at_found}
 use Rattle.seq.specs.Each.{each}
 use Rattle.model.specs.declared.Mode.{Mode}
@@ -42,6 +43,10 @@ pinning other h = is_pin h.pin
 
 abbrev pub conflicting : ℕ → Mode → ℕ → Holding → Bool
 conflicting row mode other h = not (eqb other row) && conflict (pin_of mode) h.pin
+
+-- each call of a test, at a row and its holding, answers p of them
+abbrev pub Tests : {F : Type 0} → Shared F (ℕ × (Holding × Unit {0})) Bool → F → List Holding → (ℕ → Holding → Bool) → Type 0
+Tests calls test held p = (row : ℕ) (r : Bool) → row < 32 → calls.post test (row, (held_by held row, tt)) r → r ≡ p row (held_by held row)
 
 unfoldable pub marks_of : List Holding → (ℕ → Holding → Bool) → List Bool
 marks_of held test = each (λ row _. test row (held_by held row)) (replicate 32 false)
