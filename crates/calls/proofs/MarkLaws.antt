@@ -8,6 +8,7 @@ use lib.ListN.{get_or, set, replicate, length-replicate, get_or-replicate}
 use Rattle.seq.specs.Each.{each}
 use Rattle.seq.proofs.Tests.{eqb_sym}
 use Rattle.seq.proofs.EachLaws.{set_at}
+use Rattle.seq.proofs.BuildLaws.{build_at}
 use Rattle.model.specs.declared.Row.{Row}
 use Rattle.model.specs.declared.Cause.TheVariants.{Late}
 use Rattle.model.specs.declared.State.{State}
@@ -18,7 +19,7 @@ use Rattle.model.specs.Ranges.{Sized}
 use Rattle.model.proofs.SameRows.{released_same, killed_same}
 use Rattle.rules.specs.Calls.{delivered_row, delivered_rows, is_late, late_killed, advanced}
 use Rattle.rules.proofs.Leaves.TickLaws.{later, sized_later}
-use Rattle.calls.specs.Inner.Parts.{late_row}
+use Rattle.calls.specs.Inner.Parts.{late_row, late_marks}
 
 cond_self : (b : Bool) → cond b true false ≡ b
 cond_self true = refl
@@ -28,6 +29,10 @@ pub one_marked : (row other : ℕ) → row < 32 → other < 32 → marked (set (
 one_marked row other h k =
     set_at (replicate 32 false) row other true false (rw (length-replicate 32 false) h)
     ∙ rw (get_or-replicate 32 other false false k) (cond_self (eqb other row) ∙ eqb_sym other row)
+
+pub late_marked : (clock : ℕ) (rows : List Row) (row : ℕ) → row < 32 → marked (late_marks clock rows) row ≡ late_row clock (get_or rows row free_row)
+unfolding late_marks
+late_marked clock rows row h = build_at (λ r. late_row clock (get_or rows r free_row)) 32 false row false h
 
 -- end: the marked row is released, and free
 pub ended_row : (s : State) (r row : ℕ) (x : Row) → r ≡ row → r < 32 → x ≡ free_row → put_row (released (marked (set (replicate 32 false) r true)) s) r x ≡ put_row (released (eqb row) s) row free_row

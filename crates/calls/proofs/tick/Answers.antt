@@ -1,4 +1,5 @@
 use mathlib.Core.Path.{◌≡◌, ◌∙◌, ap}
+use Prim.Native.Nat.{◌+◌}
 use native.Mathlib.Omega.{arith}
 use Rattle.std.proofs.lemmas.Grind.{common_steps}
 use Rattle.model.specs.Inner.Changed.{changed}
@@ -8,6 +9,7 @@ use Rattle.rules.specs.Refusals.{tick_refusal}
 use Rattle.rules.specs.Sound.{sound}
 use Rattle.rules.proofs.Stays.StaysSound.{steps_sound}
 use Rattle.tries.proofs.QueueLaws.{waiters_in_lem}
+use Rattle.calls.proofs.MarkLaws.{late_marked}
 use Rattle.calls.proofs.TickLaws.{steps_made, steps_leave, tick_made}
 use Rattle.calls.proofs.tick.Goals as goal
 use Rattle.calls.proofs.tick.Goals.{After-drop_holdings-c}
@@ -16,7 +18,7 @@ use Rattle.calls.proofs.tick.Goals.{After-drop_holdings-c}
 stepped : (c : After-drop_holdings-c) → changed c.args.s c.drop_holdings-c.result ≡ three_steps c.args.s
 stepped c =
     steps_made c.args.s (state_ok c.args.s _ c.well_formed.0).sized c.deliver_rows-delivered.result c.kill_rows-live.result c.late_rows-late.result c.released_slots-slots.result c.drop_holdings-c.result
-    c.deliver_rows-delivered.ensures c.late_rows-late.ensures c.kill_rows-live.ensures c.released_slots-slots.ensures c.drop_holdings-c.ensures
+    c.deliver_rows-delivered.ensures (λ row h. rw c.late_rows-late.ensures (late_marked (c.args.s.clock + 1) c.deliver_rows-delivered.result row h)) c.kill_rows-live.ensures c.released_slots-slots.ensures c.drop_holdings-c.ensures
 
 pub change_state-requires : goal.change_state-requires
 change_state-requires c = steps_leave c.args.s c.drop_holdings-c.result (stepped ((goal.at.change_state-requires c).After-drop_holdings-c))

@@ -1,6 +1,7 @@
--- For the code; proved equal to is_late and strongest_pin, proofs/MarkLaws and proofs/SlotLaws: a late row, the strongest pin that a level sees on a slot; and a reply.
-use Rattle.std.specs.Prelude.{Bool, false, ◌&&◌, List, ℕ, ltb, replicate}
+-- For the code; proved equal to is_late and strongest_pin, proofs/MarkLaws and proofs/SlotLaws: the late rows as marks, the strongest pin that a level sees on a slot; and a reply.
+use Rattle.std.specs.Prelude.{Bool, false, ◌&&◌, List, ℕ, ltb, get_or, replicate}
 use Rattle.seq.specs.Below.{pick_below, at_found}
+use Rattle.seq.specs.Each.{each}
 use Rattle.model.specs.declared.Answer.{Answer}
 use Rattle.model.specs.declared.Reply.{Reply}
 use Rattle.model.specs.declared.Slot.{Slot}
@@ -10,6 +11,7 @@ use Rattle.model.specs.declared.Pin.TheVariants.{Absent}
 use Rattle.model.specs.declared.Row.{Row}
 use Rattle.model.specs.declared.Setting.{Setting}
 use Rattle.model.specs.Parties.{is_past}
+use Rattle.model.specs.State.{free_row}
 use Rattle.model.specs.Words.{is_live, strength}
 use Rattle.model.specs.Inner.Changed.{holdings_dropped}
 use Rattle.serve.specs.Inner.SlotHoldings.{seen_test, held_by}
@@ -21,6 +23,10 @@ setting_made clock rows slots setting answer = record { change = holdings_droppe
 -- a live row whose deadline has passed
 abbrev pub late_row : ℕ → Row → Bool
 late_row clock x = is_live x.condition && is_past clock x.deadline
+
+-- the marks of the late rows
+unfoldable pub late_marks : ℕ → List Row → List Bool
+late_marks clock rows = each (λ row b. late_row clock (get_or rows row free_row)) (replicate 32 false)
 
 -- the strongest pin that the level sees among a slot's holdings
 unfoldable pub strongest_in : List Holding → ℕ → Pin
