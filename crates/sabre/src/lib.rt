@@ -94,7 +94,7 @@ fn refuse(answer: &mut [u64; 4], refusal: Refusal) -> u32
 }
 
 // Whether an area is sound, or was in the last 32-bit layout: its bytes are exactly those of the state that it names, its version is known, and that
-// state is sound.
+// state is sound. By value: a call that has lent its state copies it once more to hand it on.
 fn is_area_sound(area: &[u8], exact: bool, s: State) -> bool
     requires { 65536 ≤ length area.now }
     ensures { result ≡ exact && known (version_in area.now) s.clock s.rows && sound s }
