@@ -64,8 +64,8 @@
  * a call runs on the machine is no part of an answer, and may depend on the whole
  * state.
  *
- * The stack. A tick needs up to 376 KiB of the caller's stack, any other call up to
- * 334 KiB. Nothing is allocated elsewhere, and no call recurses.
+ * The stack. A tick needs up to 270 KiB of the caller's stack, any other call up to
+ * 227 KiB. Nothing is allocated elsewhere, and no call recurses.
  * `host stack` measures it (host/README.md) and fails at 512 KiB.
  */
 #ifndef SABRE_H
