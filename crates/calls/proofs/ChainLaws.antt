@@ -1,14 +1,17 @@
--- What chains of iterators have: the best value of the elements of a list that pass, with their places, is that of the one that a search finds; a count over a range.
+-- What chains of iterators and arrays made by calls have: the best value of the elements of a list that pass, with their places, is that of the one that a search finds; a count over a range; an element.
 use mathlib.Core.Path.{◌≡◌, refl, ◌∙◌, ap}
 use mathlib.Core.Bool.{Bool, true, false, cond}
 use mathlib.Core.List.{List, [], ◌∷◌, ◌++◌, map, append-nil}
-use Prim.Native.Nat.{ℕ, zero, suc, ◌+◌, ◌≤◌}
+use Prim.Native.Nat.{ℕ, zero, suc, ◌+◌, ◌<◌, ◌≤◌}
 use native.Mathlib.Omega.{arith}
 use lib.ListN.{length, get_or, take}
 use lib.Seq.{take-suc, length-take-le}
 use Rattle.std.specs.Prelude.{Option, Some, None, filter, count_by}
 use Rattle.std.specs.List.{enumerate_from, range_with_len, reduce}
 use native.Mathlib.Numerals.{add-one}
+use denote.Param.Members.{Mut}
+use Rattle.std.specs.Fn.{Called}
+use Rattle.std.specs.Array.{IsFromFnResultFrom}
 use Rattle.std.proofs.lemmas.List.{map-append, map-id}
 use Rattle.std.proofs.lemmas.List.FromFn.{sum_by-map-range_with_len_more}
 use Rattle.std.proofs.lemmas.List.Sums.{fold-append}
@@ -16,6 +19,7 @@ use Rattle.std.proofs.lemmas.List.Elements.{filter-append}
 use Rattle.seq.specs.Below.{count_below, pick_below, considered, at_found}
 use Rattle.seq.specs.declared.Found.{Found}
 use Rattle.seq.specs.declared.Found.TheVariants.{At, Nowhere}
+use Rattle.choice.proofs.SummaryLaws.{made_from}
 
 -- one element more at the end
 placed_more : {A : Type 0} (k : ℕ) (xs : List A) (x : A) → enumerate_from k (xs ++ (x ∷ [])) ≡ enumerate_from k xs ++ ((k + length xs, x) ∷ [])
@@ -70,3 +74,8 @@ count_range p (suc n) =
     let k = sum_by-map-range_with_len_more (λ m. cond (p m) 1 0) (λ m. m) 0 n n e in
     let a : count_by p (range_with_len 0 (n + 1)) ≡ count_by p (range_with_len 0 n) + cond (p n) 1 0 = rw (map-id (range_with_len 0 (n + 1)), map-id (range_with_len 0 n)) at k in
     rw (add-one n) at (a ∙ ap (λ (m : ℕ). m + cond (p n) 1 0) (count_range p n))
+
+-- what an array made by calls has at a place, where each call answers a value of the place
+pub made_at : {F B : Type 0} {g : Mut F (ℕ × Unit {0}) B} (f : F) (ys : List B) (value : ℕ → B) → ((i : ℕ) (y : B) (q : F) → Called g f (i, tt) y q → (q ≡ f) × (y ≡ value i))
+    → (n i k : ℕ) (d : B) → IsFromFnResultFrom g f ys i n → i ≤ k → k < i + n → get_or ys k d ≡ value k
+made_at f ys value call n i k d m h l = made_from f value call ys d i n k f refl m h l

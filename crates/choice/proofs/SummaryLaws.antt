@@ -44,18 +44,18 @@ rank_at_lem rows places ranks row e h = ap (λ (l : List Rank). get_or l row no_
 
 -- an array made by calls that change nothing
 module _ {F A : Type 0} {g : Mut F (ℕ × Unit {0}) A} (f : F) (v : ℕ → A) (call : (i : ℕ) (y : A) (q : F) → Called g f (i, tt) y q → (q ≡ f) × (y ≡ v i)) where
-  made_from : (ys : List A) (d : A) (i n k : ℕ) (q : F) → q ≡ f → IsFromFnResultFrom g q ys i n → i ≤ k → k < i + n → k < length ys → get_or ys k d ≡ v k
-  made_from ys d i zero k q e m h l b = absurd (omega arith)
-  made_from ys d i (suc n) k q e (t, y, at, c, rest) h l b =
+  pub made_from : (ys : List A) (d : A) (i n k : ℕ) (q : F) → q ≡ f → IsFromFnResultFrom g q ys i n → i ≤ k → k < i + n → get_or ys k d ≡ v k
+  made_from ys d i zero k q e m h l = absurd (omega arith)
+  made_from ys d i (suc n) k q e (t, y, at, c, rest) h l =
       let z = call i y t (subst (λ (p : F). Called g p (i, tt) y t) e c) in
       elim (ℕ_discrete k i) [
         | yes w ↦ rw w (at.1 d ∙ z.1)
-        | no w ↦ made_from ys d (i + 1) n k t z.0 rest (omega arith) (omega arith) b
+        | no w ↦ made_from ys d (i + 1) n k t z.0 rest (omega arith) (omega arith)
       ]
 
   pub made_each : (n : ℕ) (d : A) (ys : List A) → IsFromFnResult g f ys n → ys ≡ each (λ k _. v k) (replicate n d)
   made_each n d ys m = ext_get_or d ys (each (λ k _. v k) (replicate n d)) (m.long ∙ sym (each_length (λ k _. v k) (replicate n d) ∙ length-replicate n d))
-      (λ k b. let h : k < n = omega (arith, m.long) in made_from ys d 0 n k f refl m.each (omega arith) (omega arith) b ∙ sym (build_at v n d k d h))
+      (λ k b. let h : k < n = omega (arith, m.long) in made_from ys d 0 n k f refl m.each (omega arith) (omega arith) ∙ sym (build_at v n d k d h))
 
 -- a part of a list, as `&l[a..a + n]` has it
 module _ {A : Type 0} (l : List A) (a n : ℕ) where
